@@ -1,6 +1,6 @@
 -- What a call takes, by what the calls that it is made of took.
 use Rattle.std.proofs.Common.{◌≡◌, ◌∙◌, ◌<◌, ◌≤◌, ◌⊎◌, inl, inr, sym, ap, subst, refl, ℕ, Bool, nat_eq, List, [], ◌∷◌, ◌++◌, length, take, drop, length-take, arith}
-use Rattle.std.specs.Prelude.{Option, Some, None, Result, Ok, Err, IsErrAnd, IfOk, IfSome}
+use Rattle.std.specs.Prelude.{Option, Some, None, Result, Ok, Err, IsErrAnd, IfOk, IfErr, IfSome}
 use Rattle.std.specs.Result.{result_ok}
 use Rattle.std.proofs.lemmas.Bool.{cases_lt}
 use Rattle.std.proofs.lemmas.List.{take-append-drop}
@@ -10,7 +10,7 @@ use Rattle.per_core.specs.Basic.{bit}
 use Rattle.per_core.specs.Spellings.{Settings, Spelling, Field}
 use Rattle.per_core.specs.Took.{Took}
 use Rattle.per_core.proofs.Took.{took_bit}
-use Rattle.per_read.specs.Items.{HasCount, TookItems, TakesItems}
+use Rattle.per_read.specs.Items.{TookItems, TakesItems}
 use Rattle.per_read.specs.Kinds.{IsShort, IsTested, NoneIn}
 use Rattle.per_read.specs.State.{State, settings_of}
 use Rattle.per_read.specs.Takes.{Reason, Takes}
@@ -39,6 +39,11 @@ module _ {T X : Type 0} {why : Reason} {form : Settings → X → Spelling} {of 
         → ((k : DecodeErrorKind) → because (settings_of m) m.bits (NoneIn (last (settings_of m)) m.bits) k → why (settings_of x) x.bits (NoneIn (form (settings_of x)) x.bits) k)
         → Takes why form of x r y
     takes_last {r} a e f g = record { ok = IfOk-weaker r _ _ f a.ok; err = IfErr-weaker r _ _ g a.err; kept = a.kept ∙ e }
+
+-- what isn't answered, where no error is made
+pub if_none : {T E A : Type 0} (P : E → Type 0) (r : Result T E) {o : Option T} → o ≡ result_ok r → o ≡ None → IfErr r P → ((k : E) → P k → A) → A
+if_none P (Ok v) e n h f = absurd (let i : Some v ≡ None = sym e ∙ n in cc)
+if_none P (Err k) e n h f = f k h
 
 -- what is answered without an error
 pub if_some : {T E : Type 0} (P : T → Type 0) (r : Result T E) {o : Option T} → o ≡ result_ok r → IfOk r P → IfSome o P
@@ -110,8 +115,8 @@ ended {s} = go s
 pub begins : {b d : Bool} {s t : Bits} → Took (bit b) s t → b ≡ d → s ≡ d ∷ t
 begins {t = t} h e = h.joins ∙ ap (λ z. z ++ t) h.spelled ∙ ap (λ z. z ∷ t) e
 
--- items that were counted alone
-pub octets_counted : (C : Type 0) (holds : C → C → List ℕ → Type 0) (because why : Reason) (form : Settings → List ℕ → Spelling) (before after : C) (x y : State) (r : Option ℕ)
-    → IfSome r (λ n. TakesItems holds because form before x (Ok n) after y) → IfSome r (λ n. Takes why form HasCount x (Ok n) y)
-octets_counted C holds because why form before after x y None h = tt
-octets_counted C holds because why form before after x y (Some n) h = record { ok = record { octets = h.ok.codes; many = h.ok.count; held = h.ok.took }; err = tt; kept = h.kept }
+-- where something is answered, no reason is given
+pub some_for : {T X : Type 0} (because why : Reason) (form : Settings → X → Spelling) (of : (X → Type 0) → T → Type 0) (x y : State) (r : Option T)
+    → IfSome r (λ v. Takes because form of x (Ok v) y) → IfSome r (λ v. Takes why form of x (Ok v) y)
+some_for because why form of x y None h = tt
+some_for because why form of x y (Some v) h = record { ok = h.ok; err = tt; kept = h.kept }

@@ -15,6 +15,7 @@ pub mod Refusals
 pub mod Unbounded
 pub mod Marked
 pub mod SizeForms
+pub mod ShortOctets
 pub mod Miscounts
 pub mod Coded
 pub mod CharacterCodes

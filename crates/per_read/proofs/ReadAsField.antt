@@ -14,13 +14,13 @@ use Rattle.rasn_types.proofs.Octets.{length-pack, unpack-pack}
 use Rattle.rasn_types.proofs.Packing.{number-zeros}
 use Rattle.rasn_types.proofs.Reading.{number_of-append}
 use Rattle.rasn_constraints.specs.Bounds.{allows, any_size}
-use Rattle.per_core.specs.Basic.{LastCount, Octets, OneByOne}
+use Rattle.per_core.specs.Basic.{LastCount, Octets, OneByOne, octet}
 use Rattle.per_core.specs.Counts.{octet_items}
 use Rattle.per_core.specs.Spellings.{AnyPadding, Settings, Field, ZeroIf}
 use Rattle.per_core.specs.Took.{place, Took}
 use Rattle.per_core.specs.Writers.{pad}
-use Rattle.per_core.proofs.Took.{took_map, took_then}
-use Rattle.per_read.specs.FewOctets.{AreOctetsOf, TookFew, TakesFew}
+use Rattle.per_core.proofs.Took.{took_map, took_then, then_took}
+use Rattle.per_read.specs.FewOctets.{AreOctetsOf, AtOnce, TookFew, TakesFew}
 use Rattle.per_read.specs.Kinds.{NoneIn, Refused}
 use Rattle.per_read.specs.Lengths.{LengthOf, count_of}
 use Rattle.per_read.specs.State.{State, settings_of}
@@ -28,7 +28,7 @@ use Rattle.per_read.specs.declared.error.DecodeErrorKind.{DecodeErrorKind}
 use Rattle.per_read.specs.declared.few_octets.FewOctets.{FewOctets}
 use Rattle.per_read.specs.declared.lengths.Length.{Length}
 use Rattle.per_read.specs.declared.lengths.Length.TheVariants.{Last}
-use Rattle.per_read.proofs.OneByOne.{octets_one_by_one, took_within}
+use Rattle.per_read.proofs.OneByOne.{items_wide, octets_one_by_one, took_within}
 use Rattle.per_read.proofs.Parts.{items_begin, last_part, no_items_length, no_items_short}
 
 -- ---- what is read
@@ -143,6 +143,37 @@ at_once {a} w c n {s} {t} f is few joins wide unpadded e some i =
     number_is = sym (i ∙ ap₂ (λ (x y : ℕ). x / 2 ^ y) moved (let b : 64 - 8 * c ≡ 16 + (48 - 8 * c) = omega arith in b) ∙ sym (shr-shr (behind * 2 ^ 16) 16 (48 - 8 * c))
         ∙ ap (λ (x : ℕ). x / 2 ^ (48 - 8 * c)) back
         ∙ shr_high (number_of octets) (48 - 8 * c) (number_of rest) (subst (λ (k : ℕ). number_of rest < 2 ^ k) rest_wide (number_below rest)))
+
+-- octets that stand there so
+module _ {a : Settings} {os : List ℕ} {s t : Bits} (b : Took (AtOnce a os) s t) where
+  once_parts : (m : Bits) × Took (Field 8 (length os)) s m × Took (OneByOne octet os) m t
+  once_parts = then_took (record { front = b.front; joins = b.joins; spelled = b.spelled.spelled })
+
+  pub once_wide : 8 + 8 * length os ≤ length s
+  once_wide = let q = once_parts in omega (arith, items_wide 8 os q.2, q.1.spelled.wide, ap length q.1.joins, length-append q.1.front q.0)
+
+  -- their count is the first octet
+  pub once_counted : number_of (padded s) / 2 ^ 48 ≡ length os
+  once_counted = omega (arith, is, subst (λ (k : ℕ). number_of rest < 2 ^ k) rest_wide (number_below rest))
+    where
+      m : Bits
+      m = once_parts.0
+
+      c : Took (Field 8 (length os)) s m
+      c = once_parts.1
+
+      rest : Bits
+      rest = take 48 (m ++ replicate 56 false)
+
+      rest_wide : length rest ≡ 48
+      rest_wide = length-take 48 (m ++ replicate 56 false) ∙ omega (arith, length-append m (replicate 56 false), length-replicate 56 false)
+
+      joined : padded s ≡ c.front ++ rest
+      joined = ap₂ (λ (k : ℕ) z. take k z) (let l : 56 ≡ length c.front + 48 = omega (arith, c.spelled.wide) in l) (ap (λ z. z ++ replicate 56 false) c.joins ∙ append_assoc c.front m (replicate 56 false))
+          ∙ take-append-add c.front (m ++ replicate 56 false) 48
+
+      is : number_of (padded s) ≡ length os * 2 ^ 48 + number_of rest
+      is = ap number_of joined ∙ number_of-append c.front rest ∙ ap₂ (λ (x y : ℕ). x * 2 ^ y + number_of rest) c.spelled.means rest_wide
 
 module _ (a : Settings) (s : Bits) where
   -- nothing is there where there is no length, or where its octets end early

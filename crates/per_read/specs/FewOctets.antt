@@ -2,9 +2,10 @@
 use Rattle.std.specs.Prelude.{◌≡◌, ◌<◌, ◌≤◌, ℕ, List, length, Option, Some, None, Result, IfOk, IfErr}
 use Rattle.rasn_types.specs.Bits.{Bits}
 use Rattle.rasn_types.specs.Octets.{unsigned}
-use Rattle.per_core.specs.Basic.{Octets}
-use Rattle.per_core.specs.Spellings.{Settings}
+use Rattle.per_core.specs.Basic.{Octets, OneByOne, octet}
+use Rattle.per_core.specs.Spellings.{Settings, Field, Then}
 use Rattle.per_core.specs.Took.{Took}
+use Rattle.per_core.specs.Writers.{pad}
 use Rattle.per_read.specs.Kinds.{NoneIn, Refused}
 use Rattle.per_read.specs.State.{State, settings_of}
 use Rattle.per_read.specs.declared.error.DecodeErrorKind.{DecodeErrorKind}
@@ -27,6 +28,13 @@ pub record TookFew (a : Settings) (f : FewOctets) (s t : Bits) : Type 0 where
 abbrev pub OfFew : Settings → Bits → Bits → Option FewOctets → Type 0
 OfFew a s t None = t ≡ s
 OfFew a s t (Some f) = TookFew a f s t
+
+-- X.691 11.9.3.6: from 1 to 6 octets behind their count in one octet, which no padding precedes
+pub record AtOnce (a : Settings) (octets : List ℕ) (p : ℕ) (bits : Bits) : Type 0 where
+  pub unpadded : pad a.variant p ≡ 0
+  pub some : 0 < length octets
+  pub few : length octets ≤ 6
+  pub spelled : Then (Field 8 (length octets)) (OneByOne octet octets) p bits
 
 -- A call that takes few octets behind an unconstrained length.
 pub record TakesFew (x : State) (result : Result (Option FewOctets) DecodeErrorKind) (y : State) : Type 0 where

@@ -5,7 +5,7 @@ use Rattle.std.specs.Prelude.{IfErr}
 use Rattle.rasn_types.specs.Bits.{Bits}
 use Rattle.rasn_constraints.specs.Bounds.{Size, any_size}
 use Rattle.per_core.specs.Basic.{OneByOne, Sized, Counted}
-use Rattle.per_core.specs.Spellings.{Settings, Spelling, Field}
+use Rattle.per_core.specs.Spellings.{Settings, Spelling, Field, When}
 use Rattle.per_core.specs.Took.{Took}
 use Rattle.per_read.specs.Kinds.{NoneIn, Stopped}
 use Rattle.per_read.specs.State.{State, settings_of}
@@ -25,6 +25,10 @@ unconstrained_items a i = Sized a any_size (counted_of i) (coded i)
 -- items whose count the size allows
 abbrev pub sized_items : Settings → Size → Item → List ℕ → Spelling
 sized_items a size i = Sized a size (counted_of i) (coded i)
+
+-- fewer than n items
+abbrev pub items_below : {X : Type 0} → ℕ → (List X → Spelling) → List X → Spelling
+items_below n form xs = When (length xs < n) (form xs)
 
 -- X.691 16, 17, 30.5: items under a size constraint
 abbrev pub counted_items : Settings → Size → Bool → Item → List ℕ → Spelling

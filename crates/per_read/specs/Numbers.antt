@@ -3,6 +3,7 @@ use lib.Signed.{le_z}
 use Rattle.std.specs.Prelude.{◌≡◌, ℕ, ◌+◌, ◌/◌, ◌^◌, ◌≤◌, Bool, true, false, if◌then◌else◌, [], Option, Some, None, ℤ}
 use Rattle.std.specs.Prelude.{pos, negsuc}
 use Rattle.rasn_types.specs.Bits.{Bits, width}
+use Rattle.rasn_types.specs.Variants.{aligned}
 use Rattle.rasn_constraints.specs.Bounds.{above, holds, fits_i128, Bounds, unbounded}
 use Rattle.per_core.specs.Spellings.{Settings, Spelling, Then, When, never, AnyPadding, Field}
 use Rattle.per_core.specs.Basic.{IsSemiConstrainedWhole, IsUnconstrainedWhole, Octets, Marked, constrained_form}
@@ -43,6 +44,15 @@ abbrev pub under_bounds : Settings → Option ℤ → Option ℤ → ℤ → Spe
 under_bounds a None high z = IsUnconstrainedWhole a z
 under_bounds a (Some l) None z = When (le_z l z ≡ true) (IsSemiConstrainedWhole a (above l z))
 under_bounds a (Some l) (Some u) z = When (le_z l z ≡ true) (constrained_form a (above l u + 1) (above l z))
+
+-- X.691 11.5.6, 11.5.7.1 to 11.5.7.3: the o-th of n numbers, where one field has it: in the aligned variant of 65536
+-- numbers or fewer
+abbrev pub in_one_field : Settings → ℕ → ℕ → Spelling
+in_one_field a n o = When (a.variant ≡ aligned → n ≤ 65536) (constrained_form a n o)
+
+-- X.691 11.5: a number of two bounds, where one field has it
+abbrev pub between_in_field : Settings → ℤ → ℤ → ℤ → Spelling
+between_in_field a l u z = When (le_z l z ≡ true) (in_one_field a (above l u + 1) (above l z))
 
 -- a number, where an i128 holds it
 abbrev pub in_i128 : ℤ → Option ℤ

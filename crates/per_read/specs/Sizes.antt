@@ -2,12 +2,12 @@
 use Rattle.std.specs.Prelude.{◌≡◌, ◌≤◌, ℕ, ◌+◌, ◌-◌, ◌&&◌, nat_lt, Bool, false, cond, List, length, Option, Some, None}
 use Rattle.rasn_types.specs.Bits.{Bits}
 use Rattle.rasn_constraints.specs.Bounds.{allows, any_size, Size}
-use Rattle.per_core.specs.Basic.{OneByOne, Sized, PaddingIf, Marked, constrained_form}
-use Rattle.per_core.specs.Counts.{ItemKind, is_aligned}
+use Rattle.per_core.specs.Basic.{Counted, OneByOne, Sized, PaddingIf, Marked, constrained_form, octet}
+use Rattle.per_core.specs.Counts.{ItemKind, is_aligned, octet_items}
 use Rattle.per_core.specs.Spellings.{Settings, Spelling, Then, When, never}
 use Rattle.per_core.specs.Took.{Took}
 use Rattle.per_core.specs.Items.{counted_of}
-use Rattle.per_read.specs.Items.{coded}
+use Rattle.per_read.specs.Items.{coded, items_below}
 use Rattle.per_read.specs.Kinds.{IsTested}
 use Rattle.per_read.specs.declared.error.DecodeErrorKind.{DecodeErrorKind}
 use Rattle.per_core.specs.declared.items.Item.{Item}
@@ -57,3 +57,7 @@ IsOfSize a size mark kind item s k = IsTested k
 -- what a kind says of items of as many bits each, under a size
 abbrev pub IsOfItems : Settings → Size → Bool → Item → Bits → DecodeErrorKind → Type 0
 IsOfItems a size mark i = IsOfSize a size mark (counted_of i) (coded i)
+
+-- X.691 17: octets under a size without an extension bit, fewer than a fragment has
+abbrev pub unfragmented : Settings → Size → List ℕ → Spelling
+unfragmented a size = items_below 16384 (Counted a size false octet_items octet)

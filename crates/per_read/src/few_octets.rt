@@ -1,11 +1,12 @@
 //! Numbers in few octets, which are read as one field and take no memory (X.691 11.3, 11.4).
 
-ghost use Rattle.std.specs.Prelude.{◌≡◌, ◌↔◌, ◌++◌, ℕ, List, IsTrue, take, replicate, false};
+ghost use Rattle.std.specs.Prelude.{◌≡◌, ◌↔◌, ◌++◌, ℕ, List, None, IsTrue, take, replicate, false};
 ghost use Rattle.rasn_types.specs.Bits.{number_of};
 ghost use Rattle.rasn_types.specs.Octets.{signed};
 ghost use Rattle.per_core.specs.Took.{place};
 ghost use Rattle.per_core.specs.Writers.{pad};
-ghost use Rattle.per_read.specs.FewOctets.{AreOctetsOf, OfFew, TakesFew};
+ghost use Rattle.per_read.specs.FewOctets.{AreOctetsOf, AtOnce, OfFew, TakesFew};
+ghost use Rattle.per_read.specs.Kinds.{NoneIn};
 ghost use Rattle.per_read.specs.State.{settings_of};
 
 use crate::Reader;
@@ -51,11 +52,12 @@ impl Reader<'_> {
         self.take_octets_behind_length()
     }
 
-    /// Takes octets and their length as one field, where no padding precedes them and there are from 1 to 6. Else
-    /// `None`, and nothing is taken.
+    /// Takes octets and their length as one field, where no padding precedes them, there are from 1 to 6, and their
+    /// length has one octet (X.691 11.9.3.6). Else `None`, and nothing is taken.
     #[inline(always)]
     pub fn take_octets_at_once(&mut self) -> Option<FewOctets>
         ensures took { OfFew (settings_of self.old) self.old.bits self.new.bits result }
+        ensures none { result ≡ None → NoneIn (AtOnce (settings_of self.old)) self.old.bits }
         ensures kept { self.new.options ≡ self.old.options }
     {
         if !self.is_unpadded() {

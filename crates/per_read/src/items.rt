@@ -127,7 +127,7 @@ pub(crate) trait Collector {
 const WORD_BITS: u32 = 56;
 
 /// The most items that are read before it is asked what they are.
-const BLOCK: usize = 64;
+const BLOCK: usize = 248;
 
 /// How many items of so many bits one word has at most; at least one.
 fn items_in_word(width: u32) -> usize
@@ -139,55 +139,17 @@ fn items_in_word(width: u32) -> usize
     (WORD_BITS / width.max(1)) as usize
 }
 
-/// Octets of which the low `width` bits of each of the first `many` are those of a word, at least one. They are named
-/// one by one, since of a loop over so few the compiler makes longer code.
-fn octets_in_word(word: u64, width: u32, many: usize) -> [u8; 8]
-    requires width { width ≤ 8 }
-    requires some { 0 < many }
-    requires many { many ≤ 8 }
-    ensures { low_bits_of width (take many result) ≡ to_bits (width * many) word }
-{
-    let high = word << (width * (8 - many as u32));
-    [
-        octet_between(high, 7 * width, width),
-        octet_between(high, 6 * width, width),
-        octet_between(high, 5 * width, width),
-        octet_between(high, 4 * width, width),
-        octet_between(high, 3 * width, width),
-        octet_between(high, 2 * width, width),
-        octet_between(high, width, width),
-        octet_between(high, 0, width),
-    ]
-}
-
 /// Octets of which the low `width` bits of each of the first `many` are those that a reader has left, no more of them
-/// than a block has. Eight octets are written for each word, of which those past its own are written again.
-fn octets_of(bits: BitReader<'_>, width: u32, many: usize) -> [u8; 72]
+/// than a block has.
+fn octets_of(bits: BitReader<'_>, width: u32, many: usize) -> [u8; 256]
     requires width { width ≤ 8 }
     requires many { many ≤ BLOCK }
     requires bits { length bits.bits ≡ width * many }
     ensures { low_bits_of width (take many result) ≡ bits.entry.bits }
 {
-    let most = items_in_word(width).min(8);
-    let mut octets = [0; 72];
-    let mut left = bits;
-    let mut at = 0;
-    while at < many {
-        let count = most.min(many - at);
-        let word = left.take_field(width * count as u32);
-        octets[at..at + 8].copy_from_slice(&octets_in_word(word, width, count));
-        at += count;
-    }
+    let mut octets = [0; 256];
+    bits.spread_bits(&mut octets, many, width);
     octets
-}
-
-/// The number that `width` bits of a word mean, with `behind` others behind them, as an octet.
-fn octet_between(word: u64, behind: u32, width: u32) -> u8
-    requires behind { behind < 64 }
-    requires width { width ≤ 8 }
-    ensures { result ≡ word / 2 ^ behind % 2 ^ width }
-{
-    number_between(word, behind, width) as u8
 }
 
 /// The number that `width` bits of a word mean, with `behind` others behind them.

@@ -20,6 +20,7 @@ pub mod lengths;
 pub mod lists;
 pub mod numbers;
 pub mod open_types;
+mod short_octets;
 mod sizes;
 pub mod small_numbers;
 mod strings;

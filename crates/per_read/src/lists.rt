@@ -1,6 +1,6 @@
 //! SEQUENCE OF, whose elements are read one after another from outside (X.691 20).
 
-ghost use Rattle.std.specs.Prelude.{◌≡◌, true, false, Ok, OnOk, IsTrue};
+ghost use Rattle.std.specs.Prelude.{◌≡◌, ◌⊎◌, true, false, Ok, OnOk, IsTrue};
 ghost use Rattle.rasn_constraints.specs.Constraints.{size_between};
 ghost use Rattle.rasn_schema.specs.Forms.{is_size_marked, size_of};
 ghost use Rattle.per_read.specs.Lists.{BeginsFragment, OpensList, ReadsNext};
@@ -26,11 +26,12 @@ pub struct UnreadElements {
 
 impl UnreadElements {
     /// Goes on to the next element where it stands behind a length that was read, as `Reader::next_element` does, which
-    /// then takes no bits. Else nothing changes.
+    /// then takes no bits. Else nothing changes: no more stand behind such a length, or more than can be counted.
     #[inline(always)]
     pub fn go_on(&mut self) -> bool
         ensures goes { IsTrue result → (reader : State) → ReadsNext self.old reader (Ok true) self.new reader }
         ensures stays { result ≡ false → self.new ≡ self.old }
+        ensures none { result ≡ false → (self.old.left ≡ 0) ⊎ (self.old.count ≡ usize.MAX) }
     {
         let (Some(left), Some(count)) = (self.left.checked_sub(1), self.count.checked_add(1)) else {
             return false;

@@ -8,7 +8,9 @@ ghost use Rattle.per_core.specs.Basic.{InOctets, IsSemiConstrainedWhole, IsUncon
 ghost use Rattle.per_core.specs.Basic.{constrained_form};
 ghost use Rattle.per_core.specs.Spellings.{Settings, Field};
 ghost use Rattle.per_read.specs.Numbers.{OfNatural, OfRead, IsAbove, IsOfOctets, IsOfForm, padded_field, count_width};
-ghost use Rattle.per_read.specs.Numbers.{under_bounds};
+ghost use Rattle.per_read.specs.Numbers.{between_in_field, in_one_field, under_bounds};
+ghost use Rattle.per_read.specs.Kinds.{NoneIn};
+ghost use Rattle.per_read.specs.State.{settings_of};
 ghost use Rattle.per_read.specs.Takes.{Takes, short, tested, memory_or, itself};
 
 use crate::Reader;
@@ -55,12 +57,13 @@ impl Reader<'_> {
         Ok(number_above(lower, offset))
     }
 
-    /// Takes a number with both bounds, as `take_number` does, where it is written in one field. `None` says nothing of
-    /// the number, and leaves the reader of no further use. No error is made, and so none needs room.
+    /// Takes a number with both bounds, as `take_number` does, where it is written in one field. After `None`, which
+    /// says that none stands there so, the reader is of no further use. No error is made, and so none needs room.
     #[inline(always)]
     pub fn take_short_between(&mut self, lower: i128, upper: i128) -> Option<ReadNumber>
-        ensures { let form = λ (a : Settings). under_bounds a (Some lower) (Some upper) in
+        ensures took { let form = λ (a : Settings). under_bounds a (Some lower) (Some upper) in
             IfSome result (λ number. Takes tested form OfRead self.old (Ok number) self.new) }
+        ensures none { result ≡ None → NoneIn (between_in_field (settings_of self.old) lower upper) self.old.bits }
     {
         let offset = self.take_short_whole(distance_above(lower, upper))?;
         Some(number_above(lower, offset))
@@ -135,11 +138,12 @@ impl Reader<'_> {
     }
 
     /// Takes one of the numbers from 0 to `greatest`, as `take_constrained_whole` does, where it is written in one
-    /// field.
+    /// field. After `None`, which says that none stands there in one field, the reader is of no further use.
     #[inline(always)]
     pub fn take_short_whole(&mut self, greatest: u128) -> Option<u128>
-        ensures { let form = λ (a : Settings). constrained_form a (greatest + 1) in
+        ensures took { let form = λ (a : Settings). constrained_form a (greatest + 1) in
             IfSome result (λ number. Takes tested form itself self.old (Ok number) self.new) }
+        ensures none { result ≡ None → NoneIn (in_one_field (settings_of self.old) (greatest + 1)) self.old.bits }
     {
         match (self.options.codec, greatest) {
             (Codec::Uper, _) => self.take_bits(width_to(greatest)).ok(),

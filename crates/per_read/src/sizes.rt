@@ -1,6 +1,6 @@
 //! Items under a size constraint (X.691 11.9.3.3, 11.9.4, 16, 17 and 30.5).
 
-ghost use Rattle.std.specs.Prelude.{◌≡◌, ◌<◌, ◌&&◌, nat_lt, true, false, Ok, OnOk, OnErr, IfErr, IfSome};
+ghost use Rattle.std.specs.Prelude.{◌≡◌, ◌<◌, ◌&&◌, nat_lt, true, false, None, Ok, OnOk, OnErr, IfErr, IfSome};
 ghost use Rattle.rasn_constraints.specs.Bounds.{allows};
 ghost use Rattle.rasn_constraints.specs.Constraints.{start_of, end_of, size_between, size_in, is_marked};
 ghost use Rattle.per_core.specs.Basic.{PaddingIf};
@@ -8,7 +8,9 @@ ghost use Rattle.per_core.specs.Counts.{constrained_between, is_aligned};
 ghost use Rattle.per_core.specs.Items.{counted_of};
 ghost use Rattle.per_core.specs.Spellings.{Settings};
 ghost use Rattle.per_read.specs.Items.{unconstrained_items, sized_items, counted_items, TakesItems};
+ghost use Rattle.per_read.specs.Kinds.{NoneIn};
 ghost use Rattle.per_read.specs.Sizes.{CountFrom, items_between, items_under, IsOfItems};
+ghost use Rattle.per_read.specs.State.{settings_of};
 ghost use Rattle.per_read.specs.Takes.{Takes, alone, itself, memory_or, stopped, tested};
 ghost use Rattle.per_read.specs.declared.error.DecodeErrorKind.TheVariants.{SizeConstraintNotSatisfied};
 
@@ -137,68 +139,23 @@ impl Reader<'_> {
         Ok(lower + code as usize)
     }
 
-    /// Takes a count from `lower` on as `take_constrained_count` does, where it is written in one field. `None` says
-    /// nothing of the count, and leaves the reader of no further use.
+    /// Takes a count from `lower` on as `take_constrained_count` does: it is written in one field. After `None`, which
+    /// says that none stands there, the reader is of no further use. No error is made, and so none needs room.
     #[inline(always)]
-    fn take_short_count(&mut self, lower: usize, upper: usize) -> Option<usize>
+    pub(crate) fn take_short_count(&mut self, lower: usize, upper: usize) -> Option<usize>
         requires { upper < 65536 }
-        ensures { let form = λ (a : Settings). CountFrom a lower upper in
+        ensures took { let form = λ (a : Settings). CountFrom a lower upper in
             IfSome result (λ count. Takes tested form itself self.old (Ok count) self.new) }
+        ensures none { result ≡ None → NoneIn (CountFrom (settings_of self.old) lower upper) self.old.bits }
     {
         let code = self.take_short_whole(upper.saturating_sub(lower) as u128)?;
         Some(lower + code as usize)
     }
 
-    /// Takes items under a size as `take_items` does, where their count is written in one field. `None` says nothing of
-    /// them, and leaves the reader of no further use. No error is made, and so none needs room.
-    #[inline(always)]
-    pub(crate) fn take_short_items<C: Collector>(
-        &mut self,
-        size: &Bounded<usize>,
-        items: &mut C,
-    ) -> Option<usize>
-        requires { C.count items.old ≡ 0 }
-        ensures { let form = λ (a : Settings). sized_items a (size_between size.now) (C.item items.old) in
-            IfSome result (λ n. TakesItems C.holds stopped form items.old self.old (Ok n) items.new self.new) }
-    {
-        let Some((lower, upper)) = constrained_size(size) else {
-            return None;
-        };
-        let count = self.take_short_count(lower, upper)?;
-        let Ok(()) = self.take_padding_between(count, items.item(), lower, upper) else {
-            return None;
-        };
-        let Ok(()) = self.take_bare_items(count, items) else {
-            return None;
-        };
-        let Ok(()) = check_size(size, count) else {
-            return None;
-        };
-        Some(count)
-    }
-
-    /// Takes items behind an unconstrained length as `take_items` does, where there are fewer than 16384. `None` says
-    /// nothing of them, and leaves the reader of no further use.
-    #[inline(always)]
-    pub(crate) fn take_short_part<C: Collector>(&mut self, items: &mut C) -> Option<usize>
-        requires { C.count items.old ≡ 0 }
-        ensures { let form = λ (a : Settings). unconstrained_items a (C.item items.old) in
-            IfSome result (λ n. TakesItems C.holds stopped form items.old self.old (Ok n) items.new self.new) }
-    {
-        let Ok(Length::Last(length)) = self.take_unconstrained_length() else {
-            return None;
-        };
-        let count = length as usize;
-        let Ok(()) = self.take_bare_items(count, items) else {
-            return None;
-        };
-        Some(count)
-    }
-
     /// Takes the padding between a constrained count and its items, where there is some (X.691 16.9 to 16.11, 17.6 to
     /// 17.8, 30.5.6, 30.5.7).
     #[inline(always)]
-    fn take_padding_between(
+    pub(crate) fn take_padding_between(
         &mut self,
         count: usize,
         item: Item,

@@ -1,6 +1,6 @@
 //! OCTET STRING, BIT STRING and the character strings (X.691 16, 17 and 30).
 
-ghost use Rattle.std.specs.Prelude.{◌≡◌, Ok, IfSome};
+ghost use Rattle.std.specs.Prelude.{◌≡◌};
 ghost use Rattle.std.specs.String.{string_bytes};
 ghost use Rattle.rasn_types.specs.Contents.{utf8, is_text};
 ghost use Rattle.rasn_schema.specs.Forms.{size_of, is_size_marked, alphabet_of};
@@ -51,25 +51,6 @@ impl Reader<'_> {
             Takes (memory_or why) form HasCount self.old result self.new }
     {
         self.take_items(constraints.size(), &mut Skipped)
-    }
-
-    /// Skips an OCTET STRING as `skip_octet_string` does, where it comes with one count alone or with none, without an
-    /// extension bit. `None` says nothing of it, and leaves the reader of no further use. No error is made, and so none
-    /// needs room.
-    #[inline(always)]
-    pub fn skip_short_octet_string(&mut self, constraints: &Constraints) -> Option<usize>
-        ensures { let size = size_of constraints.now in let mark = is_size_marked constraints.now in
-            let why = λ (a : Settings). IsOfItems a size mark Octet in
-            let form = λ (a : Settings). Counted a size mark octet_items octet in
-            IfSome result (λ count. Takes (memory_or why) form HasCount self.old (Ok count) self.new) }
-    {
-        let Some(size) = constraints.size() else {
-            return self.take_short_part(&mut Skipped);
-        };
-        if size.extensible {
-            return None;
-        }
-        self.take_short_items(&size.constraint, &mut Skipped)
     }
 
     /// Takes a BIT STRING under the first size constraint (X.691 16).

@@ -5,20 +5,21 @@ use Rattle.rasn_types.specs.Bits.{Bits, width, width_from}
 use Rattle.rasn_types.specs.Values.{Value, item, Side, root, added}
 use Rattle.rasn_types.specs.Variants.{Variant, aligned, unaligned}
 use Rattle.per_core.specs.Basic.{ExtensionBit, Item, IsSemiConstrainedWhole, Small, constrained_by, constrained_form}
-use Rattle.per_core.specs.Spellings.{Settings, Spelling, Field}
+use Rattle.per_core.specs.Spellings.{Settings, Spelling, When, Field}
 use Rattle.per_core.specs.Took.{Took}
 use Rattle.per_core.proofs.Agree.{Agree, field_agree}
 use Rattle.per_core.proofs.LengthForms.{bounded_form_agree}
 use Rattle.per_core.proofs.Took.{took_then, then_took, took_map, took_agree, nothing_took}
 use Rattle.per_core.proofs.Unique.{in_natural_agree, marked_agree}
-use Rattle.per_read_types.specs.Enumerations.{IsMissing, IsOfItem, IsOfPlace, IsPlace, IsThere, count_of, item_form, place_form, side_of}
+use Rattle.per_read_types.specs.Enumerations.{IsMissing, IsOfItem, IsOfPlace, IsPlace, IsThere, count_of, item_form, place_form, root_in_field, side_of}
 use Rattle.per_read.specs.Kinds.{IsTested, NoneIn}
+use Rattle.per_read.specs.Numbers.{in_one_field}
 use Rattle.per_read.specs.SmallNumbers.{OfIndex, small_form}
 use Rattle.per_read.specs.State.{State, settings_of}
 use Rattle.per_read.specs.Takes.{Takes, tested}
 use Rattle.per_read.specs.declared.error.DecodeErrorKind.{DecodeErrorKind}
 use Rattle.per_read.specs.declared.error.DecodeErrorKind.TheVariants.{EnumerationIndexNotFound, IntegerOverflow, UnexpectedEmptyInput}
-use Rattle.per_read.proofs.Fields.{exactly_took}
+use Rattle.per_read.proofs.Fields.{exactly_took, when_took}
 use Rattle.per_read.proofs.SmallForms.{small_took, took_small}
 
 -- a kind that tests show may come with an item
@@ -135,3 +136,47 @@ pub short_place : (form : Settings → ℕ → Spelling) (x y : State) (r : Opti
     → IfSome r (λ i. Takes tested form OfIndex x (Ok (Some i)) y)
 short_place form x y None e h = tt
 short_place form x y (Some i) e h = record { ok = h; err = tt; kept = e }
+
+-- a place in a list that one field has
+abbrev pub place_in_field : Settings → ℕ → ℕ → Spelling
+place_in_field a n i = When (i < n) (in_one_field a n i)
+
+pub no_short_place : (a : Settings) (n g : ℕ) {s : Bits} → g ≡ n - 1 → NoneIn (in_one_field a (g + 1)) s → NoneIn (place_in_field a n) s
+no_short_place a n g {s} e none i t b =
+    let l : i < n = b.spelled.0 in
+    none i t (subst (λ (k : ℕ). Took (in_one_field a k i) s t) (omega (arith, l, e)) (when_took b).1)
+
+-- where a place past the list is read, none stands
+pub no_place_past : (a : Settings) (n i : ℕ) {s t : Bits} → Took (constrained_form a n i) s t → n ≤ i → NoneIn (place_in_field a n) s
+no_place_past a n i b l j u c =
+    let same : j ≡ i = (took_agree (bounded_form_agree a n j i) (when_took (when_took c).1).1 b).0 in
+    let below : j < n = c.spelled.0 in
+    omega (arith, below, same, l)
+
+pub no_place_held : (a : Settings) (n : ℕ) (r : Option ℕ) {s : Bits} (t : Bits) → n < 2 ^ 64 → OfIndex (λ i. Took (constrained_form a n i) s t) r → r ≡ None → NoneIn (place_in_field a n) s
+no_place_held a n r {s} t few h e =
+    let k = subst (λ o. OfIndex (λ i. Took (constrained_form a n i) s t) o) e h in
+    no_place_past a n k.0 k.2 (omega (arith, few, k.1))
+
+-- no item or alternative of the root in one field
+module _ (a : Settings) (r e : ℕ) (ext : Bool) {s : Bits} where
+  -- without an extension bit, or behind a bit 1
+  pub no_root_bit : NoneIn (ExtensionBit ext) s → NoneIn (root_in_field a r e ext) s
+  no_root_bit none i t b = let q = then_took (when_took b).1 in none false q.0 q.1
+
+  pub no_root_added : {m : Bits} → Took (ExtensionBit ext true) s m → NoneIn (root_in_field a r e ext) s
+  no_root_added bit i t b = let q = then_took (when_took b).1 in let d = (same_extension ext false true q.1 bit).0 in cc
+
+  -- without a place
+  pub no_root_place : {m : Bits} → Took (ExtensionBit ext false) s m → NoneIn (place_in_field a r) m → NoneIn (root_in_field a r e ext) s
+  no_root_place bit none i t b =
+      let w = when_took b in
+      let q = then_took w.1 in
+      let p : Took (place_in_field a r i) q.0 t = took_map (λ c x y. (y.below, (w.0, y.spelled))) q.2 in
+      none i t (subst (λ z. Took (place_in_field a r i) z t) (same_extension ext false false q.1 bit).1 p)
+
+-- where no item is found at a place, it is past the list
+pub missing_past : (n i : ℕ) (k : DecodeErrorKind) → IsMissing n false (Some i) k → n ≤ i
+missing_past n i (EnumerationIndexNotFound j b) h = let same : Some i ≡ Some j = h.0 in let e : i ≡ j = cc in omega (arith, e, h.2)
+missing_past n i (IntegerOverflow w) h = absurd (let none : Some i ≡ None = h.0 in cc)
+missing_past n i _ h = absurd h

@@ -53,6 +53,19 @@ module _ (a : Settings) (bounds range : Bounds) (s t : Bits) {l u : Option ℤ} 
       go Below b m = one (negsuc b.0) b.2 (m b.0 b.1)
       go Above b m = one (pos b.0) b.2 (m b.0 b.1)
 
+  -- a number that is no value leaves none
+  pub misfit_none : AreSome bounds → (w : ℕ) (k : DecodeErrorKind) (r : ReadNumber) → OfRead (λ z. Took (under_bounds a l u z) s t) r → OfEach (Misfit bounds range w k) r
+      → NoneIn (IsNumberOf a bounds false range) s
+  misfit_none some w k r b m = go r b m
+    where
+      one : (z : ℤ) → Took (under_bounds a l u z) s t → Misfit bounds range w k z → NoneIn (IsNumberOf a bounds false range) s
+      one z b m = no_other a bounds range some z (constrained_whole z b) m.none
+
+      go : (r : ReadNumber) → OfRead (λ z. Took (under_bounds a l u z) s t) r → OfEach (Misfit bounds range w k) r → NoneIn (IsNumberOf a bounds false range) s
+      go (Held z) b m = one z b m
+      go Below b m = one (negsuc b.0) b.2 (m b.0 b.1)
+      go Above b m = one (pos b.0) b.2 (m b.0 b.1)
+
 pub no_number : (a : Settings) (bounds range : Bounds) (s : Bits) {l u : Option ℤ} → l ≡ bounds.low → u ≡ bounds.high → ((z : ℤ) (v : Bits) → Took (under_bounds a l u z) s v → ⊥)
     → (z : ℤ) (v : Bits) → Took (IsNumberOf a bounds false range z) s v → ⊥
 no_number a bounds range s {l} {u} el eu none z v b =

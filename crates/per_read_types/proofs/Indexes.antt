@@ -1,5 +1,5 @@
 -- The index of a CHOICE, seen from the bits that are left (X.691 23.5 to 23.8).
-use Rattle.std.proofs.Common.{◌≡◌, refl, sym, subst, ℕ, ◌^◌, ◌<◌, Bool, true, false, Option, arith}
+use Rattle.std.proofs.Common.{◌≡◌, refl, sym, subst, ℕ, ◌^◌, ◌<◌, ◌≤◌, Bool, true, false, Option, Some, None, arith}
 use Rattle.rasn_types.specs.Bits.{Bits}
 use Rattle.rasn_types.specs.Values.{Side, item}
 use Rattle.per_core.specs.Basic.{ExtensionBit, Item}
@@ -67,3 +67,9 @@ module _ (a : Settings) (r e : ℕ) (ext b : Bool) {s m : Bits} (bit : Took (Ext
       let k = subst (λ o. OfIndex (λ i. Took (place_form a (count_of r e b) b i) m t) o) h p in
       ((b, k.0, k.1, record { rest = t; took = took_then bit k.2 }), none_of a r e ext (no_item a r e ext b bit k.0 t k.2 (omega (arith, few, k.1))))
   index_missing place _ t few p h = absurd h
+
+-- where no alternative is found at a place, it is past the list
+pub unknown_past : (n i : ℕ) (k : DecodeErrorKind) → IsUnknown n (Some i) k → n ≤ i
+unknown_past n i (ChoiceIndexNotFound j) h = let same : Some i ≡ Some j = h.0 in let e : i ≡ j = cc in omega (arith, e, h.1)
+unknown_past n i ChoiceIndexExceedsPlatformWidth h = absurd (let none : Some i ≡ None = h in cc)
+unknown_past n i _ h = absurd h

@@ -5,3 +5,4 @@ pub mod Marks
 pub mod Moments
 pub mod Within
 pub mod DatesRead
+pub mod Short

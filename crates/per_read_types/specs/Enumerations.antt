@@ -2,8 +2,9 @@
 use Rattle.std.specs.Prelude.{◌≡◌, ◌<◌, ◌≤◌, ◌^◌, ℕ, Bool, true, false, Option, Some, None}
 use Rattle.rasn_types.specs.Bits.{Bits}
 use Rattle.rasn_types.specs.Values.{Value, item, Side, root, added}
+use Rattle.rasn_types.specs.Variants.{aligned}
 use Rattle.per_core.specs.Basic.{As, ExtensionBit, Item, constrained_form}
-use Rattle.per_core.specs.Spellings.{Settings, Spelling, Then}
+use Rattle.per_core.specs.Spellings.{Settings, Spelling, Then, When}
 use Rattle.per_core.specs.Took.{Took}
 use Rattle.per_read.specs.Kinds.{IsTested}
 use Rattle.per_read.specs.SmallNumbers.{IsOfSmall, empty_form, small_form}
@@ -63,3 +64,7 @@ abbrev pub IsMissing : (count : ℕ) → (extended : Bool) → Option ℕ → De
 IsMissing count extended place (EnumerationIndexNotFound i b) = (place ≡ Some i) × (b ≡ extended) × (count ≤ i)
 IsMissing count extended place (IntegerOverflow width) = (place ≡ None) × (width ≡ 64)
 IsMissing count extended place k = ⊥
+
+-- X.691 14.2, 23.6: an item or an alternative before the extension marker, where one field has its place
+abbrev pub root_in_field : Settings → (roots addeds : ℕ) → (extensible : Bool) → ℕ → Spelling
+root_in_field a r e ext i = When (a.variant ≡ aligned → r ≤ 65536) (Item a r e ext root i)

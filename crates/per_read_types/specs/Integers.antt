@@ -1,16 +1,19 @@
 -- Integers of a type, under its bounds, as they are read.
-use Rattle.std.specs.Prelude.{◌≡◌, ℕ, ◌^◌, ◌≤◌, Bool, true, false, None, Result, ℤ, pos, negsuc}
-use Rattle.rasn_types.specs.Bits.{width}
+use Rattle.std.specs.Prelude.{◌≡◌, ℕ, ◌^◌, ◌≤◌, Bool, true, false, List, Option, Some, None, Result, ℤ, pos, negsuc}
+use Rattle.rasn_types.specs.Bits.{Bits, width}
+use Rattle.rasn_types.specs.Octets.{signed}
 use Rattle.rasn_constraints.specs.Bounds.{holds, fits_i128, Bounds}
 use Rattle.per_core.specs.Basic.{IsNumberOf}
+use Rattle.per_core.specs.Spellings.{Settings, Spelling, never}
 use Rattle.per_errors.specs.Bounds.{lower_of, upper_of, value_of}
+use Rattle.per_read.specs.FewOctets.{AtOnce}
 use Rattle.per_read.specs.State.{State}
 use Rattle.per_read.specs.Takes.{Takes, memory_or}
 use Rattle.per_read.specs.declared.error.DecodeErrorKind.{DecodeErrorKind}
 use Rattle.per_read.specs.declared.error.DecodeErrorKind.TheVariants.{ValueConstraintNotSatisfied, IntegerOverflow}
 use Rattle.per_read.specs.declared.numbers.ReadNumber.{ReadNumber}
 use Rattle.per_read.specs.declared.numbers.ReadNumber.TheVariants.{Held, Below, Above}
-use Rattle.per_read.specs.Numbers.{IsOfNumber, in_i128}
+use Rattle.per_read.specs.Numbers.{IsOfNumber, between_in_field, in_i128}
 
 -- a fact about each number that it may be
 abbrev pub OfEach : (ℤ → Type 0) → ReadNumber → Type 0
@@ -48,3 +51,21 @@ abbrev pub TakesInteger : {I : Type 0} → Bounds → Bool → Bounds → (I →
     → Type 0
 TakesInteger bounds mark range number =
     Takes (memory_or (λ a. IsOfNumber a bounds mark)) (λ a. IsNumberOf a bounds mark range) (λ P i. P (number i))
+
+-- X.691 13.2.4: a number in few octets, which are read at once
+pub record InFewOctets (a : Settings) (z : ℤ) (p : ℕ) (bits : Bits) : Type 0 where
+  pub octets : List ℕ
+  pub means : signed octets ≡ z
+  pub spelled : AtOnce a octets p bits
+
+-- X.691 13.2: a number of two bounds, where one field has it, and one without bounds in few octets
+abbrev pub short_whole : Settings → Option ℤ → Option ℤ → ℤ → Spelling
+short_whole a (Some l) (Some u) = between_in_field a l u
+short_whole a None None = InFewOctets a
+short_whole a _ _ = λ z. never
+
+-- X.691 13: such a number of a type's range, within its bounds
+pub record IsShortNumber (a : Settings) (bounds range : Bounds) (z : ℤ) (p : ℕ) (bits : Bits) : Type 0 where
+  pub within : holds bounds z ≡ true
+  pub in_range : holds range z ≡ true
+  pub spelled : short_whole a bounds.low bounds.high z p bits

@@ -1,9 +1,11 @@
 //! The index of a CHOICE (X.691 23.5 to 23.8).
 
-ghost use Rattle.std.specs.Prelude.{◌≡◌, Ok, IfErr, IfOk, IfSome};
+ghost use Rattle.std.specs.Prelude.{◌≡◌, None, Ok, IfErr, IfOk, IfSome};
 ghost use Rattle.rasn_schema.specs.Enumerations.{addeds_of, is_extensible};
 ghost use Rattle.per_read_types.specs.Choices.{IsKnown, IsOfIndex, IsUnknown, index_form, index_of};
-ghost use Rattle.per_read_types.specs.Enumerations.{count_of};
+ghost use Rattle.per_read_types.specs.Enumerations.{count_of, root_in_field};
+ghost use Rattle.per_read.specs.Kinds.{NoneIn};
+ghost use Rattle.per_read.specs.State.{settings_of};
 ghost use Rattle.per_read.specs.Takes.{Takes, telling};
 
 use crate::enumerated::{take_extension_bit, take_place, take_short_place};
@@ -28,17 +30,20 @@ pub fn take_choice_index(
     place_at_index(place, count, extended)
 }
 
-/// Takes the index of a root alternative as `take_choice_index` does, where it is written in one field. `None` says
-/// nothing of the index, and leaves the reader of no further use. No error is made, and so none needs room.
+/// Takes the index of a root alternative as `take_choice_index` does, where it is written in one field. After `None`,
+/// which says that none stands there so, the reader is of no further use. No error is made, and so none needs room.
 #[inline(always)]
 pub fn take_root_index(
     reader: &mut Reader<'_>,
     roots: usize,
     addeds: Option<usize>,
 ) -> Option<Place>
-    ensures { IfSome result (λ place. Takes (telling (λ a. IsOfIndex a roots (addeds_of addeds) (is_extensible addeds)))
-        (λ a. index_form a roots (addeds_of addeds) (is_extensible addeds)) (λ P place. P (index_of place))
+    ensures took { let addeds_count = addeds_of addeds in let ext = is_extensible addeds in
+        IfSome result (λ place. Takes (telling (λ a. IsOfIndex a roots addeds_count ext))
+        (λ a. index_form a roots addeds_count ext) (λ P place. P (index_of place))
         reader.old (Ok place) reader.new) }
+    ensures none { let form = root_in_field (settings_of reader.old) roots (addeds_of addeds) (is_extensible addeds) in
+        result ≡ None → NoneIn form reader.old.bits }
 {
     let Ok(false) = take_extension_bit(reader, has_marker(addeds)) else {
         return None;

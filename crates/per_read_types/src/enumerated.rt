@@ -1,11 +1,14 @@
 //! ENUMERATED (X.691 14).
 
-ghost use Rattle.std.specs.Prelude.{◌≡◌, Ok, Some, IfErr, IfOk, IfSome};
+ghost use Rattle.std.specs.Prelude.{◌≡◌, ◌<◌, ℕ, Ok, Some, None, IfErr, IfOk, IfSome};
 ghost use Rattle.per_core.specs.Basic.{ExtensionBit, constrained_form};
-ghost use Rattle.per_core.specs.Spellings.{Settings};
+ghost use Rattle.per_core.specs.Spellings.{Settings, When};
 ghost use Rattle.per_read_types.specs.Enumerations.{IsMissing, IsOfItem, IsOfPlace, IsThere, count_of, item_form};
-ghost use Rattle.per_read_types.specs.Enumerations.{place_form};
+ghost use Rattle.per_read_types.specs.Enumerations.{place_form, root_in_field};
+ghost use Rattle.per_read.specs.Kinds.{NoneIn};
+ghost use Rattle.per_read.specs.Numbers.{in_one_field};
 ghost use Rattle.per_read.specs.SmallNumbers.{OfIndex};
+ghost use Rattle.per_read.specs.State.{settings_of};
 ghost use Rattle.per_read.specs.Takes.{Takes, itself, short, telling, tested};
 
 use per_read::Reader;
@@ -24,11 +27,14 @@ pub fn take_enumerated<E: Enumerated>(reader: &mut Reader<'_>) -> Result<E, Deco
 }
 
 /// Takes an item as `take_enumerated` does, where it stands before the extension marker and is written in one field.
-/// `None` says nothing of the item, and leaves the reader of no further use. No error is made, and so none needs room.
+/// After `None`, which says that none stands there so, the reader is of no further use. No error is made, and so none
+/// needs room.
 #[inline(always)]
 pub fn take_root_item<E: Enumerated>(reader: &mut Reader<'_>) -> Option<E>
-    ensures { IfSome result (λ x. Takes (telling (λ a. IsOfItem a E.roots E.addeds E.EXTENSIBLE))
+    ensures took { IfSome result (λ x. Takes (telling (λ a. IsOfItem a E.roots E.addeds E.EXTENSIBLE))
         (λ a. item_form a E.roots E.addeds E.EXTENSIBLE) (λ P x. P (E.value x)) reader.old (Ok x) reader.new) }
+    ensures none { let form = root_in_field (settings_of reader.old) E.roots E.addeds E.EXTENSIBLE in
+        result ≡ None → NoneIn form reader.old.bits }
 {
     let Ok(false) = take_extension_bit(reader, E::EXTENSIBLE) else {
         return None;
@@ -82,11 +88,13 @@ pub(crate) fn take_root_place(
 }
 
 /// Takes a place among `count` items before the extension marker, as `take_place` does, where it is written in one
-/// field.
+/// field. After `None`, which says that none stands there so, the reader is of no further use.
 #[inline(always)]
 pub(crate) fn take_short_place(reader: &mut Reader<'_>, count: usize) -> Option<usize>
-    ensures { let form = λ (a : Settings). constrained_form a count in
+    ensures took { let form = λ (a : Settings). constrained_form a count in
         IfSome result (λ place. Takes tested form OfIndex reader.old (Ok (Some place)) reader.new) }
+    ensures none { let form = λ (i : ℕ). When (i < count) (in_one_field (settings_of reader.old) count i) in
+        result ≡ None → NoneIn form reader.old.bits }
 {
     let code = reader.take_short_whole(count.saturating_sub(1) as u128)?;
     usize::try_from(code).ok()

@@ -1,10 +1,12 @@
 //! INTEGER (X.691 13).
 
-ghost use Rattle.std.specs.Prelude.{◌≡◌, false, Ok, IfOk, IfErr, IfSome};
+ghost use Rattle.std.specs.Prelude.{◌≡◌, false, None, Ok, IfOk, IfErr, IfSome};
 ghost use Rattle.rasn_constraints.specs.Bounds.{unbounded};
 ghost use Rattle.rasn_constraints.specs.Constraints.{bounds_of, bounds_in, is_marked};
 ghost use Rattle.per_core.specs.Basic.{IsNumberOf};
-ghost use Rattle.per_read_types.specs.Integers.{OfEach, IsFit, Misfit, AreSome, TakesInteger};
+ghost use Rattle.per_read.specs.Kinds.{NoneIn};
+ghost use Rattle.per_read.specs.State.{settings_of};
+ghost use Rattle.per_read_types.specs.Integers.{OfEach, IsFit, IsShortNumber, Misfit, AreSome, TakesInteger};
 
 use per_errors::bounds::OutOfBounds;
 use per_read::Reader;
@@ -28,16 +30,18 @@ pub fn take_integer<I: IntegerType>(
     }
 }
 
-/// Takes an INTEGER as `take_integer` does, where it is written in one field or in few octets, and behind no extension
-/// bit. `None` says nothing of the number, and leaves the reader of no further use. No error is made, and so none needs
-/// room.
+/// Takes an INTEGER as `take_integer` does, where it is written behind no extension bit, and in one field or, without
+/// bounds, in few octets. After `None`, which says that none stands there so, the reader is of no further use. No error
+/// is made, and so none needs room.
 #[inline(always)]
 pub fn take_short_integer<I: IntegerType>(
     reader: &mut Reader<'_>,
     constraints: &Constraints,
 ) -> Option<I>
-    ensures { let value = constraints.now.value in IfSome result
+    ensures took { let value = constraints.now.value in IfSome result
         (λ i. TakesInteger (bounds_in value) (is_marked value) I.range I.number reader.old (Ok i) reader.new) }
+    ensures none { let value = constraints.now.value in result ≡ None → is_marked value ≡ false
+        → NoneIn (IsShortNumber (settings_of reader.old) (bounds_in value) I.range) reader.old.bits }
 {
     let Some(value) = constraints.value() else {
         return take_short_unconstrained(reader);
@@ -45,24 +49,32 @@ pub fn take_short_integer<I: IntegerType>(
     if value.extensible {
         return None;
     }
-    take_short_within(reader, &value.constraint)
+    match value.constraint.start_and_end() {
+        (None, None) => take_short_unconstrained(reader),
+        _ => take_short_within(reader, &value.constraint),
+    }
 }
 
 /// Takes a number without bounds, where it is written in few octets.
 #[inline(always)]
 fn take_short_unconstrained<I: IntegerType>(reader: &mut Reader<'_>) -> Option<I>
-    ensures { IfSome result
+    ensures took { IfSome result
         (λ i. TakesInteger unbounded false I.range I.number reader.old (Ok i) reader.new) }
+    ensures none { result ≡ None
+        → NoneIn (IsShortNumber (settings_of reader.old) unbounded I.range) reader.old.bits }
 {
     let octets = reader.take_octets_at_once()?;
     I::try_from_i128(octets.signed())
 }
 
-/// Takes a number under two bounds, where it is written in one field.
+/// Takes a number under bounds, where there are two and one field has it.
 #[inline(always)]
 fn take_short_within<I: IntegerType>(reader: &mut Reader<'_>, bounds: &Bounded<i128>) -> Option<I>
-    ensures { IfSome result
+    requires { AreSome (bounds_of bounds.now) }
+    ensures took { IfSome result
         (λ i. TakesInteger (bounds_of bounds.now) false I.range I.number reader.old (Ok i) reader.new) }
+    ensures none { result ≡ None
+        → NoneIn (IsShortNumber (settings_of reader.old) (bounds_of bounds.now) I.range) reader.old.bits }
 {
     let (Some(lower), Some(upper)) = bounds.start_and_end() else {
         return None;

@@ -1,4 +1,4 @@
-use Rattle.std.proofs.Common.{◌≡◌, ◌<◌, ◌^◌, ◌+◌, [], suc, arith, refl}
+use Rattle.std.proofs.Common.{◌≡◌, ◌+◌, [], suc, arith, refl}
 use Rattle.per_core.proofs.Readings.{one_reading}
 use Rattle.per_read.specs.Lists.{list_rule}
 use Rattle.per_read.specs.State.{settings_of}
