@@ -1,5 +1,5 @@
 -- What each call reads, and why it refuses.
-use Rattle.std.proofs.Common.{◌≡◌, ◌⊎◌, inl, inr, ℕ, Bool, true, false, [], length, refl, sym, ◌∙◌, ap, subst, ℤ}
+use Rattle.std.proofs.Common.{◌≡◌, ◌≤◌, ◌⊎◌, inl, inr, ℕ, Bool, true, false, [], length, refl, sym, ◌∙◌, ap, subst, ℤ, arith, length-append}
 use Rattle.std.specs.Prelude.{Result, Ok, Err, OnOk, OnErr, IfOk, IfErr, IsErrAnd}
 use Rattle.std.proofs.lemmas.Result.{IfOk-weaker, IfErr-weaker}
 use Rattle.rasn_types.specs.Bits.{Bits}
@@ -27,6 +27,10 @@ use Rattle.per_decoding.specs.Faults.{Answered, Fault, IsAt, IsOf, at_once, refu
 use Rattle.per_decoding.specs.Rules.{decoder_rules}
 use Rattle.per_de.specs.Steps.{TakesBit}
 use Rattle.per_de.proofs.Spans.{none_left, with_rest}
+
+-- no more bits are left behind what was taken than before
+pub no_more_left : {f : Spelling} {s t : Bits} → Took f s t → length t ≤ length s
+no_more_left {t = t} a = omega (arith, ap length a.joins, length-append a.front t)
 
 -- a refusal
 not_failed : (c : Schema) (a : Settings) (s : Bits) → IsAt a c s AlreadyFailed → ⊥

@@ -11,7 +11,7 @@ use Rattle.std.specs.List.{between}
 use Rattle.std.specs.declared.borrow.CowSlice.{CowSlice}
 use Rattle.std.specs.declared.borrow.CowSlice.TheVariants as Slice
 use Rattle.rasn_types.specs.Bits.{AreOctets, Bits, pack, to_bits, unpack}
-use Rattle.rasn_types.specs.Values.{octets}
+use Rattle.rasn_types.specs.Values.{Value, octets}
 use Rattle.rasn_types.proofs.Bits.{length-unpack, number_below, to_bits-number}
 use Rattle.rasn_types.proofs.Fewest.{pack-unpack}
 use Rattle.rasn_constraints.specs.Bounds.{Size}
@@ -34,7 +34,7 @@ use Rattle.per_read.specs.Stands.{LastTaken}
 use Rattle.per_decoding.specs.Faults.{refusal}
 use Rattle.per_decoding.specs.Rules.{decoder_rules}
 use Rattle.per_decoding.specs.State.{State, reader_of, settings_of, with_last}
-use Rattle.per_de.specs.Lending.{AreLent, CanBeLent, ComeAlone, is_counted_once, is_extended}
+use Rattle.per_de.specs.Lending.{AreLent, AreRead, CanBeLent, ComeAlone, is_counted_once, is_extended}
 use Rattle.per_de.specs.Sources.{bits_of, place_of, span_of, up_to, AreInInput, AreOctetsIn, AreOctetsOf, IsWithin}
 use Rattle.per_de.specs.declared.source.Source.{Source}
 use Rattle.per_de.specs.declared.source.Span.{Span}
@@ -159,76 +159,81 @@ owned_not : (x : CowSlice ℕ Global) → IsOwnedSlice x → IsBorrowedSlice x �
 owned_not (Slice.Borrowed r) o b = o
 owned_not (Slice.Owned v) o b = b
 
+-- a refusal to read an OCTET STRING, whatever its octets would have been kept in
+pub refused_so : {T U : Type 0} (size : Size) (mark : Bool) (f : T → Value) (g : U → Value) (s t : State) (e : DecodeError) → Reads decoder_rules (Schemas.octet_string size mark) f s (Err e) t
+    → Reads decoder_rules (Schemas.octet_string size mark) g s (Err e) t
+refused_so size mark f g s t e h = record { law = h.law; behaves = record { again = h.behaves.again; fails = h.behaves.fails; kept = h.behaves.kept } }
+
+-- an OCTET STRING that a reader skips
+module _ (s : State) (size : Size) (mark : Bool) {x y : Taking} (left : ℕ) (i : x ≡ reader_of s) (l : left ≡ length y.bits) where
+  pub skipped : (n : ℕ) → Takes (memory_or (λ a. IsOfItems a size mark Octet)) (λ a. Counted a size mark octet_items octet) HasCount x (Ok n) y → AreRead size mark s n left
+  skipped n g = record {
+    items = g.ok.octets;
+    rest = y.bits;
+    many = g.ok.many;
+    behind = l;
+    took = subst (λ (z : Taking). Took (Counted (read_by z) size mark octet_items octet g.ok.octets) z.bits y.bits) i g.ok.held;
+  }
+
+  pub skip_refused : (live : s.failed ≡ false) (t : State) (k : DecodeErrorKind) (e : DecodeError) → Takes (memory_or (λ a. IsOfItems a size mark Octet)) (λ a. Counted a size mark octet_items octet) HasCount x (Err k) y
+      → e ≡ refusal k s → t ≡ record s { failed = true } → Reads decoder_rules (Schemas.octet_string size mark) octets s (Err e) t
+  skip_refused live t k e g f h =
+      let r : Takes (memory_or (λ a. IsOfItems a size mark Octet)) (λ a. Counted a size mark octet_items octet) (λ P (os : List ℕ). P os) x (Err k) y = record { ok = tt; err = g.err; kept = g.kept } in
+      reads s (Schemas.octet_string size mark) octets live (λ v. reads_octets (settings_of s) size mark v) i r l (ap Err f, h) (λ d. faulty_octets (settings_of s) size mark s.bits d)
+
 -- an OCTET STRING that was skipped, and then is lent or copied
-module _ (s : State) (size : Size) (mark : Bool) {x y : Taking} (left : ℕ) (t : State) (live : s.failed ≡ false) (i : x ≡ reader_of s) (l : left ≡ length y.bits) where
-  -- the octets that were skipped
-  taken : (n : ℕ) → Takes (memory_or (λ a. IsOfItems a size mark Octet)) (λ a. Counted a size mark octet_items octet) HasCount x (Ok n) y
-      → (os : List ℕ) × (length os ≡ n) × Took (Counted (settings_of s) size mark octet_items octet os) s.bits y.bits
-  taken n g = (g.ok.octets, g.ok.many, subst (λ (z : Taking). Took (Counted (read_by z) size mark octet_items octet g.ok.octets) z.bits y.bits) i g.ok.held)
+module _ (s : State) (size : Size) (mark : Bool) (left : ℕ) (t : State) (live : s.failed ≡ false) (n : ℕ) (g : AreRead size mark s n left) where
+  last : ComeAlone size mark s.bits n → LastTaken (8 * length g.items) (unpack g.items) s.bits g.rest × AreOctets g.items
+  last c = alone_last (settings_of s) g.items size mark g.took (subst (λ (m : ℕ). ComeAlone size mark s.bits m) (sym g.many) c)
 
-  pub skip_refused : (k : DecodeErrorKind) (e : DecodeError) → Takes (memory_or (λ a. IsOfItems a size mark Octet)) (λ a. Counted a size mark octet_items octet) HasCount x (Err k) y
-      → e ≡ refusal k s → t ≡ record s { failed = true } → Reads decoder_rules (Schemas.octet_string size mark) (λ (v : CowSlice ℕ Global). octets (cow_slice_items v)) s (Err e) t
-  skip_refused k e g f h =
-      let r : Takes (memory_or (λ a. IsOfItems a size mark Octet)) (λ a. Counted a size mark octet_items octet) (λ P (v : CowSlice ℕ Global). P (cow_slice_items v)) x (Err k) y = record { ok = tt; err = g.err; kept = g.kept } in
-      reads s (Schemas.octet_string size mark) (λ v. octets (cow_slice_items v)) live (λ v. reads_octets (settings_of s) size mark (cow_slice_items v)) i r l (ap Err f, h) (λ d. faulty_octets (settings_of s) size mark s.bits d)
+  pub enough : ComeAlone size mark s.bits n → 8 * n + left ≤ length s.bits
+  enough c =
+      let h = (last c).0 in
+      omega (arith, g.behind, h.wide, g.many, ap length h.joins, length-append h.before (unpack g.items ++ g.rest), length-append (unpack g.items) g.rest)
 
-  module _ (n : ℕ) (g : Takes (memory_or (λ a. IsOfItems a size mark Octet)) (λ a. Counted a size mark octet_items octet) HasCount x (Ok n) y) where
-    last : ComeAlone size mark s.bits n → LastTaken (8 * length (taken n g).0) (unpack (taken n g).0) s.bits y.bits × AreOctets (taken n g).0
-    last c = let q = taken n g in alone_last (settings_of s) q.0 size mark q.2 (subst (λ (m : ℕ). ComeAlone size mark s.bits m) (sym q.1) c)
+  -- a part of the input that can be lent is what was skipped
+  part_is : (part : List ℕ) → ComeAlone size mark s.bits n → AreOctetsOf s.bits (length s.bits - left) n part → part ≡ g.items
+  part_is part c p =
+      let w = last c in
+      let h = w.0 in
+      let k = length s.bits - left - 8 * n in
+      let m = length s.bits - left - k in
+      let all : length s.bits ≡ length h.before + (length (unpack g.items) + length g.rest) = omega (arith, ap length h.joins, length-append h.before (unpack g.items ++ g.rest), length-append (unpack g.items) g.rest) in
+      let first : length h.before ≡ k = omega (arith, all, g.behind, h.wide, g.many) in
+      let many : length (unpack g.items) ≡ m = omega (arith, all, g.behind, h.wide, g.many) in
+      let d : drop k s.bits ≡ unpack g.items ++ g.rest = ap (λ z. drop k z) h.joins ∙ drop_at h.before (unpack g.items ++ g.rest) k first in
+      unpack_same part g.items p.are w.1 (p.same ∙ ap (λ z. take m z) d ∙ take_at (unpack g.items) g.rest m many)
 
-    pub enough : ComeAlone size mark s.bits n → 8 * n + left ≤ length s.bits
-    enough c =
-        let q = taken n g in
-        let h = (last c).0 in
-        omega (arith, l, h.wide, q.1, ap length h.joins, length-append h.before (unpack q.0 ++ y.bits), length-append (unpack q.0) y.bits)
+  pub alone_read : (v : CowSlice ℕ Global) → ComeAlone size mark s.bits n → AreOctetsOf s.bits (length s.bits - left) n (cow_slice_items v) → t ≡ with_last s left
+      → Reads decoder_rules (Schemas.octet_string size mark) (λ (v : CowSlice ℕ Global). octets (cow_slice_items v)) s (Ok v) t
+  alone_read v a p h =
+      let after : Taking = record { bits = g.rest; options = (reader_of s).options } in
+      let k : Took (Counted (settings_of s) size mark octet_items octet (cow_slice_items v)) s.bits g.rest = subst (λ z. Took (Counted (settings_of s) size mark octet_items octet z) s.bits g.rest) (sym (part_is (cow_slice_items v) a p)) g.took in
+      let r : Takes (memory_or (λ a. IsOfItems a size mark Octet)) (λ a. Counted a size mark octet_items octet) (λ P (v : CowSlice ℕ Global). P (cow_slice_items v)) (reader_of s) (Ok v) after = record { ok = k; err = tt; kept = refl } in
+      reads s (Schemas.octet_string size mark) (λ v. octets (cow_slice_items v)) live (λ v. reads_octets (settings_of s) size mark (cow_slice_items v)) refl r g.behind (refl, h) (λ d. faulty_octets (settings_of s) size mark s.bits d)
 
-    -- a part of the input that can be lent is what was taken
-    part_is : (part : List ℕ) → ComeAlone size mark s.bits n → AreOctetsOf s.bits (length s.bits - left) n part → part ≡ (taken n g).0
-    part_is part c p =
-        let q = taken n g in
-        let w = last c in
-        let h = w.0 in
-        let k = length s.bits - left - 8 * n in
-        let m = length s.bits - left - k in
-        let all : length s.bits ≡ length h.before + (length (unpack q.0) + length y.bits) = omega (arith, ap length h.joins, length-append h.before (unpack q.0 ++ y.bits), length-append (unpack q.0) y.bits) in
-        let first : length h.before ≡ k = omega (arith, all, l, h.wide, q.1) in
-        let many : length (unpack q.0) ≡ m = omega (arith, all, l, h.wide, q.1) in
-        let d : drop k s.bits ≡ unpack q.0 ++ y.bits = ap (λ z. drop k z) h.joins ∙ drop_at h.before (unpack q.0 ++ y.bits) k first in
-        unpack_same part q.0 p.are w.1 (p.same ∙ ap (λ z. take m z) d ∙ take_at (unpack q.0) y.bits m many)
+  -- what comes alone is lent exactly where it can be
+  pub lent_as : (v : CowSlice ℕ Global) → ComeAlone size mark s.bits n → AreOctetsOf s.bits (length s.bits - left) n (cow_slice_items v) → t ≡ with_last s left → IsBorrowedSlice v ↔ CanBeLent s left n
+      → IsBorrowedSlice v ↔ AreLent size mark s (length t.bits) (length (cow_slice_items v))
+  lent_as v alone p h e =
+      let many : length (cow_slice_items v) ≡ n = ap length (part_is (cow_slice_items v) alone p) ∙ g.many in
+      let rest : length t.bits ≡ left = ap (λ z. length z.bits) h ∙ length-drop (length s.bits - left) s.bits ∙ omega (arith, enough alone) in (
+        (λ b.
+            let w = e.0 b in
+            let a : AreLent size mark s left n = record { some = w.some; alone = alone; lends = w.lends; on_octets = w.on_octets } in
+            subst (λ (k : ℕ). AreLent size mark s k (length (cow_slice_items v))) (sym rest) (subst (λ (k : ℕ). AreLent size mark s left k) (sym many) a)),
+        λ a.
+            let w : AreLent size mark s left n = subst (λ (k : ℕ). AreLent size mark s left k) many (subst (λ (k : ℕ). AreLent size mark s k (length (cow_slice_items v))) rest a) in
+            e.1 (record { some = w.some; lends = w.lends; on_octets = w.on_octets }),
+      )
 
-    pub alone_read : (v : CowSlice ℕ Global) → ComeAlone size mark s.bits n → AreOctetsOf s.bits (length s.bits - left) n (cow_slice_items v) → t ≡ with_last s left
-        → Reads decoder_rules (Schemas.octet_string size mark) (λ (v : CowSlice ℕ Global). octets (cow_slice_items v)) s (Ok v) t
-    alone_read v a p h =
-        let q = taken n g in
-        let k : Took (Counted (settings_of s) size mark octet_items octet (cow_slice_items v)) s.bits y.bits = subst (λ z. Took (Counted (settings_of s) size mark octet_items octet z) s.bits y.bits) (sym (part_is (cow_slice_items v) a p)) q.2 in
-        let r : Takes (memory_or (λ a. IsOfItems a size mark Octet)) (λ a. Counted a size mark octet_items octet) (λ P (v : CowSlice ℕ Global). P (cow_slice_items v)) (reader_of s) (Ok v) y =
-        record { ok = k; err = tt; kept = g.kept ∙ ap (λ z. z.options) i } in
-        reads s (Schemas.octet_string size mark) (λ v. octets (cow_slice_items v)) live (λ v. reads_octets (settings_of s) size mark (cow_slice_items v)) refl r l (refl, h) (λ d. faulty_octets (settings_of s) size mark s.bits d)
-
-    -- what comes alone is lent exactly where it can be
-    pub lent_as : (v : CowSlice ℕ Global) → ComeAlone size mark s.bits n → AreOctetsOf s.bits (length s.bits - left) n (cow_slice_items v) → t ≡ with_last s left → IsBorrowedSlice v ↔ CanBeLent s left n
-        → IsBorrowedSlice v ↔ AreLent size mark s (length t.bits) (length (cow_slice_items v))
-    lent_as v alone p h e =
-        let q = taken n g in
-        let many : length (cow_slice_items v) ≡ n = ap length (part_is (cow_slice_items v) alone p) ∙ q.1 in
-        let rest : length t.bits ≡ left = ap (λ z. length z.bits) h ∙ length-drop (length s.bits - left) s.bits ∙ omega (arith, enough alone) in (
-          (λ b.
-              let w = e.0 b in
-              let a : AreLent size mark s left n = record { some = w.some; alone = alone; lends = w.lends; on_octets = w.on_octets } in
-              subst (λ (k : ℕ). AreLent size mark s k (length (cow_slice_items v))) (sym rest) (subst (λ (k : ℕ). AreLent size mark s left k) (sym many) a)),
-          λ a.
-              let w : AreLent size mark s left n = subst (λ (k : ℕ). AreLent size mark s left k) many (subst (λ (k : ℕ). AreLent size mark s k (length (cow_slice_items v))) rest a) in
-              e.1 (record { some = w.some; lends = w.lends; on_octets = w.on_octets }),
-        )
-
-    -- what is copied isn't lent
-    pub copied_unlent : (r : Result (CowSlice ℕ Global) DecodeError) → Reads decoder_rules (Schemas.octet_string size mark) (λ (v : CowSlice ℕ Global). octets (cow_slice_items v)) s r t → IfOk r (λ v. IsOwnedSlice v)
-        → (AreLent size mark s left n → ⊥) → IfOk r (λ v. IsBorrowedSlice v ↔ AreLent size mark s (length t.bits) (length (cow_slice_items v)))
-    copied_unlent (Err e) h o none = tt
-    copied_unlent (Ok v) h o none =
-        let q = taken n g in
-        let w = took_agree (one_reading (settings_of s) (Schemas.octet_string size mark) (octets (cow_slice_items v)) (octets q.0)) h.law.took (reads_octets (settings_of s) size mark q.0 q.2) in
-        let same : cow_slice_items v ≡ q.0 = let e = w.0 in cc in
-        let many : length (cow_slice_items v) ≡ n = ap length same ∙ q.1 in
-        let rest : length t.bits ≡ left = ap length w.1 ∙ sym l in
-        ((λ b. absurd (owned_not v o b)), λ a. absurd (none (subst (λ (k : ℕ). AreLent size mark s left k) many (subst (λ (k : ℕ). AreLent size mark s k (length (cow_slice_items v))) rest a))))
+  -- what is copied isn't lent
+  pub copied_unlent : (r : Result (CowSlice ℕ Global) DecodeError) → Reads decoder_rules (Schemas.octet_string size mark) (λ (v : CowSlice ℕ Global). octets (cow_slice_items v)) s r t → IfOk r (λ v. IsOwnedSlice v)
+      → (AreLent size mark s left n → ⊥) → IfOk r (λ v. IsBorrowedSlice v ↔ AreLent size mark s (length t.bits) (length (cow_slice_items v)))
+  copied_unlent (Err e) h o none = tt
+  copied_unlent (Ok v) h o none =
+      let w = took_agree (one_reading (settings_of s) (Schemas.octet_string size mark) (octets (cow_slice_items v)) (octets g.items)) h.law.took (reads_octets (settings_of s) size mark g.items g.took) in
+      let same : cow_slice_items v ≡ g.items = let e = w.0 in cc in
+      let many : length (cow_slice_items v) ≡ n = ap length same ∙ g.many in
+      let rest : length t.bits ≡ left = ap length w.1 ∙ sym g.behind in
+      ((λ b. absurd (owned_not v o b)), λ a. absurd (none (subst (λ (k : ℕ). AreLent size mark s left k) many (subst (λ (k : ℕ). AreLent size mark s k (length (cow_slice_items v))) rest a))))

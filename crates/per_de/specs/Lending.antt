@@ -1,8 +1,17 @@
 -- When the octets of an OCTET STRING are lent, and not copied (ITU-T X.691, 11.9, 17).
-use Rattle.std.specs.Prelude.{◌≡◌, ◌⊎◌, ◌<◌, ◌+◌, ◌-◌, ◌%◌, ℕ, Bool, true, false, nat_lt, ◌∷◌, [], length, Option, Some}
+use Rattle.std.specs.Prelude.{◌≡◌, ◌⊎◌, ◌<◌, ◌+◌, ◌-◌, ◌%◌, ℕ, Bool, true, false, nat_lt, List, ◌∷◌, [], length, Option}
+use Rattle.std.specs.Prelude.{Some, Result, Err, IfOk, IfErr, OnOk}
 use Rattle.rasn_types.specs.Bits.{Bits}
+use Rattle.rasn_types.specs.Values.{octets}
 use Rattle.rasn_constraints.specs.Bounds.{Size}
-use Rattle.per_decoding.specs.State.{State}
+use Rattle.rasn_schema.specs.Schemas
+use Rattle.rasn_traits.specs.Calls.{Reads}
+use Rattle.per_core.specs.Basic.{Counted, octet}
+use Rattle.per_core.specs.Counts.{octet_items}
+use Rattle.per_core.specs.Took.{Took}
+use Rattle.per_read.specs.declared.error.DecodeError.{DecodeError}
+use Rattle.per_decoding.specs.Rules.{decoder_rules}
+use Rattle.per_decoding.specs.State.{State, settings_of}
 
 -- X.691 11.9.3.3, 11.9.4.1: whether a size with these bounds has octets behind a constrained count, or behind none
 -- where the bounds are one number
@@ -39,3 +48,19 @@ pub record AreLent (size : Size) (mark : Bool) (s : State) (left n : ℕ) : Type
   pub alone : ComeAlone size mark s.bits n
   pub lends : s.source.lends ≡ true
   pub on_octets : (s.source.place + (length s.source.bits - (s.source.behind + left))) % 8 ≡ 0
+
+-- n octets of an OCTET STRING under a size are read, and `left` bits are left behind them (X.691 17)
+pub record AreRead (size : Size) (mark : Bool) (s : State) (n left : ℕ) : Type 0 where
+  pub items : List ℕ
+  pub rest : Bits
+  pub many : length items ≡ n
+  pub behind : left ≡ length rest
+  pub took : Took (Counted (settings_of s) size mark octet_items octet items) s.bits rest
+
+-- A call that answers how many octets an OCTET STRING has, and how many bits are left behind it, or refuses to read it.
+-- All bits stay left.
+pub record SkipsOctets (size : Size) (mark : Bool) (s : State) (result : Result (ℕ × ℕ) DecodeError) (t : State)
+    : Type 0 where
+  pub ok : IfOk result (λ x. AreRead size mark s x.0 x.1)
+  pub stays : OnOk result (t ≡ s)
+  pub err : IfErr result (λ e. Reads decoder_rules (Schemas.octet_string size mark) octets s (Err e) t)

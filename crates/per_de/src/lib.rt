@@ -36,7 +36,7 @@ ghost use Rattle.per_decoding.specs.State.{State, Options, fresh, fresh_of, from
 ghost use Rattle.per_de.specs.Lists.{IsOpenList};
 ghost use Rattle.per_de.specs.Openings.{OpensRecord};
 ghost use Rattle.per_de.specs.Outsides.{outside_choice_of, outside_record_of, outside_addition_of};
-ghost use Rattle.per_de.specs.Lending.{AreCountedOnce, AreLent, CanBeLent, ComeAlone};
+ghost use Rattle.per_de.specs.Lending.{AreCountedOnce, AreLent, CanBeLent, ComeAlone, SkipsOctets};
 ghost use Rattle.per_de.specs.Sources.{bits_of, extension_in, flags_in, place_left, span_of, up_to, unread_of};
 ghost use Rattle.per_de.specs.Sources.{AreOctetsOf, IsWithin};
 ghost use Rattle.per_de.specs.Steps.{AsksNext, EndsContents, EntersOpen, HasTwoLevels, IsRootRead};
@@ -310,12 +310,7 @@ impl<'input> Decoder<'input> {
             IfOk result (λ x. IsBorrowedSlice x ↔ AreLent size mark self.old left (length (cow_slice_items x))) }
     {
         self.check_unfailed()?;
-        let mut reader = self.reader();
-        let skipped = reader.skip_short_octet_string(constraints);
-        let left = reader.bits().len();
-        let Some(count) = skipped else {
-            return self.read_octet_string(constraints);
-        };
+        let (count, left) = self.skip_octets(constraints)?;
         if !self.come_alone(constraints, count) {
             return self.gathered(constraints);
         }
@@ -323,39 +318,38 @@ impl<'input> Decoder<'input> {
             Ok(octets) => octets,
             Err(_) => return Err(self.refuse(DecodeErrorKind::OutOfMemory)),
         };
-        self.keep_last(left);
+        self.advance(left);
         Ok(octets)
     }
 
-    /// Reads an OCTET STRING as `decode_octet_string` does, in whichever form it is written.
-    #[inline(never)]
-    fn read_octet_string(
-        &mut self,
-        constraints: &Constraints,
-    ) -> Result<CowSlice<'input, u8>, DecodeError>
-        ensures read { Reads decoder_rules (octet_schema constraints.now) (λ x. octets (cow_slice_items x))
-            self.old result self.new }
-        ensures lent { let size = size_of constraints.now in let mark = is_size_marked constraints.now in
-            let left = length self.new.bits in
-            IfOk result (λ x. IsBorrowedSlice x ↔ AreLent size mark self.old left (length (cow_slice_items x))) }
+    /// How many octets an OCTET STRING has, and how many bits are left behind it. They are still left here.
+    #[inline(always)]
+    fn skip_octets(&mut self, constraints: &Constraints) -> Result<(usize, u128), DecodeError>
+        requires { self.old.failed ≡ false }
+        ensures { SkipsOctets (size_of constraints.now) (is_size_marked constraints.now) self.old result self.new }
     {
-        self.check_unfailed()?;
+        let mut reader = self.reader();
+        let skipped = reader.skip_short_octet_string(constraints);
+        let left = reader.bits().len();
+        match skipped {
+            Some(count) => Ok((count, left)),
+            None => self.skip_any_octets(constraints),
+        }
+    }
+
+    /// What `skip_octets` answers, of an OCTET STRING in whichever form it is written.
+    #[inline(never)]
+    fn skip_any_octets(&mut self, constraints: &Constraints) -> Result<(usize, u128), DecodeError>
+        requires { self.old.failed ≡ false }
+        ensures { SkipsOctets (size_of constraints.now) (is_size_marked constraints.now) self.old result self.new }
+    {
         let mut reader = self.reader();
         let skipped = reader.skip_octet_string(constraints);
         let left = reader.bits().len();
-        let count = match skipped {
-            Ok(count) => count,
-            Err(kind) => return Err(self.refuse(kind)),
-        };
-        if !self.come_alone(constraints, count) {
-            return self.gathered(constraints);
+        match skipped {
+            Ok(count) => Ok((count, left)),
+            Err(kind) => Err(self.refuse(kind)),
         }
-        let octets = match self.octets_before(left, count) {
-            Ok(octets) => octets,
-            Err(_) => return Err(self.refuse(DecodeErrorKind::OutOfMemory)),
-        };
-        self.keep_last(left);
-        Ok(octets)
     }
 
     /// Whether so many octets under a size, which stand at the front of the bits that are left, come with one count
@@ -494,6 +488,15 @@ impl<'input> Decoder<'input> {
         ensures { self.new ≡ with_last self.old left }
     {
         self.bits.begin = self.bits.begin.max(self.bits.end.saturating_sub(left));
+    }
+
+    /// Takes off the bits left all but the last so many, which are some of them.
+    #[inline(always)]
+    fn advance(&mut self, left: u128)
+        requires { left ≤ length self.old.bits }
+        ensures { self.new ≡ with_last self.old left }
+    {
+        self.bits.begin = self.bits.end - left;
     }
 
     /// Takes so many presence bits off the bits left, and answers where they stand. Where fewer are left it refuses.
@@ -643,6 +646,7 @@ impl<'input> Decoder<'input> {
 
     /// Asks for the next addition of the open SEQUENCE (X.691 19.7, 19.8): its presence bit, or none past the end of
     /// the bitmap.
+    #[inline(always)]
     fn next_addition(&mut self) -> Result<Option<bool>, DecodeError>
         requires { self.old.failed ≡ false }
         ensures { AsksNext self.old result self.new }
@@ -753,6 +757,7 @@ impl<'input> Decoder<'input> {
     }
 
     /// Takes the index of a CHOICE (X.691 23.5 to 23.8), and answers the place of its alternative.
+    #[inline(always)]
     fn take_index<C: Choice>(&mut self) -> Result<Place, DecodeError>
         ensures { TakesIndex (length C.VARIANTS) (length (variants_behind C.EXTENDED_VARIANTS))
             (is_extensible C.EXTENDED_VARIANTS) self.old result self.new }
@@ -764,7 +769,7 @@ impl<'input> Decoder<'input> {
         let Some(place) = taken else {
             return self.take_any_index::<C>();
         };
-        self.keep_last(left);
+        self.advance(left);
         Ok(place)
     }
 
@@ -1010,7 +1015,7 @@ impl<'input> decoder::Decoder for Decoder<'input> {
         let Some(number) = taken else {
             return self.read_integer(constraints);
         };
-        self.keep_last(left);
+        self.advance(left);
         Ok(number)
     }
 
@@ -1032,7 +1037,7 @@ impl<'input> decoder::Decoder for Decoder<'input> {
         let Some(item) = taken else {
             return self.read_enumerated();
         };
-        self.keep_last(left);
+        self.advance(left);
         Ok(item)
     }
 
@@ -1199,6 +1204,7 @@ impl<'input> decoder::Decoder for Decoder<'input> {
         Ok(())
     }
 
+    #[inline(always)]
     fn open_addition(&mut self) -> Result<Option<Addition<'input>>, DecodeError> {
         self.check_unfailed()?;
         match self.next_addition()? {
@@ -1207,11 +1213,13 @@ impl<'input> decoder::Decoder for Decoder<'input> {
         }
     }
 
+    #[inline(always)]
     fn close_addition(&mut self, addition: Addition<'input>) -> Result<(), DecodeError> {
         self.check_unfailed()?;
         self.close_open_type(addition)
     }
 
+    #[inline(always)]
     fn open_choice<C: Choice>(&mut self) -> Result<(Tag, Alternative<'input>), DecodeError> {
         self.check_unfailed()?;
         let levels = self.level_inside()?;
@@ -1221,6 +1229,7 @@ impl<'input> decoder::Decoder for Decoder<'input> {
         Ok((tag_at::<C>(place), Alternative { scope, contents }))
     }
 
+    #[inline(always)]
     fn close_choice(&mut self, alternative: Alternative<'input>) -> Result<(), DecodeError> {
         self.check_unfailed()?;
         let scope = alternative.scope;
