@@ -1,5 +1,5 @@
 -- What a writer puts where a value begins is a value of the encoder.
-use Rattle.std.specs.Prelude.{OnOk, OnErr, IfErr, Result, Ok, Err}
+use Rattle.std.specs.Prelude.{OnOk, OnErr, IfErr, Bool, Result, Ok, Err}
 use Rattle.std.proofs.Common.{◌≡◌, sym, ap, ◌∙◌, subst, inl, inr, true, false}
 use Rattle.rasn_types.specs.Codecs.{variant_of}
 use Rattle.rasn_types.specs.Values.{Value, nothing}
@@ -16,6 +16,7 @@ use Rattle.per_write.specs.Rules.{encoder_rules}
 use Rattle.per_write.specs.State.{Presents as PresentsIn, State}
 use Rattle.per_enc.specs.Laws.Relations.{noting_same}
 use Rattle.per_enc.specs.Rules.{encoding_rules, noting}
+use Rattle.per_enc.specs.Short.{PutsWhere}
 use Rattle.per_enc.proofs.Presenting.{presents_null, refuses_again}
 
 pub noting_codec : (x : Encoding) → (noting x).writer.codec ≡ x.writer.codec
@@ -82,6 +83,19 @@ already_refused x y s v result e f p q a h k =
       law = inr (refuses_again f x.writer s v b h);
       behaves = behaves_refused b h k;
     })
+
+-- a call without an error that puts a value where it begins
+pub puts_noted : (x m y : Encoding) (s : Schema) (v : Value) (suffices : Bool) → m ≡ noting x → x.writer.failed ≡ false → (suffices ≡ true → PresentsIn m.writer s v y.writer) → (suffices ≡ false → y.writer.failed ≡ true) →
+    y.writer.codec ≡ m.writer.codec → y.set ≡ m.set → PutsWhere suffices s v x y
+puts_noted x m y s v suffices e f p q k t = record {
+  begun = f;
+  put = λ h. record {
+    written = subst (λ (z : Encoding). PresentsIn z.writer s v y.writer) e (p h);
+    set = t ∙ ap (λ (z : Encoding). z.set) e;
+  };
+  fails = q;
+  kept = k ∙ ap (λ (z : Encoding). z.writer.codec) e ∙ noting_codec x;
+}
 
 -- X.691 18: a NULL is no bits where it begins
 pub null_noted : (x y : Encoding) (result : Result (Unit {0}) EncodeError) → OnOk result (x.writer.failed ≡ false) → OnOk result (y ≡ noting x) → IfErr result (λ e. IsAlready e x.writer) → OnErr result (x.writer.failed ≡ true) → OnErr result (y ≡ x)

@@ -21,7 +21,7 @@ use Rattle.per_write.specs.declared.error.EncodeError.{EncodeError}
 use Rattle.per_write.specs.Faults.{IsMemory, IsAlready, RefusesValue, Stands}
 use Rattle.per_write.specs.Numbers.{unconstrained_whole}
 use Rattle.per_write.specs.Rules.{encoder_rules}
-use Rattle.per_write.specs.State.{State, StateAppends, Puts, PutsIn, Presents, view}
+use Rattle.per_write.specs.State.{State, StateAppends, Puts, Presents, view}
 use Rattle.per_write_types.specs.Integers.{IsBetween}
 use Rattle.per_write_types.specs.declared.integers.Between.{Between}
 
@@ -68,13 +68,20 @@ between_bits : (a : Variant) (b range : Bounds) (z : ℤ) → holds range z ≡ 
 unfolding canon number_form
 between_bits a b range z h k = sym (rw (h, k) refl)
 
-pub between_law : (x y : State) (stated : Extensible (Bounded ℤ)) (range : Bounds) (z : ℤ) (b : Between) (result : Result (Unit {0}) EncodeError) → x.failed ≡ false → IsBetween stated range z b →
-    PutsIn IsMemory (λ a. number_under a (Some b.lower) (Some b.upper) b.number) x result y → Writes encoder_rules (Schema.number (bounds_of stated.constraint) stated.extensible range) (whole z) x result y
-between_law x y stated range z b result f i p =
+pub between_presented : (x y : State) (stated : Extensible (Bounded ℤ)) (range : Bounds) (z : ℤ) (b : Between) → IsBetween stated range z b →
+    StateAppends x (number_under (variant_of x.codec) (Some b.lower) (Some b.upper) b.number) y → Presents x (Schema.number (bounds_of stated.constraint) stated.extensible range) (whole z) y
+between_presented x y stated range z b i w =
     let bounds = bounds_of stated.constraint in
     let a = variant_of x.codec in
     let same : number_under a (Some b.lower) (Some b.upper) b.number ≡ number_under a bounds.low bounds.high z = rw (i.low, i.high, i.is) refl in
-    rw i.unmarked (writes x y (number_under a (Some b.lower) (Some b.upper) b.number) (Schema.number bounds false range) (whole z) result (same ∙ between_bits a bounds range z i.held i.within) f p)
+    rw i.unmarked (subst (λ (g : Writer). StateAppends x g y) (same ∙ between_bits a bounds range z i.held i.within) w)
+
+-- X.691 13.2.4: a number without bounds
+pub unbounded_presented : (x y : State) (value : Option (Extensible (Bounded ℤ))) (range : Bounds) (z n : ℤ) → value ≡ None → n ≡ z → holds range z ≡ true →
+    StateAppends x (number_under (variant_of x.codec) None None n) y → Presents x (Schema.number (bounds_in value) (is_marked value) range) (whole z) y
+unbounded_presented x y value range z n none is h w =
+    let a = variant_of x.codec in
+    rw none (subst (λ (g : Writer). StateAppends x g y) (ap (number_under a None None) is ∙ between_bits a unbounded range z h refl) w)
 
 -- X.691 11.2: octets of a type that isn't known
 any_bits : (a : Variant) (os : List ℕ) → unconstrained_octets a os ≡ canon a Schema.any (octets os)

@@ -3,3 +3,4 @@ pub mod Laws
 pub mod Records
 pub mod Rules
 pub mod Scopes
+pub mod Short

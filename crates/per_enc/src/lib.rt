@@ -1,13 +1,17 @@
 //! The canonical encoder of the packed encoding rules (ITU-T X.691).
 #![tactic(auto)]
 
-ghost use Rattle.std.specs.Prelude.{◌≡◌, true, false, Some, None, OnOk, OnErr, IfOk, IfErr};
+ghost use Rattle.std.specs.Prelude.{◌≡◌, true, false, Some, None, OnOk, OnErr, IfOk, IfErr, IsErrAnd, MatchOption};
+ghost use Rattle.rasn_types.specs.Values.{whole};
 ghost use Rattle.rasn_types.specs.declared.types.Codec.TheVariants.{Aper, Uper};
+ghost use Rattle.rasn_schema.specs.Forms.{number_schema};
+ghost use Rattle.rasn_traits.specs.Calls.{Writes};
 ghost use Rattle.per_core.specs.Canon.{completed};
 ghost use Rattle.per_enc.specs.Choices.{counted_variants};
 ghost use Rattle.per_enc.specs.Records.{counted_behind};
 ghost use Rattle.per_enc.specs.Rules.{emptied, encoding_rules, fresh, noting};
-ghost use Rattle.per_write.specs.Faults.{IsAlready, RefusesOutput};
+ghost use Rattle.per_enc.specs.Short.{PutsWhere};
+ghost use Rattle.per_write.specs.Faults.{IsAlready, IsMemory, RefusesOutput};
 ghost use Rattle.per_write.specs.State.{view};
 
 use per_bits::BitList;
@@ -161,8 +165,16 @@ impl<A: Allocator + Clone> Encoder<A> {
         ensures stays { OnErr result (self.new ≡ self.old) }
     {
         self.writer.check_unfailed()?;
-        self.writer.note_value(&mut self.set);
+        self.note_value();
         Ok(())
+    }
+
+    /// Begins a value where no call was refused before, as `begin_value` does.
+    #[inline(always)]
+    fn note_value(&mut self)
+        ensures { self.new ≡ noting self.old }
+    {
+        self.writer.note_value(&mut self.set);
     }
 
     /// Begins a value that others stand in, which no SET around it takes for its components. Answers what is kept of
@@ -178,6 +190,61 @@ impl<A: Allocator + Clone> Encoder<A> {
     {
         self.begin_value()?;
         Ok(self.set.take())
+    }
+}
+
+impl<A: Allocator + Clone> Encoder<A> {
+    /// Writes an INTEGER that an `i128` holds and that comes without an extension bit, under no bounds or within two,
+    /// where no call was refused before. Answers whether memory sufficed; else the encoder has failed. `None` where it
+    /// is another, and nothing has changed then. No error is made, and so none needs room.
+    #[inline(always)]
+    fn put_short_integer<I: IntegerType>(
+        &mut self,
+        constraints: &Constraints,
+        value: &I,
+    ) -> Option<bool>
+        ensures { let v = whole (I.number value.now) in
+            MatchOption result (self.new ≡ self.old)
+            (λ suffices. PutsWhere suffices (number_schema constraints.now I.range) v self.old self.new) }
+    {
+        if self.writer.has_failed() {
+            return None;
+        }
+        let Some(stated) = constraints.value() else {
+            let number = value.to_i128()?;
+            self.note_value();
+            return Some(self.writer.put_short_whole(number));
+        };
+        let Between {
+            lower,
+            upper,
+            number,
+        } = number_between(&stated, value)?;
+        self.note_value();
+        Some(self.writer.put_between(lower, upper, number))
+    }
+
+    /// Writes an INTEGER in whichever form its constraints give it (X.691 13), or says that memory ran out before.
+    #[inline(never)]
+    fn put_any_integer<I: IntegerType>(
+        &mut self,
+        is_out_of_memory: bool,
+        constraints: &Constraints,
+        value: &I,
+    ) -> Result<(), EncodeError>
+        ensures writes { is_out_of_memory ≡ false → Writes encoding_rules (number_schema constraints.now I.range)
+            (whole (I.number value.now)) self.old result self.new }
+        ensures memory { is_out_of_memory ≡ true → IsErrAnd result (λ e. IsMemory e self.old.writer) }
+        ensures stays { is_out_of_memory ≡ true → self.new ≡ self.old }
+    {
+        if is_out_of_memory {
+            return Err(self.writer.out_of_memory());
+        }
+        self.begin_value()?;
+        match constraints.value() {
+            Some(stated) => put_integer(&mut self.writer, stated, value),
+            None => self.writer.put_unconstrained_whole(value),
+        }
     }
 }
 
@@ -237,19 +304,9 @@ impl<A: Allocator + Clone> encoder::Encoder for Encoder<A> {
         value: &I,
         _identifier: Identifier,
     ) -> Result<(), EncodeError> {
-        self.begin_value()?;
-        match constraints.value() {
-            Some(stated) => match number_between(&stated, value) {
-                Some(
-                    Between {
-                        lower,
-                        upper,
-                        number,
-                    },
-                ) => self.writer.put_number(Some(lower), Some(upper), number),
-                None => put_integer(&mut self.writer, stated, value),
-            },
-            None => self.writer.put_unconstrained_whole(value),
+        match self.put_short_integer(constraints, value) {
+            Some(true) => Ok(()),
+            short => self.put_any_integer(short.is_some(), constraints, value),
         }
     }
 

@@ -173,6 +173,21 @@ impl<A: Allocator + Clone> Writer<A> {
         self.error(kind)
     }
 
+    /// Whether it has failed.
+    #[inline(always)]
+    pub fn has_failed(&self) -> bool
+        ensures { result ≡ self.now.failed }
+    {
+        self.failed
+    }
+
+    /// The error that says that memory ran out.
+    pub fn out_of_memory(&self) -> EncodeError
+        ensures { IsMemory result self.now }
+    {
+        self.error(EncodeErrorKind::OutOfMemory)
+    }
+
     /// Fails from now on.
     pub fn fail(&mut self)
         ensures { self.new ≡ record self.old { failed = true } }

@@ -1,13 +1,14 @@
 //! Whole numbers of an INTEGER, and what stands in front of them (X.691 11.5, 11.6, 13 and 14.3).
 
-ghost use Rattle.std.specs.Prelude.{◌≡◌, ◌≤◌, ◌+◌, ◌||◌, not, true, false, OnOk, IfOk};
+ghost use Rattle.std.specs.Prelude.{◌≡◌, ◌≤◌, ◌≤ℤ◌, ◌+◌, ◌||◌, not, true, false, None, Some, OnOk, IfOk, is_ok};
+ghost use Rattle.rasn_types.specs.Codecs.{variant_of};
 ghost use Rattle.rasn_types.specs.Octets.{signed_octets};
 ghost use Rattle.rasn_constraints.specs.Bounds.{holds, not_above, not_below};
 ghost use Rattle.per_core.specs.Canon.{extension_bit};
 ghost use Rattle.per_core.specs.Counts.{constrained_whole, number_under, small};
 ghost use Rattle.per_write.specs.Faults.{IsMemory};
 ghost use Rattle.per_write.specs.Numbers.{unconstrained_whole};
-ghost use Rattle.per_write.specs.State.{Puts, PutsIn};
+ghost use Rattle.per_write.specs.State.{Puts, PutsIn, StateAppends};
 
 use crate::Writer;
 use crate::error::EncodeError;
@@ -54,6 +55,49 @@ impl<A: Allocator + Clone> Writer<A> {
             }
             None => self.put_unconstrained_whole(&number),
         }
+    }
+
+    /// Writes a number that is within two bounds, as `put_number` does. Answers whether memory sufficed; else the
+    /// writer has failed. No error is made, and so none needs room.
+    #[inline(always)]
+    pub fn put_between(&mut self, lower: i128, upper: i128, number: i128) -> bool
+        requires begun { self.old.failed ≡ false }
+        requires lower { lower ≤ℤ number }
+        requires upper { number ≤ℤ upper }
+        ensures put { result ≡ true → StateAppends self.old
+            (number_under (variant_of self.old.codec) (Some lower) (Some upper) number) self.new }
+        ensures fails { result ≡ false → self.new.failed ≡ true }
+        ensures kept { self.new.codec ≡ self.old.codec }
+    {
+        let pushed = push_above(&mut self.pieces, self.codec, lower, Some(upper), number);
+        self.suffices(pushed)
+    }
+
+    /// Writes a number of an `i128` without bounds, as `put_unconstrained_whole` does. Answers whether memory sufficed;
+    /// else the writer has failed. No error is made, and so none needs room.
+    #[inline(always)]
+    #[tactic(auto, unfolding(per_core::specs::Counts::number_under))]
+    pub fn put_short_whole(&mut self, number: i128) -> bool
+        requires { self.old.failed ≡ false }
+        ensures put { result ≡ true → StateAppends self.old
+            (number_under (variant_of self.old.codec) None None number) self.new }
+        ensures fails { result ≡ false → self.new.failed ≡ true }
+        ensures kept { self.new.codec ≡ self.old.codec }
+    {
+        let pushed = push_unconstrained_whole(&mut self.pieces, self.codec, number);
+        self.suffices(pushed)
+    }
+
+    /// Whether memory sufficed for what was to be written; else the writer has failed.
+    #[inline(always)]
+    fn suffices(&mut self, pushed: Result<(), AllocError>) -> bool
+        requires { self.old.failed ≡ false }
+        ensures is { result ≡ is_ok pushed }
+        ensures kept { result ≡ true → self.new ≡ self.old }
+        ensures fails { result ≡ false → self.new ≡ record self.old { failed = true } }
+    {
+        self.failed = pushed.is_err();
+        pushed.is_ok()
     }
 
     /// Writes the extension bit of a type with an extension marker, whether what follows stands after the marker (X.691

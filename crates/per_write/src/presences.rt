@@ -68,7 +68,7 @@ impl<A: Allocator + Clone> Writer<A> {
     {
         Scope {
             presences: mem::replace(&mut self.presences, presences),
-            additions: mem::replace(&mut self.additions, additions),
+            additions: exchanged(&mut self.additions, additions),
             is_open: mem::replace(&mut self.is_open, true),
         }
     }
@@ -93,7 +93,22 @@ impl<A: Allocator + Clone> Writer<A> {
             is_open,
         } = outside;
         self.presences = presences;
-        self.additions = additions;
+        exchanged(&mut self.additions, additions);
         self.is_open = is_open;
     }
+}
+
+/// Puts additions in the place of others, and answers these. Where there are none, none are moved.
+#[inline(always)]
+fn exchanged<A: Allocator + Clone>(
+    place: &mut Option<Additions<A>>,
+    additions: Option<Additions<A>>,
+) -> Option<Additions<A>>
+    ensures before { result ≡ place.old }
+    ensures from_now_on { place.new ≡ additions }
+{
+    if place.is_none() && additions.is_none() {
+        return None;
+    }
+    mem::replace(place, additions)
 }

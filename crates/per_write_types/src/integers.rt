@@ -1,6 +1,6 @@
 //! INTEGER (X.691 13).
 
-ghost use Rattle.std.specs.Prelude.{◌≡◌, ◌<ℤ◌, ◌↔◌, IsTrue, pos, true, false, IfOk, IfSome};
+ghost use Rattle.std.specs.Prelude.{◌≡◌, ◌<ℤ◌, ◌↔◌, IsTrue, pos, true, false, IfOk, MatchOption};
 ghost use Rattle.rasn_types.specs.Octets.{signed};
 ghost use Rattle.rasn_types.specs.Values.{whole};
 ghost use Rattle.rasn_constraints.specs.Bounds.{holds};
@@ -8,6 +8,7 @@ ghost use Rattle.rasn_traits.specs.Calls.{Writes};
 ghost use Rattle.rasn_constraints.specs.Constraints.{bounds_of};
 ghost use Rattle.per_write.specs.Rules.{encoder_rules};
 ghost use Rattle.per_write_types.specs.Integers.{IsBetween, PutsWithin, stated_number};
+ghost use Rattle.per_write_types.specs.declared.integers.Between.{Between};
 
 use per_bits::BitList;
 use per_errors::bounds::OutOfBounds;
@@ -51,13 +52,14 @@ pub struct Between {
 }
 
 /// A number and its bounds, where there are both, it is within them, and no extension bit precedes it (X.691 13.2.1,
-/// 13.2.2): then `Writer::put_number` writes it. Else `None`.
+/// 13.2.2): then `Writer::put_between` writes it. `None` where this isn't so.
 #[inline(always)]
 pub fn number_between<I: IntegerType>(
     stated: &Extensible<Bounded<i128>>,
     value: &I,
 ) -> Option<Between>
-    ensures { IfSome result (λ b. IsBetween stated.now I.range (I.number value.now) b) }
+    ensures { let between = IsBetween stated.now I.range (I.number value.now) in
+        MatchOption result ((b : Between) → between b → ⊥) between }
 {
     let (Some(lower), Some(upper)) = stated.constraint.start_and_end() else {
         return None;
