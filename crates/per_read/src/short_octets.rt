@@ -21,8 +21,8 @@ use rasn_schema::constraints::{Bounded, Constraints};
 
 impl Reader<'_> {
     /// Skips an OCTET STRING as `skip_octet_string` does, where it comes without an extension bit and without fragments
-    /// (X.691 17). After `None`, which says that none stands there so, the reader is of no further use. No error is
-    /// made, and so none needs room.
+    /// (X.691 17). After `None`, which says that none of fewer than 16384 octets stands there so, the reader is of no
+    /// further use. No error is made, and so none needs room.
     #[inline(always)]
     pub fn skip_short_octet_string(&mut self, constraints: &Constraints) -> Option<usize>
         ensures took { let size = size_of constraints.now in let mark = is_size_marked constraints.now in
