@@ -7,6 +7,7 @@ pub mod Boxes
 pub mod Calls
 pub mod Choices
 pub mod Contents
+pub mod Counted
 pub mod Errors
 pub mod Lists
 pub mod Moments

@@ -1,0 +1,182 @@
+-- What the calls owe for types that are data: records by counts, items and alternatives by counts and places, stated
+-- over any codec's relations and for each family of schemas that is so counted.
+use Rattle.std.specs.Prelude.{◌≡◌, ℕ, suc, ◌⊎◌, Bool, true, false, ◌&&◌, nat_lt, List, [], ◌∷◌, Option, Some, None}
+use Rattle.std.specs.Prelude.{Result, Ok, Err, IfOk, IsErrAnd}
+use Rattle.rasn_types.specs.Values.{Value, Side, root, added, item, alternative, slots}
+use Rattle.rasn_types.specs.Values
+use Rattle.rasn_schema.specs.Choices.{alternative_in, one_level_in}
+use Rattle.rasn_schema.specs.Enumerations.{addeds_of, is_extensible}
+use Rattle.rasn_schema.specs.Lawful.{if_fields, presence_bits}
+use Rattle.rasn_schema.specs.Schemas
+use Rattle.rasn_schema.specs.Schemas.{count, default, listed, no_parts, part, Parts, Presence, required, Schema}
+use Rattle.rasn_schema.specs.declared.items.ItemCounts.{ItemCounts}
+use Rattle.rasn_schema.specs.declared.items.Place.{Place}
+use Rattle.rasn_schema.specs.declared.items.Place.TheVariants.{Root, Added}
+use Rattle.rasn_traits.specs.Calls.{Behaves, DecoderRules, EncoderRules, Refuses, Written}
+use Rattle.rasn_traits.specs.Additions.{ClosesGroup}
+use Rattle.rasn_traits.specs.Scopes.{ClosesWritten, OpensToRead, OpensToWrite}
+
+-- the list of a place, and where it stands there
+abbrev pub side_of : Place → Side
+side_of (Root i) = root
+side_of (Added i) = added
+
+abbrev pub index_in : Place → ℕ
+index_in (Root i) = i
+index_in (Added i) = i
+
+-- the item at a place
+abbrev pub item_at : Place → Value
+item_at p = item (side_of p) (index_in p)
+
+-- whether so many items, or alternatives, have one at a place
+abbrev pub stands_in : ItemCounts → Place → Bool
+stands_in c (Root i) = nat_lt i c.roots
+stands_in c (Added i) = nat_lt i (addeds_of c.addeds)
+
+-- Components and additions of which so many root components have a presence bit, and so many additions stand behind a
+-- marker, where there is one.
+pub record AreCounted (parts : ℕ → Parts) (marker : Bool) (additions : ℕ → Parts) (bits : ℕ) (added : Option ℕ)
+    : Type 0 where
+  pub bits_are : (n : ℕ) → bits ≡ presence_bits (parts n)
+  pub marked : marker ≡ is_extensible added
+  pub added_are : (n : ℕ) → addeds_of added ≡ count (additions n)
+
+-- A call that opens any record of such components.
+pub record OpensCounted {E X O : Type 0} (rules : EncoderRules E X) (opens : Schema → X → O → X → Type 0) (bits : ℕ)
+    (added : Option ℕ) (x : X) (result : Result O E) (y : X) : Type 0 where
+  pub opened : (parts : ℕ → Parts) (marker : Bool) (additions : ℕ → Parts)
+      → AreCounted parts marker additions bits added
+      → OpensToWrite rules opens listed parts marker additions x result y
+  pub behaves : Behaves rules.already rules.failed rules.codec x result y
+
+-- A call that closes any record. Without a marker it has no additions.
+pub record ClosesAny {E X O : Type 0} (rules : EncoderRules E X) (opens : Schema → X → O → X → Type 0) (o : O) (j : X)
+    (result : Result (Unit {0}) E) (y : X) : Type 0 where
+  pub closed : (parts : ℕ → Parts) (marker : Bool) (additions : ℕ → Parts)
+      → (marker ≡ false → (n : ℕ) → additions n ≡ no_parts)
+      → ClosesWritten rules opens listed parts marker additions o j result y
+  pub behaves : Behaves rules.already rules.failed rules.codec j result y
+
+-- whether a schema is a choice of so many alternatives
+abbrev pub IsChoiceOf : ItemCounts → Schema → Type 0
+IsChoiceOf c (Schema.choice ps qs marker) = (count ps ≡ c.roots) × (count qs ≡ addeds_of c.addeds)
+    × (marker ≡ is_extensible c.addeds)
+IsChoiceOf c _ = ⊥
+
+-- What passes out of a choice that was opened at x to write one of its alternatives, and inside which it is i: want of
+-- memory, and the refusal of that alternative, which is one of the choice.
+pub record PassesPlaced {E X : Type 0} (rules : EncoderRules E X) (c : Schema) (d : Side) (k : ℕ) (x i : X)
+    : Type 0 where
+  pub room : (e : E) → rules.memory e i → rules.memory e x
+  pub of_choice : (e : E) (s : Schema) (v : Value) → alternative_in c d k ≡ Some s
+      → rules.refuses e i s v → rules.refuses e x c (alternative d k v)
+
+-- Ok is inside a choice, where its alternative at a place is written, and Err, memory aside, refuses each such choice.
+abbrev pub PlacedOpened : {E X O : Type 0} → EncoderRules E X → (Schema → Side → ℕ → X → O → X → Type 0) → ItemCounts
+    → Side → ℕ → X → Result O E → X → Type 0
+PlacedOpened rules opens alternatives d k x (Ok o) i = (c : Schema) → IsChoiceOf alternatives c
+    → opens c d k x o i × PassesPlaced rules c d k x i
+PlacedOpened rules opens alternatives d k x (Err e) i = rules.memory e x
+    ⊎ ((c : Schema) (v : Value) → IsChoiceOf alternatives c → rules.refuses e x c (alternative d k v))
+
+-- A call that opens any choice of so many alternatives, to write the one at a place.
+pub record OpensPlaced {E X O : Type 0} (rules : EncoderRules E X) (opens : Schema → Side → ℕ → X → O → X → Type 0)
+    (alternatives : ItemCounts) (place : Place) (x : X) (result : Result O E) (y : X) : Type 0 where
+  pub law : PlacedOpened rules opens alternatives (side_of place) (index_in place) x result y
+  pub behaves : Behaves rules.already rules.failed rules.codec x result y
+
+-- A call that closes one, in which the alternative was presented: it answers as one call that writes the whole choice.
+pub record ClosesPlaced {E X O : Type 0} (rules : EncoderRules E X) (opens : Schema → Side → ℕ → X → O → X → Type 0)
+    (o : O) (j : X) (result : Result (Unit {0}) E) (y : X) : Type 0 where
+  pub law : (x i : X) (c : Schema) (d : Side) (k : ℕ) (s : Schema) (v : Value) → opens c d k x o i
+      → alternative_in c d k ≡ Some s → rules.presents i s v j → Written rules c (alternative d k v) x result y
+  pub behaves : Behaves rules.already rules.failed rules.codec j result y
+
+-- a schema of an addition group of which a root component is required, or none is; one that is cut off says nothing
+abbrev pub IsGroupOf : Bool → Schema → Type 0
+IsGroupOf b (Schema.sequence listed ps ext adds) = b ≡ nat_lt (presence_bits ps) (count ps)
+IsGroupOf b Schema.cut = Unit {0}
+IsGroupOf b _ = ⊥
+
+-- A call that closes an open type in which any such group was presented.
+pub record ClosesGroupOf {E X O : Type 0} (rules : EncoderRules E X) (opens : X → O → X → Type 0) (has_required : Bool)
+    (o : O) (j : X) (result : Result (Unit {0}) E) (y : X) : Type 0 where
+  pub closed : (schema : ℕ → Schema) → ((n : ℕ) → IsGroupOf has_required (schema n))
+      → ClosesGroup rules opens schema o j result y
+  pub behaves : Behaves rules.already rules.failed rules.codec j result y
+
+-- X.680 25.6: whether a part may be absent, or there, as it is
+abbrev pub may_be : Presence → Option Value → Bool
+may_be required None = false
+may_be (default d) None = false
+may_be p r = true
+
+-- whether what stands for parts is as many, and there where it has to be
+abbrev pub all_may_be : Parts → List (Option Value) → Bool
+all_may_be no_parts [] = true
+all_may_be no_parts (x ∷ xs) = false
+all_may_be (part t p s ps) [] = false
+all_may_be (part t p s ps) (x ∷ xs) = may_be p x && all_may_be ps xs
+
+-- whether a list has a member at an index
+abbrev pub has_at : Parts → ℕ → Bool
+has_at ps i = nat_lt i (count ps)
+
+-- whether a value is of a schema's kind, its outermost level alone
+abbrev pub is_of_kind : Schema → Value → Bool
+is_of_kind Schemas.boolean (Values.truth b) = true
+is_of_kind Schemas.null Values.nothing = true
+is_of_kind (Schemas.number bounds mark range) (Values.whole z) = true
+is_of_kind (Schemas.items roots addeds ext) (Values.item root i) = nat_lt i roots
+is_of_kind (Schemas.items roots addeds ext) (Values.item added i) = nat_lt i addeds
+is_of_kind (Schemas.octet_string size mark) (Values.octets os) = true
+is_of_kind Schemas.any (Values.octets os) = true
+is_of_kind (Schemas.text kind) (Values.octets os) = true
+is_of_kind Schemas.identifier (Values.octets os) = true
+is_of_kind (Schemas.bit_string size mark named) (Values.bits bs) = true
+is_of_kind (Schemas.char_string alphabet size mark) (Values.characters cs) = true
+is_of_kind (Schemas.time kind) (Values.characters cs) = true
+is_of_kind Schemas.date (Values.day y m d) = true
+is_of_kind (Schemas.containing s) v = is_of_kind s v
+is_of_kind (Schemas.list e size mark) (Values.elements vs) = true
+is_of_kind (Schemas.set_of e size mark) (Values.bag vs) = true
+is_of_kind (Schemas.sequence o ps ext adds) (Values.fields rs xs) = all_may_be ps (slots rs)
+    && all_may_be adds (slots xs)
+is_of_kind (Schemas.choice ps adds ext) (Values.alternative root i v) = has_at ps i
+is_of_kind (Schemas.choice ps adds ext) (Values.alternative added i v) = has_at adds i
+is_of_kind _ v = false
+
+-- A call of an encoder that refuses a value which isn't of its schema's kind. It takes no memory.
+pub record WritesOther {E X : Type 0} (rules : EncoderRules E X) (x : X) (result : Result (Unit {0}) E)
+    (y : X) : Type 0 where
+  pub law : IsErrAnd result (λ e. (s : Schema) (v : Value) → is_of_kind s v ≡ false → rules.refuses e x s v)
+  pub behaves : Behaves rules.already rules.failed rules.codec x result y
+
+-- A call that opens any record of components and additions that are so counted, to read it.
+pub record OpensCountedToRead {E S O : Type 0} (rules : DecoderRules E S) (opens : Schema → S → O → S → Type 0)
+    (bits : ℕ) (added : Option ℕ) (s : S) (result : Result O E) (t : S) : Type 0 where
+  pub opened : (parts : ℕ → Parts) (marker : Bool) (additions : ℕ → Parts)
+      → AreCounted parts marker additions bits added → OpensToRead rules opens parts marker additions s result t
+  pub deeper : IfOk result (λ o. rules.levels s ≡ suc (rules.levels t))
+  pub behaves : Behaves rules.already rules.failed rules.codec s result t
+
+-- Ok is where the alternative at a place stands, one level deeper, and Err, memory aside, comes only where no choice is
+-- read.
+abbrev pub PlacedToRead : {E S O : Type 0} → DecoderRules E S → (Schema → Side → ℕ → S → O → S → Type 0)
+    → (ℕ → Schema) → S → Result (Place × O) E → S → Type 0
+PlacedToRead rules opens choice s (Ok r) i =
+    opens (choice (rules.levels i)) (side_of r.0) (index_in r.0) s r.1 i
+PlacedToRead rules opens choice s (Err e) i =
+    let c = one_level_in choice (rules.levels s) in rules.memory e s ⊎ Refuses (rules.spells c) (rules.fault c) e s
+
+-- A call that reads the index of any choice of so many alternatives, and opens the open type of one behind the
+-- extension marker.
+pub record OpensPlacedToRead {E S O : Type 0} (rules : DecoderRules E S)
+    (opens : Schema → Side → ℕ → S → O → S → Type 0) (alternatives : ItemCounts) (s : S)
+    (result : Result (Place × O) E) (t : S) : Type 0 where
+  pub opened : (choice : ℕ → Schema) → ((n : ℕ) → IsChoiceOf alternatives (choice n))
+      → PlacedToRead rules opens choice s result t
+  pub place : IfOk result (λ r. stands_in alternatives r.0 ≡ true)
+  pub deeper : IfOk result (λ r. rules.levels s ≡ suc (rules.levels t))
+  pub behaves : Behaves rules.already rules.failed rules.codec s result t

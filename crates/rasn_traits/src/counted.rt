@@ -1,0 +1,111 @@
+//! Calls for types that are data: a record by how many of its components have presence bits and how many additions it
+//! has, an item and an alternative by how many there are and where it stands.
+
+ghost use Rattle.std.specs.Prelude.{ℕ};
+ghost use Rattle.rasn_types.specs.Values.{Side};
+ghost use Rattle.rasn_schema.specs.Enumerations.{items_of};
+ghost use Rattle.rasn_schema.specs.Schemas.{Schema};
+ghost use Rattle.rasn_traits.specs.Calls.{freely_read, Reads, Writes};
+ghost use Rattle.rasn_traits.specs.Counted.{ClosesAny, ClosesGroupOf, ClosesPlaced, OpensCounted, OpensPlaced};
+ghost use Rattle.rasn_traits.specs.Counted.{OpensCountedToRead, OpensPlacedToRead, WritesOther, item_at, stands_in};
+ghost use Rattle.std.specs.Prelude.{◌≡◌, true};
+
+use crate::decoder::Decoder;
+use crate::encoder::Encoder;
+use rasn_schema::items::{ItemCounts, Place};
+use rasn_types::types::{Identifier, Tag};
+
+/// An encoder of types that are data.
+pub trait CountedEncoder: Encoder {
+    /// What waits outside while a choice is open of which the alternative is known.
+    type Placed: Drop;
+
+    // A choice is opened to write the alternative at a place: what was before, what waits outside, and how it is inside.
+    ghost opens_placed: { Schema → Side → ℕ → Self → Self.Placed → Self → Type 0 };
+
+    /// Writes the item of an ENUMERATED that stands at a place (X.691 14).
+    fn encode_item(
+        &mut self,
+        tag: Tag,
+        items: ItemCounts,
+        place: Place,
+        identifier: Identifier,
+    ) -> Result<(), Self::Error>
+        requires { stands_in items place ≡ true }
+        ensures { Writes Self.rules (items_of items) (item_at place) self.old result self.new };
+
+    /// Opens a SEQUENCE (X.691 19), or a SET whose components come in ascending order of their smallest tags (X.691
+    /// 21): so many of its root components have a presence bit, and so many additions stand behind its extension
+    /// marker, where it has one. The calls from here to `close_record` write its root components, and then give its
+    /// additions.
+    fn open_record(
+        &mut self,
+        tag: Tag,
+        presence_bits: usize,
+        additions: Option<usize>,
+        identifier: Identifier,
+    ) -> Result<Self::Scope, Self::Error>
+        ensures { OpensCounted Self.rules Self.opens presence_bits additions self.old result self.new };
+
+    /// Closes a record in which its components were written and its additions given.
+    fn close_record(&mut self, scope: Self::Scope) -> Result<(), Self::Error>
+        ensures { ClosesAny Self.rules Self.opens scope self.old result self.new };
+
+    /// Opens a CHOICE (X.691 23) of so many alternatives, to write the one at a place: the calls from here to
+    /// `close_alternative` write its value.
+    fn open_alternative(
+        &mut self,
+        tag: Tag,
+        alternatives: ItemCounts,
+        place: Place,
+        identifier: Identifier,
+    ) -> Result<Self::Placed, Self::Error>
+        requires { stands_in alternatives place ≡ true }
+        ensures { OpensPlaced Self.rules opens_placed alternatives place self.old result self.new };
+
+    /// Closes a CHOICE in which the value of its alternative was written.
+    fn close_alternative(&mut self, outside: Self::Placed) -> Result<(), Self::Error>
+        ensures { ClosesPlaced Self.rules opens_placed outside self.old result self.new };
+
+    /// Closes an open type in which an addition group was written, of which a root component is required or none is:
+    /// one that holds nothing is given as absent (X.691 19.9).
+    fn close_group_of(
+        &mut self,
+        addition: Self::Addition,
+        has_required: bool,
+    ) -> Result<(), Self::Error>
+        ensures { ClosesGroupOf Self.rules Self.opens_addition has_required addition self.old result self.new };
+
+    /// Refuses a value that isn't of its type's kind. Takes no memory.
+    fn refuse_other(&mut self) -> Result<(), Self::Error>
+        ensures { WritesOther Self.rules self.old result self.new };
+}
+
+/// A decoder of types that are data.
+pub trait CountedDecoder: Decoder {
+    /// Reads an item of an ENUMERATED (X.691 14), and answers where it stands. Takes no memory.
+    fn decode_item(&mut self, tag: Tag, items: ItemCounts) -> Result<Place, Self::Error>
+        ensures { Reads (freely_read Self.rules) (items_of items) item_at self.old result self.new };
+
+    /// Opens a SEQUENCE (X.691 19), or a SET whose components are read in ascending order of their smallest tags (X.691
+    /// 21), which takes a level: so many of its root components have a presence bit, and so many additions stand behind
+    /// its extension marker, where it has one. The calls from here to `close_sequence` read its root components, and
+    /// then its additions. At no level left it refuses.
+    fn open_record(
+        &mut self,
+        tag: Tag,
+        presence_bits: usize,
+        additions: Option<usize>,
+    ) -> Result<Self::Scope, Self::Error>
+        ensures { OpensCountedToRead Self.rules Self.opens presence_bits additions self.old result self.new };
+
+    /// Reads the index of a CHOICE of so many alternatives (X.691 23), which takes a level, answers where its
+    /// alternative stands, and opens the open type of one behind the extension marker (X.691 23.8): the calls from here
+    /// to `close_choice` read the value of the alternative. At no level left it refuses.
+    fn open_alternative(
+        &mut self,
+        tag: Tag,
+        alternatives: ItemCounts,
+    ) -> Result<(Place, Self::Alternative), Self::Error>
+        ensures { OpensPlacedToRead Self.rules Self.opens_choice alternatives self.old result self.new };
+}
