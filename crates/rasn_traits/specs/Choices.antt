@@ -1,7 +1,7 @@
 -- What a call owes that writes or reads a choice (X.680 29), and what stands in it, stated over any codec's relations.
 -- `choice` is the choice by the number of levels of its alternatives, `vs` and `xs` are its variants before an
 -- extension marker and behind one, and `d` and `k` are the list and the place there in which an alternative stands.
-use Rattle.std.specs.Prelude.{◌≡◌, ℕ, suc, ◌≤◌, ◌⊎◌, true, false, Result, Ok, Err, OnErr, IsErr, IsErrAnd, IfOk, IfSome}
+use Rattle.std.specs.Prelude.{◌≡◌, ℕ, suc, ◌≤◌, ◌⊎◌, true, false, Result, Ok, Err, OnErr, IsErrAnd, IfSome}
 use Rattle.std.specs.Prelude.{List, Option, Some, None}
 use Rattle.rasn_types.specs.Values.{Value, alternative, Side, root, added}
 use Rattle.rasn_types.specs.declared.types.Tag.{Tag}
@@ -13,7 +13,7 @@ use Rattle.rasn_schema.specs.Components.{Chosen}
 use Rattle.rasn_schema.specs.Fields.{tag_of}
 use Rattle.rasn_schema.specs.Normal.{normal}
 use Rattle.rasn_traits.specs.Calls.{AtDepths, Behaves, EncoderRules, Encodes, Written, DecoderRules, Refuses, Answers}
-use Rattle.rasn_traits.specs.Scopes.{Ends, KeepsCodec}
+use Rattle.rasn_traits.specs.Scopes.{KeepsCodec}
 
 -- a fact on the schema of the alternative at a place, at each unfolding that is deep enough for a value of so many
 -- levels
@@ -73,11 +73,27 @@ pub record WritesAlternative {E X : Type 0} (rules : EncoderRules E X) (choice :
   pub keeps : (x : X) (r : Result Tag E) (y : X) → returns x r y → AtAlternative choice d k depth
       (λ s. AlternativeWritten rules (variants_on d vs xs) k s (normal s v) x r y)
 
--- A function that is lent an encoder answers no tag by which an alternative goes.
-pub record ChoosesNone {E X : Type 0} (vs : List VariantShape) (xs : Option (List VariantShape))
-    (returns : X → Result Tag E → X → Type 0) : Type 0 where
-  pub none : (x : X) (r : Result Tag E) (y : X) → returns x r y → IfOk r
-      (λ t. (place_of (tag_of t) vs ≡ None) × (place_of (tag_of t) (variants_behind xs) ≡ None))
+-- An error by which opening a choice is refused, memory aside that of each of its values.
+abbrev pub UnopenedChoice : {E X : Type 0} → EncoderRules E X → (ℕ → Schema) → X → E → Type 0
+UnopenedChoice rules choice x e = rules.memory e x ⊎ ((n : ℕ) (w : Value) → rules.refuses e x (choice n) w)
+
+-- An error that says that no alternative goes by a tag, or that the encoder had failed before it was told the tag.
+abbrev pub Unchosen : {E X : Type 0} → EncoderRules E X → X → E → Type 0
+Unchosen rules j e = rules.already e j ⊎ rules.unchosen e j
+
+-- How a call answers that is around a function which writes an alternative and answers its tag: an error by which the
+-- choice isn't opened, where the function wasn't called; the function's own error; and, where it answered Ok, an error
+-- that says so if it left the encoder failed, or if no alternative goes by its tag.
+pub data EndsChoice {E X : Type 0} (rules : EncoderRules E X) (choice : ℕ → Schema) (vs : List VariantShape)
+    (xs : Option (List VariantShape)) (returns : X → Result Tag E → X → Type 0) (x : X) (result : Result (Unit {0}) E)
+    : Type 0 where
+  ends_unopened : IsErrAnd result (UnopenedChoice rules choice x) → EndsChoice rules choice vs xs returns x result
+  ends_refused : {i j : X} {e : E} → returns i (Err e) j → result ≡ Err e
+      → EndsChoice rules choice vs xs returns x result
+  ends_chosen : {i j : X} {t : Tag} → returns i (Ok t) j
+      → (rules.failed j ≡ true → IsErrAnd result (λ e. rules.already e j))
+      → (place_of (tag_of t) vs ≡ None → place_of (tag_of t) (variants_behind xs) ≡ None
+      → IsErrAnd result (Unchosen rules j)) → EndsChoice rules choice vs xs returns x result
 
 -- A call that writes a choice by a function that is lent the encoder.
 pub record WritesChoice {E X : Type 0} (rules : EncoderRules E X) (choice : ℕ → Schema) (vs : List VariantShape)
@@ -85,8 +101,7 @@ pub record WritesChoice {E X : Type 0} (rules : EncoderRules E X) (choice : ℕ 
     (y : X) : Type 0 where
   pub law : (d : Side) (k : ℕ) (v : Value) (depth : ℕ) → WritesAlternative rules choice vs xs d k v depth returns
       → AtDepths (one_level_in choice) (suc depth) (λ s. Written rules s (normal s (alternative d k v)) x result y)
-  pub unknown : ChoosesNone vs xs returns → IsErr result
-  pub swallowed : Ends rules.already rules.failed returns result
+  pub ends : EndsChoice rules choice vs xs returns x result
   pub again : rules.failed x ≡ true → IsErrAnd result (λ e. rules.already e x)
   pub fails : OnErr result (rules.failed y ≡ true)
   pub kept : KeepsCodec rules.codec returns → rules.codec y ≡ rules.codec x
@@ -98,13 +113,25 @@ EncodesAt rules choice d place schema depth v x result y =
     IfSome place (λ k. ((n : ℕ) → alternative_in (choice n) d k ≡ Some (schema n))
     → Encodes rules (one_level_in choice) (suc depth) (alternative d k v) x result y)
 
+-- How a value is refused under a tag by which no alternative of a choice goes: the choice isn't opened, the value itself
+-- is refused, or the tag.
+pub data RefusesUnknown {E X : Type 0} (rules : EncoderRules E X) (choice schema : ℕ → Schema) (depth : ℕ) (v : Value)
+    (x : X) (e : E) : Type 0 where
+  unknown_unopened : UnopenedChoice rules choice x e → RefusesUnknown rules choice schema depth v x e
+  unknown_value : {i : X} → AtDepths schema depth (λ s. rules.memory e x ⊎ rules.refuses e i s (normal s v))
+      → RefusesUnknown rules choice schema depth v x e
+  unknown_tag : {j : X} → Unchosen rules j e → RefusesUnknown rules choice schema depth v x e
+
 -- A call that writes a choice by the value of one alternative, which goes by a tag: before an extension marker, or
--- behind it.
+-- behind it. A tag by which none goes is refused.
 pub record EncodesAlternative {E X : Type 0} (rules : EncoderRules E X) (choice : ℕ → Schema) (vs : List VariantShape)
     (xs : Option (List VariantShape)) (tag : Schemas.Tag) (schema : ℕ → Schema) (depth : ℕ) (v : Value) (x : X)
     (result : Result (Unit {0}) E) (y : X) : Type 0 where
   pub before : EncodesAt rules choice root (place_of tag vs) schema depth v x result y
   pub behind : EncodesAt rules choice added (place_of tag (variants_behind xs)) schema depth v x result y
+  pub unknown : place_of tag vs ≡ None → place_of tag (variants_behind xs) ≡ None
+      → IsErrAnd result (RefusesUnknown rules choice schema depth v x)
+  pub behaves : Behaves rules.already rules.failed rules.codec x result y
 
 -- The alternative at a place is read: the choice of its value.
 abbrev pub ReadsAlternative : {E S : Type 0} → DecoderRules E S → Side → ℕ → Schema → S → Value → S → Type 0

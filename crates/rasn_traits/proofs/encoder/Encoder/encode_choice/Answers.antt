@@ -2,7 +2,7 @@ use Rattle.std.proofs.Common.{refl, ◌∙◌, rules}
 use Rattle.std.specs.Fn.{FnOnceReturnsAtMut}
 use Rattle.std.proofs.lemmas.Result.{err_from_is_err_and}
 use Rattle.rasn_schema.specs.Choices.{variants_on}
-use Rattle.rasn_traits.specs.Scopes.{ends_refused, ends_left}
+use Rattle.rasn_traits.specs.Choices.{ends_unopened, ends_refused, ends_chosen}
 use Rattle.rasn_traits.proofs.Alternatives.{choice_refused, choice_closed}
 use Rattle.rasn_traits.proofs.encoder.Encoder.encode_choice.Goals as goal
 
@@ -14,8 +14,7 @@ returns-in-Err g c =
       law = λ d k v depth owed.
           let w = rw c.in-Err.is at (owed.keeps c.open_choice.new.self c.scope.result c.scope.new.arg2 gave) in
           choice_refused g.Self.Encoder.rules _ (variants_on d g.C.Choice.VARIANTS g.C.Choice.EXTENDED_VARIANTS) d k v depth _ c.open_choice.new.self c.scope.new.arg2 c.args.self.now _ (λ n. (o n).1) w;
-      unknown = λ _. refl;
-      swallowed = ends_refused (rw c.in-Err.is at gave) refl;
+      ends = ends_refused (rw c.in-Err.is at gave) refl;
       again = search rules;
       fails = search rules;
       kept = λ owed. c.fail.ensures.kept ∙ owed.stays c.open_choice.new.self c.scope.result c.scope.new.arg2 gave ∙ c.in_ok-outside.ensures.behaves.kept;
@@ -30,12 +29,19 @@ returns-in-Ok g c =
           let w = rw c.in-Ok.is at (owed.keeps c.open_choice.new.self c.scope.result c.scope.new.arg2 gave) in
           choice_closed g.Self.Encoder.rules g.Self.Encoder.opens_choice _ g.C.Choice.VARIANTS g.C.Choice.EXTENDED_VARIANTS d k v depth
           c.args.self.now c.open_choice.new.self c.scope.new.arg2 _ _ (λ n. (o n).0) w _ _ c.close_choice.ensures;
-      unknown = λ owed.
-          let none = rw c.in-Ok.is at (owed.none c.open_choice.new.self c.scope.result c.scope.new.arg2 gave) in
-          let refused = err_from_is_err_and c.close_choice.result (c.close_choice.ensures.unknown none.0 none.1) in
-          rw refused.1 refl;
-      swallowed = ends_left (rw c.in-Ok.is at gave) c.close_choice.ensures.behaves.again;
+      ends = ends_chosen (rw c.in-Ok.is at gave) c.close_choice.ensures.behaves.again c.close_choice.ensures.unknown;
       again = search rules;
       fails = search rules;
       kept = λ owed. c.close_choice.ensures.behaves.kept ∙ owed.stays c.open_choice.new.self c.scope.result c.scope.new.arg2 gave ∙ c.in_ok-outside.ensures.behaves.kept;
+    }
+
+pub returns-in_err-outside : goal.returns-in_err-outside
+returns-in_err-outside g c =
+    let p = err_from_is_err_and c.from_residual.result c.from_residual.ensures.1 in
+    record {
+      law = λ d k v depth owed. search rules;
+      ends = ends_unopened (rw (p.1, p.2) c.in_err-outside.ensures.law);
+      again = search rules;
+      fails = search rules;
+      kept = search rules;
     }
