@@ -71,6 +71,7 @@ encoding_rules = record {
   unmarked = λ e x. IsUnmarkedWhere e x.set x.writer;
   surplus = λ e x. IsSurplus e x.writer;
   unchosen = λ e x. IsError VariantNotInChoice e x.writer;
+  untimely = λ e x. IsError OutOfTurn e x.writer;
   memory = λ e x. IsMemory e x.writer;
   already = λ e x. IsAlready e x.writer;
   failed = λ x. x.writer.failed;

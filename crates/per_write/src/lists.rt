@@ -7,7 +7,7 @@ ghost use Rattle.rasn_schema.specs.Forms.{is_size_marked, size_of};
 ghost use Rattle.rasn_traits.specs.Lists.{ClosesList, OpensList};
 ghost use Rattle.per_core.specs.Counts.{counted, counted_in, fragment_sizes, in_fragments, list_items};
 ghost use Rattle.per_write.specs.Faults.{IsMemory};
-ghost use Rattle.per_write.specs.Lists.{IsOpenList, BeginsItems, EntersItems, NextElement, RefusesCount};
+ghost use Rattle.per_write.specs.Lists.{IsOpenList, BeginsItems, EntersItems, NextElement, RefusesCount, count_left};
 ghost use Rattle.per_write.specs.Rules.{encoder_rules};
 
 use crate::Writer;
@@ -27,6 +27,15 @@ pub struct UnwrittenElements {
     behind: Option<usize>,
     // Whether anything was open around the list.
     around: bool,
+}
+
+impl UnwrittenElements {
+    /// How many elements are still to be written.
+    pub fn count_left(&self) -> u128
+        ensures { result ≡ count_left self.now }
+    {
+        self.fragment as u128 + self.behind.unwrap_or(0) as u128
+    }
 }
 
 /// Opens a SEQUENCE OF so many elements under constraints (X.691 20): writes what stands in front of the first.
@@ -78,7 +87,7 @@ pub fn next_element<A: Allocator + Clone>(
 }
 
 /// Closes a list: behind fragments of 16384 elements or more a last length is written, which is zero. What was open
-/// around it is open still.
+/// around it is open still. Where an element is left it refuses.
 pub fn close_list<A: Allocator + Clone>(
     writer: &mut Writer<A>,
     list: UnwrittenElements,
@@ -86,6 +95,9 @@ pub fn close_list<A: Allocator + Clone>(
     requires { writer.old.failed ≡ false }
     ensures { ClosesList encoder_rules IsOpenList list writer.old result writer.new }
 {
+    if list.count_left() > 0 {
+        return Err(writer.refuse(EncodeErrorKind::OutOfTurn));
+    }
     writer.set_open(list.around);
     match list.behind {
         Some(count) => writer.put_unconstrained_length(count),

@@ -2,7 +2,7 @@
 use Rattle.std.specs.Prelude.{Result, Ok, Err}
 use Rattle.std.proofs.Common.{◌≡◌, ◌⊎◌, inl, inr, refl, sym, ap, ap₂, subst, ◌∙◌, ℕ, suc, ◌+◌, ◌%◌, ◌<◌, ◌≤◌, Bool, false, List, [], ◌∷◌, ◌++◌, map, length, drop, get_or, append_assoc, append-nil, arith, Option, Some, None}
 use Rattle.std.proofs.Math.Path.{fun_ext}
-use Rattle.std.proofs.lemmas.List.{drop_all, map-append}
+use Rattle.std.proofs.lemmas.List.{drop_all, length-append, map-append}
 use Rattle.rasn_types.specs.Bits.{Bits}
 use Rattle.rasn_types.specs.Codecs.{variant_of}
 use Rattle.rasn_types.specs.Values.{Value, bag_of}
@@ -24,9 +24,10 @@ use Rattle.per_write_types.specs.Members.{writers_of}
 use Rattle.per_write_types.specs.Written.{AreWritten}
 use Rattle.per_write.specs.declared.error.EncodeError.{EncodeError}
 use Rattle.per_write.specs.declared.lists.UnwrittenElements.{UnwrittenElements}
-use Rattle.per_write.specs.Faults.{HasElement, IsMemory, RefusesValue}
+use Rattle.per_write.specs.declared.error.EncodeErrorKind.TheVariants.{OutOfTurn}
+use Rattle.per_write.specs.Faults.{HasElement, IsError, IsMemory, RefusesValue}
 use Rattle.per_write.specs.Unplaced.{BeginsUnplaced, OutsideUnplaced}
-use Rattle.per_write.specs.Lists.{IsOpenList, Enters, EntersItems, RefusesCount, count_memory, count_outside}
+use Rattle.per_write.specs.Lists.{IsOpenList, Enters, EntersItems, RefusesCount, count_left, count_memory, count_outside}
 use Rattle.per_write.specs.Rules.{encoder_rules}
 use Rattle.per_write.specs.State.{Scope, State, StateAppends}
 use Rattle.per_write.proofs.Elements.{element_in, list_begun, list_law}
@@ -213,3 +214,33 @@ pub all_put : (ms : List (List Piece)) (l m : UnwrittenElements) (y z t : State)
 all_put ms l m y z t i result h over c f x g e =
     let n : length ms ≡ length f.all = sym (length-map' writer_of ms) ∙ ap length e ∙ length-map' (canon (variant_of x.codec) f.element) f.all in
     c.law f x (subst (λ (vs : List Value). IsOpenList f x vs m z) (drop_all i f.all (omega (arith, n, over))) (h.amid f x g e))
+
+-- of a bag's members so many were written and so many are still to be
+pub members_left : (f : ListForm) (x : State) (vs : List Value) (b : OpenBag) (y : State) → IsOpenBag f x vs b y
+    → count_left b.list ≡ length (with_begun b.waiting y b.members) + length vs
+members_left f x vs b y h =
+    let kept : length (with_begun b.waiting y b.members) ≡ length h.front =
+    sym (length-map' writer_of (with_begun b.waiting y b.members)) ∙ ap length h.members ∙ length-map' (canon (variant_of x.codec) f.element) h.front in
+    (h.amid f.all refl).counted ∙ ap length h.all_is ∙ length-append h.front vs ∙ ap (λ (n : ℕ). n + length vs) (sym kept)
+
+-- an error that a call came out of turn, as it was before the member that was begun is kept
+pub out_of_turn : (y z : State) (d : EncodeError) → z.codec ≡ y.codec → IsError OutOfTurn d z → IsError OutOfTurn d y
+out_of_turn y z d k e = record { kind_is = e.kind_is; codec_is = e.codec_is ∙ k }
+
+-- where all were presented, none is left once the member that was begun is kept
+pub all_kept : (f : ListForm) (x : State) (b : OpenBag) (y : State) → IsOpenBag f x [] b y → (c : OpenBag) → c ≡ record { list = b.list; members = with_begun b.waiting y b.members; waiting = None }
+    → length c.members < count_left c.list → ⊥
+all_kept f x b y h c is l =
+    let n = members_left f x [] b y h in
+    let m : length c.members ≡ length (with_begun b.waiting y b.members) = ap (λ (q : OpenBag). length q.members) is in
+    let k : count_left c.list ≡ count_left b.list = ap (λ (q : OpenBag). count_left q.list) is in
+    omega (arith, n, m, k, l)
+
+-- and where one is still to be presented, not all are kept
+pub some_left : (f : ListForm) (x : State) (v : Value) (vs : List Value) (b : OpenBag) (y : State) → IsOpenBag f x (v ∷ vs) b y → (c : OpenBag)
+    → c ≡ record { list = b.list; members = with_begun b.waiting y b.members; waiting = None } → count_left c.list ≤ length c.members → ⊥
+some_left f x v vs b y h c is l =
+    let n = members_left f x (v ∷ vs) b y h in
+    let m : length c.members ≡ length (with_begun b.waiting y b.members) = ap (λ (q : OpenBag). length q.members) is in
+    let k : count_left c.list ≡ count_left b.list = ap (λ (q : OpenBag). count_left q.list) is in
+    omega (arith, n, m, k, l)

@@ -1,15 +1,16 @@
 //! SET OF (ITU-T X.691 22), whose members are written one after another from outside, each before its place is known,
 //! and stand in ascending order of their complete encodings.
 
-ghost use Rattle.std.specs.Prelude.{◌≡◌, false};
+ghost use Rattle.std.specs.Prelude.{◌≡◌, ◌<◌, ◌≤◌, false, length, true};
 ghost use Rattle.rasn_schema.specs.Forms.{is_size_marked, size_of};
 ghost use Rattle.rasn_traits.specs.Bags.{ClosesBag, OpensBag, WritesMember};
 ghost use Rattle.per_write_types.specs.Members.{writers_of};
 ghost use Rattle.per_write_types.specs.Bags.{IsOpenBag, KeepsMember, PutsMembers};
+ghost use Rattle.per_write.specs.Lists.{count_left};
 ghost use Rattle.per_write.specs.Rules.{encoder_rules};
 
 use crate::members::Members;
-use per_write::error::EncodeError;
+use per_write::error::{EncodeError, EncodeErrorKind};
 use per_write::lists::{UnwrittenElements, begin_list, close_list, next_element};
 use per_write::{OutsideUnplaced, Writer};
 use rasn_schema::schema::Constraints;
@@ -55,27 +56,42 @@ impl<A: Allocator + Clone> OpenBag<A> {
         })
     }
 
-    /// Goes on to the next member, which is written before its place is known.
+    /// Goes on to the next member, which is written before its place is known. Where all were written it refuses.
     pub fn next_member(&mut self, writer: &mut Writer<A>) -> Result<(), EncodeError>
         requires { writer.old.failed ≡ false }
         ensures { WritesMember encoder_rules IsOpenBag self.old writer.old result self.new writer.new }
     {
         self.keep_member(writer)?;
+        if self.has_all() {
+            return Err(writer.refuse(EncodeErrorKind::OutOfTurn));
+        }
         let waiting = writer.open_unplaced()?;
         self.waiting = Some(waiting);
         Ok(())
     }
 
     /// Closes a SET OF of which all members were written: they are put in ascending order of their complete encodings.
+    /// Where a member is left it refuses.
     pub fn close(mut self, writer: &mut Writer<A>) -> Result<(), EncodeError>
         requires { writer.old.failed ≡ false }
         ensures { ClosesBag encoder_rules IsOpenBag self writer.old result writer.new }
     {
         self.keep_member(writer)?;
+        if !self.has_all() {
+            return Err(writer.refuse(EncodeErrorKind::OutOfTurn));
+        }
         let sorted = self.members.sort();
         writer.unless_out_of_memory(sorted)?;
         let OpenBag { list, members, .. } = self;
         put_members(writer, list, &members)
+    }
+
+    /// Whether all members were written and kept.
+    fn has_all(&self) -> bool
+        ensures all { result ≡ true → count_left self.now.list ≤ length self.now.members }
+        ensures some { result ≡ false → length self.now.members < count_left self.now.list }
+    {
+        self.list.count_left() <= self.members.len() as u128
     }
 
     /// Keeps the member that was begun, if one was: what waited is there again.

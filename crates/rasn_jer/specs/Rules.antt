@@ -133,6 +133,7 @@ jer_rules = record {
   unmarked = IsOutside;
   surplus = IsOutside;
   unchosen = λ e x. e ≡ VariantNotInChoice;
+  untimely = λ e x. e ≡ OutOfTurn;
   memory = λ e x. e ≡ OutOfMemory;
   already = λ e x. e ≡ AlreadyFailed;
   failed = λ x. x.failed;

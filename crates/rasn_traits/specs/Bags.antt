@@ -1,11 +1,11 @@
 -- What stands in an open SET OF, member after member, and what opening, going on and closing one owe, stated over any
 -- encoder's relations. The members come in whatever order: what is presented is their bag.
-use Rattle.std.specs.Prelude.{ℕ, ◌≡◌, ◌⊎◌, Bool, List, [], ◌∷◌, length, Result, Ok, Err}
+use Rattle.std.specs.Prelude.{ℕ, ◌≡◌, ◌⊎◌, Bool, List, [], ◌∷◌, length, Result, Ok, Err, IsErrAnd}
 use Rattle.rasn_types.specs.Values.{Value, bag_of}
 use Rattle.rasn_constraints.specs.Bounds.{Size}
 use Rattle.rasn_schema.specs.Schemas.{Schema}
 use Rattle.rasn_traits.specs.Calls.{Behaves, EncoderRules, Written}
-use Rattle.rasn_traits.specs.Lists.{Amid, ListForm}
+use Rattle.rasn_traits.specs.Lists.{Amid, ListForm, Mistimed}
 
 -- the schema of a bag
 abbrev pub bag_schema : ListForm → Schema
@@ -41,15 +41,19 @@ abbrev pub MemberAwaited : {E X B : Type 0} → EncoderRules E X → Amid X B �
 MemberAwaited rules amid f x v vs (Ok u) b y = AwaitsMember rules amid f x v vs b y
 MemberAwaited rules amid f x v vs (Err d) b y = rules.memory d x ⊎ rules.refuses d x (bag_schema f) (bag_of f.all)
 
--- A call before each member of a bag.
+-- A call before each member of a bag. Where all were presented it is refused.
 pub record WritesMember {E X B : Type 0} (rules : EncoderRules E X) (amid : Amid X B) (b : B) (y : X)
     (result : Result (Unit {0}) E) (c : B) (z : X) : Type 0 where
   pub law : (f : ListForm) (x : X) (v : Value) (vs : List Value) → amid f x (v ∷ vs) b y
       → MemberAwaited rules amid f x v vs result c z
+  pub late : (f : ListForm) (x : X) → amid f x [] b y → IsErrAnd result (Mistimed rules y)
   pub behaves : Behaves rules.already rules.failed rules.codec y result z
 
 -- A call that closes a bag, all of whose members were presented: it answers as one call that writes the whole bag.
+-- Where a member is still to be written it is refused.
 pub record ClosesBag {E X B : Type 0} (rules : EncoderRules E X) (amid : Amid X B) (b : B) (y : X)
     (result : Result (Unit {0}) E) (z : X) : Type 0 where
   pub law : (f : ListForm) (x : X) → amid f x [] b y → Written rules (bag_schema f) (bag_of f.all) x result z
+  pub early : (f : ListForm) (x : X) (v : Value) (vs : List Value) → amid f x (v ∷ vs) b y
+      → IsErrAnd result (Mistimed rules y)
   pub behaves : Behaves rules.already rules.failed rules.codec y result z

@@ -43,6 +43,8 @@ pub record EncoderRules (E X : Type 0) : Type 1 where
   pub surplus : E → X → Type 0
   -- an error by which the tag of a choice's alternative is refused: none goes by it
   pub unchosen : E → X → Type 0
+  -- an error that says that a call came out of turn
+  pub untimely : E → X → Type 0
   -- an error that says that memory ran out
   pub memory : E → X → Type 0
   -- an error that says that the encoder had failed before

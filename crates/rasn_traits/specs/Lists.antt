@@ -1,7 +1,7 @@
 -- What stands in an open list, element after element, and what opening, going on and closing one owe, stated over any
 -- codec's relations.
 use Rattle.std.specs.Prelude.{ℕ, suc, ◌≡◌, ◌<◌, ◌⊎◌, Bool, true, false, List, [], ◌∷◌, ◌++◌, length, Result, Ok, Err}
-use Rattle.std.specs.Prelude.{IfOk}
+use Rattle.std.specs.Prelude.{IfOk, IsErrAnd}
 use Rattle.rasn_types.specs.Values.{Value}
 use Rattle.rasn_constraints.specs.Bounds.{Size}
 use Rattle.rasn_schema.specs.Lists.{list_at, list_value}
@@ -53,17 +53,25 @@ abbrev pub ElementAwaited : {E X L : Type 0} → EncoderRules E X → Amid X L �
 ElementAwaited rules amid f x v vs (Ok u) l y = AwaitsElement rules amid f x v vs l y
 ElementAwaited rules amid f x v vs (Err d) l y = rules.memory d x ⊎ rules.refuses d x (schema_of f) (list_value f.all)
 
--- A call before each element of a list.
+-- An error of a call that came out of turn, or whose memory ran out before that was found.
+abbrev pub Mistimed : {E X : Type 0} → EncoderRules E X → X → E → Type 0
+Mistimed rules y e = rules.memory e y ⊎ rules.untimely e y
+
+-- A call before each element of a list. Where all were presented it is refused.
 pub record WritesNext {E X L : Type 0} (rules : EncoderRules E X) (amid : Amid X L) (l : L) (y : X)
     (result : Result (Unit {0}) E) (m : L) (z : X) : Type 0 where
   pub law : (f : ListForm) (x : X) (v : Value) (vs : List Value) → amid f x (v ∷ vs) l y
       → ElementAwaited rules amid f x v vs result m z
+  pub late : (f : ListForm) (x : X) → amid f x [] l y → IsErrAnd result (Mistimed rules y)
   pub behaves : Behaves rules.already rules.failed rules.codec y result z
 
 -- A call that closes a list, all of whose elements were presented: it answers as one call that writes the whole list.
+-- Where an element is still to be written it is refused.
 pub record ClosesList {E X L : Type 0} (rules : EncoderRules E X) (amid : Amid X L) (l : L) (y : X)
     (result : Result (Unit {0}) E) (z : X) : Type 0 where
   pub law : (f : ListForm) (x : X) → amid f x [] l y → Written rules (schema_of f) (list_value f.all) x result z
+  pub early : (f : ListForm) (x : X) (v : Value) (vs : List Value) → amid f x (v ∷ vs) l y
+      → IsErrAnd result (Mistimed rules y)
   pub behaves : Behaves rules.already rules.failed rules.codec y result z
 
 -- A relation of a decoder: the schema of a list's elements, its size, and whether that is extensible; what was before

@@ -26,7 +26,11 @@ returns-in-Some g c =
       | else-list-eq0 w ↦ rw (w.writer-is) c.requires
     ] in
     record {
-      next = record { law = λ f x v vs h. element_next f x c.if-list-eq0.writer v vs c.if-list-eq0.list c.in-Some.left left (goes_on f x v vs h); behaves = search rules };
+      next = record {
+        law = λ f x v vs h. element_next f x c.if-list-eq0.writer v vs c.if-list-eq0.list c.in-Some.left left (goes_on f x v vs h);
+        late = λ f x h. absurd (let none = still_over h.counted in omega (arith, left, none));
+        behaves = search rules;
+      };
       over = λ o. let none = still_over o in absurd (omega (arith, left, none));
       left = unfailed;
     }
