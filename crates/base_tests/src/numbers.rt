@@ -5,6 +5,7 @@ use rasn_constraints::integer_type::IntegerType;
 use rasn_types::big::Integer;
 use rasn_types::big::numbers::TryFromIntegerError;
 use std::alloc::{AllocError, Global};
+use std::cmp::Ordering;
 use std::process::Abort;
 use std::test::Fail;
 
@@ -34,6 +35,29 @@ fn each_type_reads_and_writes_octets(rt: HostRuntime) {
     expect_equal(&rt, &keeps::<u32>(alloc, FIVE), &Ok(true));
     expect_equal(&rt, &keeps::<u64>(alloc, FIVE), &Ok(true));
     expect_equal(&rt, &keeps::<Integer>(alloc, ABOVE), &Ok(true));
+}
+
+/// How a type's number that octets mean compares with 4, and whether it is below 0, where the type holds it.
+fn compared<I: IntegerType>(
+    alloc: Global,
+    octets: &[u8],
+) -> Result<Option<(Ordering, bool)>, AllocError> {
+    match I::try_from_signed_bytes(alloc, octets)? {
+        Some(number) => Ok(Some((number.cmp_i128(4), number.is_negative()))),
+        None => Ok(None),
+    }
+}
+
+#[test]
+fn numbers_compare_with_an_i128(rt: HostRuntime) {
+    let alloc = rt.alloc();
+    let above = Ok(Some((Ordering::Greater, false)));
+    let below = Ok(Some((Ordering::Less, true)));
+    expect_equal(&rt, &compared::<i8>(alloc, &[0xfb]), &below);
+    expect_equal(&rt, &compared::<i128>(alloc, &[0xfb]), &below);
+    expect_equal(&rt, &compared::<u64>(alloc, FIVE), &above);
+    expect_equal(&rt, &compared::<Integer>(alloc, ABOVE), &above);
+    expect_equal(&rt, &compared::<Integer>(alloc, BELOW), &below);
 }
 
 #[test]

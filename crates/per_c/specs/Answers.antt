@@ -1,6 +1,6 @@
 -- What the calls answer.
 use Rattle.std.specs.Prelude.{ℕ, ◌≡◌, ◌≢◌, ◌<◌, ◌≤◌, take, drop, List, length, slice_get, Some, None, Result, Ok, Err}
-use Rattle.rasn_below.specs.Rows.{Codec}
+use Rattle.per_core.specs.Rows.{Codec}
 use Rattle.named_types.specs.declared.types.NamedType.{NamedType}
 use Rattle.per_lines.specs.declared.arguments.Padding.{Padding}
 use Rattle.per_lines.specs.declared.fault.Fault.{Fault}

@@ -1,6 +1,6 @@
 -- The numbers by which a caller in C says what it asks for, and those of refusals.
 use Rattle.std.specs.Prelude.{ℕ, ◌-◌, List, ◌++◌, length, replicate, codes}
-use Rattle.rasn_below.specs.Rows.{Codec, Aper, Uper}
+use Rattle.per_core.specs.Rows.{Codec, Aper, Uper}
 use Rattle.per_lines.specs.declared.arguments.Padding.{Padding}
 use Rattle.per_lines.specs.declared.arguments.Padding.TheVariants as Paddings
 use Rattle.per_lines.specs.declared.fault.Fault.{Fault}

@@ -1,7 +1,7 @@
 //! What the numbers of a call ask for.
 
 ghost use Rattle.std.specs.Prelude.{◌≡◌, ◌≢◌, IfSome, IfNone};
-ghost use Rattle.rasn_below.specs.Rows.{Codec as a_codec};
+ghost use Rattle.per_core.specs.Rows.{Codec as a_codec};
 ghost use Rattle.per_lines.specs.declared.arguments.Padding.{Padding as a_padding};
 ghost use Rattle.per_c.specs.Numbers.{options_number};
 

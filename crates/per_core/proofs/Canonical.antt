@@ -15,8 +15,8 @@ use Rattle.per_core.specs.Canon.{canon, members, Member, char_writers, chosen, c
 use Rattle.per_core.specs.Counts.{ItemKind, list_items, octet_items, bit_items, counted, octet_writers, bit_writers, unconstrained_octets, number_form, constrained_whole}
 use Rattle.per_core.specs.Spellings.{Settings, Spelling, exactly, Then}
 use Rattle.per_core.specs.Writers.{Writer, just, ◌▹◌, written_if}
-use Rattle.per_core.proofs.Bags.{bag_rearranged}
-use Rattle.per_core.proofs.Codes.{same_true}
+use Rattle.rasn_schema.proofs.Bags.{bag_rearranged}
+use Rattle.rasn_types.proofs.Codes.{same_true}
 use Rattle.per_core.proofs.Counting.{counted_within}
 use Rattle.per_core.proofs.Numbers.{number_within, small_within}
 use Rattle.per_core.proofs.Presenting.{Pair, Pairs, record_within, open_within, octets_within}

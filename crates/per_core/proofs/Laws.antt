@@ -18,7 +18,7 @@ use Rattle.per_core.proofs.Presenting.{unpack-complete}
 use Rattle.per_core.proofs.Unique.{fills_agree}
 use Rattle.per_core.proofs.Readings.{one_reading}
 use Rattle.per_core.proofs.Within.{zero_if}
-use Rattle.per_core.proofs.Codes.{split_at_length}
+use Rattle.rasn_types.proofs.Codes.{split_at_length}
 
 -- octets are a complete encoding of at most one value
 pub one_value : (a : Settings) (s : Schema) (v w : Value) (os : List ℕ) → fills a s v os → fills a s w os → v ≡ w

@@ -1,7 +1,5 @@
 pub mod Agree
-pub mod Bags
 pub mod Canonical
-pub mod Codes
 pub mod ConstrainedLengths
 pub mod Counting
 pub mod Laws

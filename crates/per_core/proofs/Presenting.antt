@@ -12,7 +12,7 @@ use Rattle.per_core.specs.Canon.{Member, shown, flagged, if_shown, flags_of, bod
 use Rattle.per_core.specs.Counts.{counted, octet_items, bit_items, bit_writers, unconstrained_octets, open_bits}
 use Rattle.per_core.specs.Spellings.{Settings, Spelling, exactly, Then, Either, Field}
 use Rattle.per_core.specs.Writers.{complete, Writer, just, ◌▹◌, join, written_if}
-use Rattle.per_core.proofs.Codes.{same_true}
+use Rattle.rasn_types.proofs.Codes.{same_true}
 use Rattle.per_core.proofs.Counting.{counted_within}
 use Rattle.per_core.proofs.Positions.{Periodic, then_p, flags_p}
 use Rattle.per_core.proofs.Within.{zero_if, Within, just_within, refused_within, then_within, if_within, relax, left_within, right_within, when_within, field_within}

@@ -2,6 +2,7 @@ pub mod Basic
 pub mod Canon
 pub mod Counts
 pub mod Ends
+pub mod Rows
 pub mod Items
 pub mod Spellings
 pub mod Took

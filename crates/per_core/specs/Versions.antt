@@ -2,6 +2,7 @@
 -- other.
 use Rattle.std.specs.Prelude.{ℕ, zero, suc, ◌≤◌, ◌≡◌, Bool, true, false, if◌then◌else◌, nat_lt, List, [], ◌∷◌, Option}
 use Rattle.std.specs.Prelude.{Some, None}
+use Rattle.rasn_types.specs.AllOf.{all_of, joined}
 use Rattle.rasn_types.specs.Values.{Value, item, elements, bag, bag_of, fields, alternative, root, added, values}
 use Rattle.rasn_types.specs.Values.{as_values, slots, as_slots}
 use Rattle.rasn_schema.specs.Depth.{meets_cut}
@@ -31,17 +32,6 @@ added_of _ = no_parts
 abbrev pub items_of : Schema → ℕ
 items_of (Schema.items r e ext) = e
 items_of _ = 0
-
--- a first one and others, where all are there
-abbrev pub joined : {A : Type 0} → Option A → Option (List A) → Option (List A)
-joined None xs = None
-joined (Some x) None = None
-joined (Some x) (Some xs) = Some (x ∷ xs)
-
--- what becomes of each of a list, or none
-abbrev pub all_of : {A B : Type 0} → (A → Option B) → List A → Option (List B)
-all_of f [] = Some []
-all_of f (x ∷ xs) = joined (f x) (all_of f xs)
 
 -- what is made of a thing, where it is there
 abbrev pub made : {A : Type 0} → (A → Value) → Option A → Option Value

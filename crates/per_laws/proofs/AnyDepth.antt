@@ -5,7 +5,8 @@ use Rattle.rasn_schema.specs.Depth.{meets_cut, slots_meet_cut, meets_cut_at, in_
 use Rattle.rasn_schema.specs.Schemas.{Schema, Parts}
 use Rattle.per_core.specs.Basic.{fills, fills_known, front, read}
 use Rattle.per_core.specs.Spellings.{Settings}
-use Rattle.per_core.specs.Versions.{project, project_slots, project_at, widen, slot_through, slots_through, through_elements, through_bag, through_fields, through_alternative, made, made_both, joined, all_of, IsPlain, Newer, NewerParts, NewerType, unchanged, more_items, newer_containing, newer_list, newer_set_of, newer_sequence, newer_choice, no_more, more_parts, also}
+use Rattle.rasn_types.specs.AllOf.{joined, all_of}
+use Rattle.per_core.specs.Versions.{project, project_slots, project_at, widen, slot_through, slots_through, through_elements, through_bag, through_fields, through_alternative, made, made_both, IsPlain, Newer, NewerParts, NewerType, unchanged, more_items, newer_containing, newer_list, newer_set_of, newer_sequence, newer_choice, no_more, more_parts, also}
 use Rattle.per_core.proofs.LengthForms.{or_left, or_right}
 use Rattle.per_laws.proofs.Carry.{fills_carry}
 use Rattle.per_laws.proofs.Deeper.{deeper}

@@ -10,7 +10,7 @@ use Rattle.rasn_schema.specs.Schemas.{tags, count, Presence, Schema, Parts, no_p
 use Rattle.per_core.specs.Basic.{IsLeftOut, As, Counted, Unknown_in, Additions_in, Record_in, Chosen, basic_in, rules_in}
 use Rattle.per_core.specs.Counts.{list_items}
 use Rattle.per_core.specs.Spellings.{Settings, Spelling}
-use Rattle.per_core.proofs.Bags.{any_in_bag}
+use Rattle.rasn_schema.proofs.Bags.{any_in_bag}
 use Rattle.per_core.proofs.LengthForms.{Zip, or_left, or_right}
 use Rattle.per_core.proofs.Records.{SlotRel, Along}
 use Rattle.per_core.proofs.Readings.{length-rules-in}

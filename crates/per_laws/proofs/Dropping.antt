@@ -9,11 +9,12 @@ use Rattle.rasn_schema.specs.Orders.{ordered}
 use Rattle.rasn_schema.specs.Depth.{meets_cut, slots_meet_cut, meets_cut_at, any_of, CutOf, CutParts, cut_here, alike, cut_containing, cut_list, cut_set_of, cut_sequence, cut_choice, no_cut, cut_part}
 use Rattle.per_core.specs.Spellings.{Settings}
 use Rattle.per_core.specs.Basic.{As, Additions_in, Chosen, basic, basic_in, rules}
-use Rattle.per_core.specs.Versions.{project, project_slots, project_at, slot_through, all_of, NewerPresence, Newer, NewerParts, unchanged, newer_containing, newer_list, newer_set_of, newer_sequence, newer_choice, no_more, more_parts, also}
+use Rattle.rasn_types.specs.AllOf.{all_of}
+use Rattle.per_core.specs.Versions.{project, project_slots, project_at, slot_through, NewerPresence, Newer, NewerParts, unchanged, newer_containing, newer_list, newer_set_of, newer_sequence, newer_choice, no_more, more_parts, also}
 use Rattle.per_core.proofs.LengthForms.{Zip, or_left, or_right}
 use Rattle.per_core.proofs.Records.{SlotRel, Along}
 use Rattle.per_core.proofs.Readings.{length-rules}
-use Rattle.per_core.proofs.Bags.{bag_source, any_in_bag, joined_of}
+use Rattle.rasn_schema.proofs.Bags.{bag_source, any_in_bag, joined_of}
 use Rattle.per_core.proofs.Canonical.{canonical}
 use Rattle.per_laws.proofs.Older.{made_of, made_both_of, slot_some, slot_meets, same_tags}
 use Rattle.per_laws.proofs.Carry.{Carry, kept, Leads, AllLead, skipped_carry, carries, contained_carry}

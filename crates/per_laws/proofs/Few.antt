@@ -14,7 +14,7 @@ use Rattle.per_core.proofs.Agree.{Agree, weaken, then_agree, never_agree, turned
 use Rattle.per_core.proofs.LengthForms.{Zip, bounded_agree, lengthy_agree, or_left, or_right, and_no}
 use Rattle.per_core.proofs.Unique.{as_agree, small_agree, open_agree, fills_agree}
 use Rattle.per_core.proofs.Records.{SlotRel, Kin, AllKin, Along, fields_agree}
-use Rattle.per_core.proofs.Bags.{any_in_bag}
+use Rattle.rasn_schema.proofs.Bags.{any_in_bag}
 use Rattle.per_core.proofs.Readings.{one_reading, ordered-kin, along-listed, same_flags, same_bit, root_added}
 use Rattle.per_laws.proofs.Transitive.{or_both}
 use Rattle.rasn_schema.specs.Levels.{TakesLevel, TakesNone, ToLevels, PartsToLevels, to_leaf, to_date, no_date, still_cut, no_level, to_containing, to_list, to_set_of, to_sequence, to_choice, to_no_parts, to_part}

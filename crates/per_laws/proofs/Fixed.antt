@@ -4,8 +4,9 @@ use Rattle.rasn_types.specs.Values.{Value, put, sorted, before, code, elements, 
 use Rattle.rasn_types.proofs.Values.{slots-as_slots, values-as_values, as_values-values}
 use Rattle.rasn_schema.specs.Depth.{CutOf, CutParts, cut_here, alike, cut_containing, cut_list, cut_set_of, cut_sequence, cut_choice, no_cut, cut_part}
 use Rattle.rasn_schema.specs.Schemas.{Schema, Parts, no_parts, part}
-use Rattle.per_core.specs.Versions.{project, project_slots, project_at, slot_through, slots_through, through_elements, through_bag, through_fields, through_alternative, through_item, made, made_both, joined, all_of}
-use Rattle.per_core.proofs.Bags.{joined_of, sort}
+use Rattle.rasn_types.specs.AllOf.{joined, all_of}
+use Rattle.per_core.specs.Versions.{project, project_slots, project_at, slot_through, slots_through, through_elements, through_bag, through_fields, through_alternative, through_item, made, made_both}
+use Rattle.rasn_schema.proofs.Bags.{joined_of, sort}
 use Rattle.per_core.proofs.Readings.{some_same}
 use Rattle.per_laws.proofs.Chains.{Steps, StepSlots, StepAt, all_steps, elements_steps, bags_steps, fields_steps, alternative_steps, slots_steps, at_steps, item_same}
 use Rattle.per_laws.proofs.Older.{made_of, made_both_of, slot_some}

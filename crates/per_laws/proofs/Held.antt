@@ -7,8 +7,9 @@ use Rattle.rasn_schema.specs.Schemas.{count, Order, Presence, TagTree, Schema, P
 use Rattle.rasn_constraints.specs.Bounds.{Size}
 use Rattle.per_core.specs.Basic.{Additions_in, Chosen, basic, basic_in, rules, rules_in}
 use Rattle.per_core.specs.Spellings.{Settings, Spelling}
-use Rattle.per_core.specs.Versions.{project, project_slots, project_at, widen, widen_slots, widen_at, filled_in, all_filled_in, joined, slot_through, IsPlain, NewerPresence, Newer, NewerParts, unchanged, more_items, newer_containing, newer_list, newer_set_of, newer_sequence, newer_choice, no_more, more_parts, also}
-use Rattle.per_core.proofs.Bags.{joined_of}
+use Rattle.rasn_types.specs.AllOf.{joined}
+use Rattle.per_core.specs.Versions.{project, project_slots, project_at, widen, widen_slots, widen_at, filled_in, all_filled_in, slot_through, IsPlain, NewerPresence, Newer, NewerParts, unchanged, more_items, newer_containing, newer_list, newer_set_of, newer_sequence, newer_choice, no_more, more_parts, also}
+use Rattle.rasn_schema.proofs.Bags.{joined_of}
 use Rattle.per_laws.proofs.Carry.{Carry, AllLead, skipped_carry, kept, contained_carry}
 use Rattle.per_laws.proofs.Carrying.{additions_step}
 use Rattle.per_laws.proofs.Deeper.{cut_count, uncut}

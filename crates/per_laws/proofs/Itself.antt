@@ -6,8 +6,9 @@ use Rattle.rasn_constraints.specs.Bounds.{Size}
 use Rattle.rasn_schema.specs.Schemas.{Presence, required, optional, group, default, Order, TagTree, Schema, Parts, no_parts, part}
 use Rattle.rasn_schema.specs.Depth.{IsLeaf, CutOf, CutParts, cut_here, alike, cut_containing, cut_list, cut_set_of, cut_sequence, cut_choice, no_cut, cut_part, meets_cut, slots_meet_cut, meets_cut_at}
 use Rattle.rasn_schema.specs.Lawful.{IsLawful, AreLawful, IsLawfulPresence, IsLawfulType, all_pass, is_countable, if_elements, if_bag, if_fields, if_alternative, slot_passes, slots_pass, none_left, is_value, are_values, is_value_at}
-use Rattle.per_core.specs.Versions.{all_of, joined, made, made_both, through_elements, through_bag, through_fields, through_alternative, through_item, slot_through, slots_through, project, project_slots, project_at, widen, widen_slots, widen_at, IsWidened, NewerPresence, Newer, NewerParts, NewerType, unchanged, more_items, newer_containing, newer_list, newer_set_of, newer_sequence, newer_choice, no_more, also}
-use Rattle.per_core.proofs.Codes.{same_true}
+use Rattle.rasn_types.specs.AllOf.{all_of, joined}
+use Rattle.per_core.specs.Versions.{made, made_both, through_elements, through_bag, through_fields, through_alternative, through_item, slot_through, slots_through, project, project_slots, project_at, widen, widen_slots, widen_at, IsWidened, NewerPresence, Newer, NewerParts, NewerType, unchanged, more_items, newer_containing, newer_list, newer_set_of, newer_sequence, newer_choice, no_more, also}
+use Rattle.rasn_types.proofs.Codes.{same_true}
 use Rattle.per_core.proofs.LengthForms.{and_left, and_right, or_left, or_right}
 use Rattle.per_laws.proofs.Takes.{some_is}
 use Rattle.per_laws.proofs.Types.{up_to, less_cut}

@@ -12,7 +12,8 @@ use Rattle.per_core.specs.Basic.{As, Counted, Record_in, Choice, basic_in, rules
 use Rattle.per_core.specs.Canon.{bytes, canon, completed, members, on_bag, on_elements, on_fields, on_alternative, record_of, choice_of, ascending}
 use Rattle.per_core.specs.Counts.{counted, list_items, open_bits}
 use Rattle.per_core.specs.Spellings.{Settings, Spelling}
-use Rattle.per_core.specs.Versions.{project, project_slots, project_at, widen, widen_slots, widen_at, element_of, alternatives_of, added_of, items_of, through_elements, through_bag, through_fields, through_alternative, through_item, slots_through, joined, filled_in, all_filled_in, IsPlain, NewerPresence, Newer, NewerParts, unchanged, more_items, newer_containing, newer_list, newer_set_of, newer_sequence, newer_choice, no_more, more_parts, also}
+use Rattle.rasn_types.specs.AllOf.{joined}
+use Rattle.per_core.specs.Versions.{project, project_slots, project_at, widen, widen_slots, widen_at, element_of, alternatives_of, added_of, items_of, through_elements, through_bag, through_fields, through_alternative, through_item, slots_through, filled_in, all_filled_in, IsPlain, NewerPresence, Newer, NewerParts, unchanged, more_items, newer_containing, newer_list, newer_set_of, newer_sequence, newer_choice, no_more, more_parts, also}
 use Rattle.per_core.specs.Writers.{Writer}
 use Rattle.per_core.proofs.Laws.{same_normal_bytes}
 use Rattle.per_laws.proofs.AnyDepth

@@ -8,8 +8,8 @@ use Rattle.rasn_types.proofs.Values.{slots-as_slots, values-as_values}
 use Rattle.rasn_constraints.specs.Bounds.{Size}
 use Rattle.rasn_schema.specs.Normal.{is_vacant, settle, each_slot, normal_bits, over_bits, if_named, over_elements, over_bag, over_fields, over_alternative, normal, normals, normal_at}
 use Rattle.rasn_schema.specs.Schemas.{Presence, required, optional, group, default, Schema, Parts, no_parts, part}
-use Rattle.per_core.specs.Versions.{all_of, joined}
-use Rattle.per_core.proofs.Bags.{bag_becomes, sort, some_list}
+use Rattle.rasn_types.specs.AllOf.{all_of, joined}
+use Rattle.rasn_schema.proofs.Bags.{bag_becomes, sort, some_list}
 
 -- what the first function makes of what the second one answers is that itself
 abbrev pub Fixes : {X : Type 0} → (X → X) → (X → X) → Type 0

@@ -12,8 +12,9 @@ use Rattle.per_core.specs.Basic
 use Rattle.per_core.specs.Basic.{FlagOf, IsLeftOut, As, Counted, Additions_in, Chosen, basic, basic_in, rules}
 use Rattle.per_core.specs.Counts.{list_items}
 use Rattle.per_core.specs.Spellings.{Settings, Spelling}
-use Rattle.per_core.specs.Versions.{project, project_slots, project_at, slot_through, through_item, all_of, IsPlain, NewerPresence, Newer, NewerParts, no_more, also}
-use Rattle.per_core.proofs.Bags.{bag_source, any_in_bag, joined_of}
+use Rattle.rasn_types.specs.AllOf.{all_of}
+use Rattle.per_core.specs.Versions.{project, project_slots, project_at, slot_through, through_item, IsPlain, NewerPresence, Newer, NewerParts, no_more, also}
+use Rattle.rasn_schema.proofs.Bags.{bag_source, any_in_bag, joined_of}
 use Rattle.per_core.proofs.LengthForms.{Zip, or_left, or_right}
 use Rattle.per_core.proofs.Records.{SlotRel, Along}
 use Rattle.per_core.proofs.Readings.{length-rules}

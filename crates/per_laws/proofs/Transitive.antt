@@ -4,8 +4,9 @@ use Rattle.rasn_types.specs.Values.{Value, elements, bag, bag_of, fields, altern
 use Rattle.rasn_types.proofs.Values.{slots-as_slots, values-as_values}
 use Rattle.rasn_schema.specs.Depth.{meets_cut, slots_meet_cut, meets_cut_at, in_slots, in_elements, in_fields, in_alternative, any_of}
 use Rattle.rasn_schema.specs.Schemas.{Presence, required, optional, group, default, Schema, Parts}
-use Rattle.per_core.specs.Versions.{widen, widen_slots, widen_at, filled_in, all_filled_in, slot_through, slots_through, through_elements, through_bag, through_fields, through_alternative, made, made_both, joined, all_of, NewerPresence, Newer, NewerParts, unchanged, more_items, newer_containing, newer_list, newer_set_of, newer_sequence, newer_choice, no_more, more_parts, also}
-use Rattle.per_core.proofs.Bags.{any_in_bag, joined_of, sort}
+use Rattle.rasn_types.specs.AllOf.{joined, all_of}
+use Rattle.per_core.specs.Versions.{widen, widen_slots, widen_at, filled_in, all_filled_in, slot_through, slots_through, through_elements, through_bag, through_fields, through_alternative, made, made_both, NewerPresence, Newer, NewerParts, unchanged, more_items, newer_containing, newer_list, newer_set_of, newer_sequence, newer_choice, no_more, more_parts, also}
+use Rattle.rasn_schema.proofs.Bags.{any_in_bag, joined_of, sort}
 use Rattle.per_core.proofs.LengthForms.{or_left, or_right}
 use Rattle.per_core.proofs.Readings.{some_same}
 use Rattle.per_laws.proofs.Chains.{bag_through}

@@ -10,8 +10,8 @@ use Rattle.rasn_constraints.specs.Bounds.{Size}
 use Rattle.rasn_schema.specs.Schemas.{Presence, required, optional, group, default, Schema, Parts, no_parts, part}
 use Rattle.rasn_schema.specs.Normal.{is_vacant, settle, each_slot, normal_bits, if_named, over_elements, over_bag, over_fields, over_alternative, normal, normals, normal_at}
 use Rattle.rasn_schema.specs.Lawful.{all_pass, is_countable, if_bits, if_elements, if_bag, if_fields, if_alternative, slot_passes, slots_pass, is_value, are_values, is_value_at}
-use Rattle.per_core.specs.Versions.{all_of, joined}
-use Rattle.per_core.proofs.Bags.{bag_becomes, sort, some_list}
+use Rattle.rasn_types.specs.AllOf.{all_of, joined}
+use Rattle.rasn_schema.proofs.Bags.{bag_becomes, sort, some_list}
 use Rattle.per_core.proofs.Counting.{length-map'}
 use Rattle.per_core.proofs.LengthForms.{and_left, and_right}
 use Rattle.per_laws.proofs.Reading.{same_self}

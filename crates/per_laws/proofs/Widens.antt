@@ -12,8 +12,9 @@ use Rattle.per_core.specs.Basic
 use Rattle.per_core.specs.Basic.{FlagOf, IsLeftOut, As, Unknown_in, Counted, Additions_in, Chosen, basic_in, rules_in}
 use Rattle.per_core.specs.Counts.{list_items}
 use Rattle.per_core.specs.Spellings.{Settings, Spelling}
-use Rattle.per_core.specs.Versions.{widen, widen_slots, widen_at, filled_in, all_filled_in, slot_through, all_of, NewerPresence, NewerParts, no_more, also}
-use Rattle.per_core.proofs.Bags.{bag_source, any_in_bag, joined_of}
+use Rattle.rasn_types.specs.AllOf.{all_of}
+use Rattle.per_core.specs.Versions.{widen, widen_slots, widen_at, filled_in, all_filled_in, slot_through, NewerPresence, NewerParts, no_more, also}
+use Rattle.rasn_schema.proofs.Bags.{bag_source, any_in_bag, joined_of}
 use Rattle.per_core.proofs.LengthForms.{Zip, or_left, or_right}
 use Rattle.per_core.proofs.Records.{SlotRel, Along}
 use Rattle.per_core.proofs.Readings.{length-rules-in}

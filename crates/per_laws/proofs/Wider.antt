@@ -4,8 +4,9 @@ use Rattle.rasn_types.specs.Values.{Value, elements, bag, bag_of, fields, altern
 use Rattle.rasn_types.proofs.Values.{slots-as_slots, values-as_values}
 use Rattle.rasn_schema.specs.Depth.{meets_cut, slots_meet_cut, meets_cut_at, in_slots, in_elements, in_fields, in_alternative, any_of, CutOf, CutParts, alike, cut_containing, cut_list, cut_set_of, cut_sequence, cut_choice, no_cut, cut_part}
 use Rattle.rasn_schema.specs.Schemas.{Schema, Parts}
-use Rattle.per_core.specs.Versions.{widen, widen_slots, widen_at, slot_through, slots_through, through_elements, through_bag, through_fields, through_alternative, made, made_both, joined, all_of, IsPlain}
-use Rattle.per_core.proofs.Bags.{joined_of}
+use Rattle.rasn_types.specs.AllOf.{joined, all_of}
+use Rattle.per_core.specs.Versions.{widen, widen_slots, widen_at, slot_through, slots_through, through_elements, through_bag, through_fields, through_alternative, made, made_both, IsPlain}
+use Rattle.rasn_schema.proofs.Bags.{joined_of}
 use Rattle.per_core.proofs.LengthForms.{or_left, or_right}
 use Rattle.per_core.proofs.Readings.{some_same}
 use Rattle.per_laws.proofs.Held.{plain_cut, same_filled}

@@ -5,7 +5,7 @@ use Rattle.std.proofs.lemmas.Option.{same_Some}
 use Rattle.std.specs.Result.{result_ok}
 use Rattle.hex.specs.Hex.{encode_lower}
 use Rattle.rasn_below.specs.Types.{Schema, normal}
-use Rattle.rasn_below.specs.Rows.{variant_of, Variant, bytes}
+use Rattle.per_core.specs.Rows.{variant_of, Variant, bytes}
 use Rattle.per_core.specs.Spellings.{Settings}
 use Rattle.rasn_per.specs.Complete.{reading, basically}
 use Rattle.per_lines.specs.declared.arguments.TypeName.{TypeName}

@@ -1,7 +1,7 @@
 -- What the program answers to its words and its input.
 use Rattle.std.specs.Prelude.{ℕ, ◌≡◌, ◌≢◌, ◌⊎◌, List, [], ◌∷◌, ◌++◌, Option, Ok, codes}
 use Rattle.std.specs.Io.KnownBytes.{Keeps}
-use Rattle.rasn_below.specs.Rows.{variant_of}
+use Rattle.per_core.specs.Rows.{variant_of}
 use Rattle.hex.specs.Hex.{decode_of, encode_lower}
 use Rattle.per_lines.specs.declared.arguments.Form.{Form}
 use Rattle.per_lines.specs.declared.arguments.Form.TheVariants.{OneLine, Lines, Zero, As}

@@ -4,7 +4,7 @@ use Rattle.rasn_below.specs.Values.{utc, Value}
 use Rattle.rasn_below.specs.Types.{visible, from_to, unbounded, between, Size, any_size, Schema, always}
 use Rattle.rasn_below.specs.Types.{list_at, lower_bound, upper_bound, sequence_at, alternatives_at}
 use Rattle.rasn_below.specs.Types.{set_of_at, date_at, set_at}
-use Rattle.rasn_below.specs.Rows.{Codec, variant_of, Variant}
+use Rattle.per_core.specs.Rows.{Codec, variant_of, Variant}
 use Rattle.per_samples_a.specs.Absents.{one_default}
 use Rattle.per_samples_a.specs.Fours.{four}
 use Rattle.per_samples_a.specs.Sevens.{seven}

@@ -1,7 +1,7 @@
 //! What the program is asked to do.
 
 ghost use Rattle.std.specs.Prelude.{◌≡◌, ◌≢◌, [], ◌∷◌, IfSome, IfNone, map, string_bytes};
-ghost use Rattle.rasn_below.specs.Rows.{Codec as a_codec};
+ghost use Rattle.per_core.specs.Rows.{Codec as a_codec};
 ghost use Rattle.per_lines.specs.Words.{codec_word, type_word, form_words, words_of};
 ghost use Rattle.per_lines.specs.Recoding.{padding_of};
 ghost use Rattle.per_lines.specs.declared.arguments.TypeName.{TypeName as a_name};

@@ -1,7 +1,7 @@
 //! From the octets of a value to the canonical octets of the same value.
 
 ghost use Rattle.std.specs.Prelude.{◌≡◌, IfOk, IfErr};
-ghost use Rattle.rasn_below.specs.Rows.{variant_of};
+ghost use Rattle.per_core.specs.Rows.{variant_of};
 ghost use Rattle.rasn_per.specs.Calls.{Encoded, DecodedBy};
 ghost use Rattle.per_lines.specs.Recoding.{Recodes, IsRefusal, Converts, IsUnconverted};
 ghost use Rattle.per_lines.specs.Recoding.{schema_of, is_strict, reader_of};

@@ -2,7 +2,7 @@
 
 ghost use Rattle.std.specs.Prelude.{refl, [], ◌∷◌, Some, pos};
 ghost use Rattle.rasn_below.specs.Page.{whole, fields_of};
-ghost use Rattle.rasn_below.specs.Rows.{unaligned, IsWrittenAs, IsUnwritten};
+ghost use Rattle.per_core.specs.Rows.{unaligned, IsWrittenAs, IsUnwritten};
 ghost use Rattle.per_samples_a.specs.Absents.{one_default};
 
 use rasn_below::page::*;
@@ -42,7 +42,7 @@ impl Record for OneDefault {
 }
 
 /// A component at its default is left out: its presence bit is 0 (X.691 19.2, 19.5).
-#[tactic(auto, unfolding(rasn_below::specs::Rows::bytes, rasn_below::specs::Types::normal))]
+#[tactic(auto, unfolding(per_core::specs::Rows::bytes, rasn_below::specs::Types::normal))]
 pub fn a_default_is_left_out()
     ensures default { let own = ⟦<OneDefault as AsnType>⟧ in
         IsWrittenAs unaligned (own.schema own.CONSTRAINTS) own.levels own.value

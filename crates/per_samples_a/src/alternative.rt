@@ -2,7 +2,7 @@
 
 ghost use Rattle.std.specs.Prelude.{refl, true, [], ◌∷◌};
 ghost use Rattle.rasn_below.specs.Page.{variants_listed, ◌to◌};
-ghost use Rattle.rasn_below.specs.Rows.{aligned, unaligned, IsWrittenAs};
+ghost use Rattle.per_core.specs.Rows.{aligned, unaligned, IsWrittenAs};
 ghost use Rattle.per_samples_a.specs.Alternatives.{alternatives, alternative_of};
 ghost use Rattle.per_samples_a.specs.declared.alternative.Alternative.TheVariants.{X, Y};
 
@@ -71,7 +71,7 @@ impl CodedAlternatives for Alternative {
 impl ByKind for Alternative {}
 
 /// The index in one bit, and the value of the alternative behind it (X.691 23.6).
-#[tactic(auto, unfolding(rasn_below::specs::Rows::bytes, rasn_below::specs::Types::normal))]
+#[tactic(auto, unfolding(per_core::specs::Rows::bytes, rasn_below::specs::Types::normal))]
 pub fn alternative_is_written_behind_its_index()
     ensures first { let own = ⟦<Alternative as AsnType>⟧ in
         IsWrittenAs unaligned (own.schema own.CONSTRAINTS) own.levels own.value (X true) (0x40 ∷ []) }

@@ -2,7 +2,7 @@
 
 ghost use Rattle.std.specs.Prelude.{[], ◌∷◌, pos, negsuc};
 ghost use Rattle.rasn_below.specs.Components.{◌to◌, minus◌to◌, extensible};
-ghost use Rattle.rasn_below.specs.Rows.{aligned, unaligned, IsWrittenAs, IsUnwritten};
+ghost use Rattle.per_core.specs.Rows.{aligned, unaligned, IsWrittenAs, IsUnwritten};
 
 use rasn_below::types::Integer;
 use rasn_below::{AsnType, Constrained, Constraint, Constraints, Limits, constraints};
@@ -24,7 +24,7 @@ impl Limits for ZeroTo65536Limits {
 
 /// INTEGER (0..65536), of more than 64K values: in APER a count of octets in two bits, and the octets on a boundary
 /// (X.691 11.5.7.4). A number out of bounds has no encoding.
-#[tactic(auto, unfolding(rasn_below::specs::Rows::bytes, rasn_below::specs::Types::normal))]
+#[tactic(auto, unfolding(per_core::specs::Rows::bytes, rasn_below::specs::Types::normal))]
 pub fn zero_to_65536_is_written_in_counted_octets()
     ensures number_253 { let own = ⟦<ZeroTo65536 as AsnType>⟧ in
         IsWrittenAs aligned (own.schema own.CONSTRAINTS) own.levels own.value
@@ -60,7 +60,7 @@ impl Limits for OneToTenExtensibleLimits {
 
 /// INTEGER (1..10, ...): the extension bit; within the bounds four bits, and else the number as without bounds
 /// (X.691 13.1).
-#[tactic(auto, unfolding(rasn_below::specs::Rows::bytes, rasn_below::specs::Types::normal))]
+#[tactic(auto, unfolding(per_core::specs::Rows::bytes, rasn_below::specs::Types::normal))]
 pub fn one_to_ten_extensible_is_written_behind_its_bit()
     ensures number_5 { let own = ⟦<OneToTenExtensible as AsnType>⟧ in
         IsWrittenAs unaligned (own.schema own.CONSTRAINTS) own.levels own.value
@@ -92,7 +92,7 @@ impl Limits for MinusOneTo254Limits {
 }
 
 /// INTEGER (-1..254): in UPER eight bits, how far the number is above -1 (X.691 11.5.6). 255 has no encoding.
-#[tactic(auto, unfolding(rasn_below::specs::Rows::bytes, rasn_below::specs::Types::normal))]
+#[tactic(auto, unfolding(per_core::specs::Rows::bytes, rasn_below::specs::Types::normal))]
 pub fn minus_one_to_254_is_written_from_its_bound()
     ensures number_5 { let own = ⟦<MinusOneTo254 as AsnType>⟧ in
         IsWrittenAs unaligned (own.schema own.CONSTRAINTS) own.levels own.value

@@ -2,7 +2,7 @@
 
 ghost use Rattle.std.specs.Prelude.{refl, [], ◌∷◌, Some, codes, pos};
 ghost use Rattle.rasn_below.specs.Page.{characters, octets, whole, fields_of};
-ghost use Rattle.rasn_below.specs.Rows.{aligned, unaligned, IsWrittenAs};
+ghost use Rattle.per_core.specs.Rows.{aligned, unaligned, IsWrittenAs};
 ghost use Rattle.per_samples_a.specs.Brackets.{brackets};
 
 use rasn_below::page::*;
@@ -57,7 +57,7 @@ impl Record for Brackets {
 }
 
 /// A single value takes no bits, and MIN and MAX are no bounds (X.691 11.5.4, 11.5.7, 13.2).
-#[tactic(auto, unfolding(rasn_below::specs::Rows::bytes, rasn_below::specs::Types::normal))]
+#[tactic(auto, unfolding(per_core::specs::Rows::bytes, rasn_below::specs::Types::normal))]
 pub fn a_single_value_takes_no_bits()
     ensures uper { let own = ⟦<Brackets as AsnType>⟧ in
         IsWrittenAs unaligned (own.schema own.CONSTRAINTS) own.levels own.value

@@ -2,7 +2,7 @@
 
 ghost use Rattle.std.specs.Prelude.{refl, true, false, [], ◌∷◌, Some};
 ghost use Rattle.rasn_below.specs.Page.{truth, bits, fields_of};
-ghost use Rattle.rasn_below.specs.Rows.{aligned, unaligned, IsWrittenAs};
+ghost use Rattle.per_core.specs.Rows.{aligned, unaligned, IsWrittenAs};
 ghost use Rattle.per_samples_a.specs.Defaults.{default_bits};
 
 use rasn_below::page::*;
@@ -44,7 +44,7 @@ impl Record for DefaultBits {
 }
 
 /// Bits at their default aren't written (X.691 19.5).
-#[tactic(auto, unfolding(rasn_below::specs::Rows::bytes, rasn_below::specs::Types::normal))]
+#[tactic(auto, unfolding(per_core::specs::Rows::bytes, rasn_below::specs::Types::normal))]
 pub fn default_bits_are_not_written()
     ensures default { let own = ⟦<DefaultBits as AsnType>⟧ in
         IsWrittenAs unaligned (own.schema own.CONSTRAINTS) own.levels own.value

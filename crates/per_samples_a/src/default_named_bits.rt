@@ -2,7 +2,7 @@
 
 ghost use Rattle.std.specs.Prelude.{refl, true, false, [], ◌∷◌, Some};
 ghost use Rattle.rasn_below.specs.Page.{bits, fields_of};
-ghost use Rattle.rasn_below.specs.Rows.{aligned, unaligned, IsWrittenAs};
+ghost use Rattle.per_core.specs.Rows.{aligned, unaligned, IsWrittenAs};
 ghost use Rattle.per_samples_a.specs.Defaults.{default_named_bits};
 
 use rasn_below::page::*;
@@ -45,7 +45,7 @@ impl Record for DefaultNamedBits {
 
 /// Named bits aren't written where they are the default's but for zero bits at their end (X.680 22.7; X.691 19.5). The
 /// octets are those of another compiler.
-#[tactic(auto, unfolding(rasn_below::specs::Rows::bytes, rasn_below::specs::Types::normal))]
+#[tactic(auto, unfolding(per_core::specs::Rows::bytes, rasn_below::specs::Types::normal))]
 pub fn default_named_bits_are_not_written()
     ensures default { let own = ⟦<DefaultNamedBits as AsnType>⟧ in
         IsWrittenAs unaligned (own.schema own.CONSTRAINTS) own.levels own.value

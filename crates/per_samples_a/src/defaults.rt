@@ -2,7 +2,7 @@
 
 ghost use Rattle.std.specs.Prelude.{refl, true, [], ◌∷◌, Some, codes, negsuc, pos};
 ghost use Rattle.rasn_below.specs.Page.{truth, whole, octets, characters, fields_of};
-ghost use Rattle.rasn_below.specs.Rows.{aligned, unaligned, IsWrittenAs};
+ghost use Rattle.per_core.specs.Rows.{aligned, unaligned, IsWrittenAs};
 ghost use Rattle.per_samples_a.specs.Defaults.{defaults};
 
 use rasn_below::page::*;
@@ -54,7 +54,7 @@ impl Record for Defaults {
 }
 
 /// A component at its default isn't written (X.691 19.5).
-#[tactic(auto, unfolding(rasn_below::specs::Rows::bytes, rasn_below::specs::Types::normal))]
+#[tactic(auto, unfolding(per_core::specs::Rows::bytes, rasn_below::specs::Types::normal))]
 pub fn defaults_are_not_written()
     ensures all { let own = ⟦<Defaults as AsnType>⟧ in
         IsWrittenAs unaligned (own.schema own.CONSTRAINTS) own.levels own.value

@@ -2,7 +2,7 @@
 
 ghost use Rattle.std.specs.Prelude.{refl, true, false, [], ◌∷◌, Some, None, pos};
 ghost use Rattle.rasn_below.specs.Page.{truth, whole, slot_of, fields_of};
-ghost use Rattle.rasn_below.specs.Rows.{unaligned, IsWrittenAs};
+ghost use Rattle.per_core.specs.Rows.{unaligned, IsWrittenAs};
 ghost use Rattle.per_samples_a.specs.Eighteens.{eighteen};
 
 use rasn_below::page::*;
@@ -81,7 +81,7 @@ impl Record for Eighteen {
 }
 
 /// The presence bits of the last two components stand before all components (X.691 19.2).
-#[tactic(auto, unfolding(rasn_below::specs::Rows::bytes, rasn_below::specs::Types::normal))]
+#[tactic(auto, unfolding(per_core::specs::Rows::bytes, rasn_below::specs::Types::normal))]
 pub fn presence_bits_come_before_sixteen()
     ensures there { let own = ⟦<Eighteen as AsnType>⟧ in
         IsWrittenAs unaligned (own.schema own.CONSTRAINTS) own.levels own.value

@@ -2,7 +2,7 @@
 
 ghost use Rattle.std.specs.Prelude.{refl, [], ◌∷◌, Some, true, false, pos, negsuc};
 ghost use Rattle.rasn_below.specs.Page.{truth, whole, fields_of};
-ghost use Rattle.rasn_below.specs.Rows.{aligned, unaligned, IsWrittenAs, IsUnwritten};
+ghost use Rattle.per_core.specs.Rows.{aligned, unaligned, IsWrittenAs, IsUnwritten};
 ghost use Rattle.per_samples_a.specs.Fours.{four};
 
 use rasn_below::page::*;
@@ -49,7 +49,7 @@ impl Record for Four {
 
 /// The components in turn: a bit, a number behind its count of octets, a bit, and in nine bits how far a number is
 /// above its bound; in APER the count, and the nine bits in two octets, stand on a boundary (X.691 11.5.7.3, 19.4).
-#[tactic(auto, unfolding(rasn_below::specs::Rows::bytes, rasn_below::specs::Types::normal))]
+#[tactic(auto, unfolding(per_core::specs::Rows::bytes, rasn_below::specs::Types::normal))]
 pub fn four_is_its_components_in_turn()
     ensures uper { let own = ⟦<Four as AsnType>⟧ in
         IsWrittenAs unaligned (own.schema own.CONSTRAINTS) own.levels own.value

@@ -2,7 +2,7 @@
 
 ghost use Rattle.std.specs.Prelude.{◌-◌, ◌^◌, [], ◌∷◌, replicate, pos, negsuc};
 ghost use Rattle.rasn_below.specs.Components.{up_to, from_minus, from};
-ghost use Rattle.rasn_below.specs.Rows.{unaligned, IsWrittenAs, IsUnwritten};
+ghost use Rattle.per_core.specs.Rows.{unaligned, IsWrittenAs, IsUnwritten};
 
 use rasn_below::types::Integer;
 use rasn_below::{AsnType, Constrained, Constraint, Constraints, Limits, constraints};
@@ -24,7 +24,7 @@ impl Limits for UpTo65535Limits {
 
 /// INTEGER (..65535): a count of octets, and the number in two's complement, as without a bound (X.691 13.2.4). A
 /// greater number has no encoding.
-#[tactic(auto, unfolding(rasn_below::specs::Rows::bytes, rasn_below::specs::Types::normal))]
+#[tactic(auto, unfolding(per_core::specs::Rows::bytes, rasn_below::specs::Types::normal))]
 pub fn up_to_65535_is_written_as_it_is()
     ensures minus_128 { let own = ⟦<UpTo65535 as AsnType>⟧ in
         IsWrittenAs unaligned (own.schema own.CONSTRAINTS) own.levels own.value
@@ -51,7 +51,7 @@ impl Limits for FromMinusOneLimits {
 
 /// INTEGER (-1..): a count of octets, and how far the number is above -1, without a sign (X.691 13.2.3). A smaller
 /// number has no encoding, and by this project's limit none that no `i128` holds.
-#[tactic(auto, unfolding(rasn_below::specs::Rows::bytes, rasn_below::specs::Types::normal))]
+#[tactic(auto, unfolding(per_core::specs::Rows::bytes, rasn_below::specs::Types::normal))]
 pub fn from_minus_one_is_written_from_its_bound()
     ensures number_4096 { let own = ⟦<FromMinusOne as AsnType>⟧ in
         IsWrittenAs unaligned (own.schema own.CONSTRAINTS) own.levels own.value
@@ -83,7 +83,7 @@ impl Limits for NaturalLimits {
 }
 
 /// INTEGER (0..): a count of octets, and the number without a sign (X.691 13.2.3). A negative number has no encoding.
-#[tactic(auto, unfolding(rasn_below::specs::Rows::bytes, rasn_below::specs::Types::normal))]
+#[tactic(auto, unfolding(per_core::specs::Rows::bytes, rasn_below::specs::Types::normal))]
 pub fn natural_is_written_without_a_sign()
     ensures number_128 { let own = ⟦<Natural as AsnType>⟧ in
         IsWrittenAs unaligned (own.schema own.CONSTRAINTS) own.levels own.value

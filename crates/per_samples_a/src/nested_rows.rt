@@ -1,7 +1,7 @@
 //! What a CHOICE of a SEQUENCE, an untagged CHOICE and NULL is written as.
 
 ghost use Rattle.std.specs.Prelude.{true, [], ◌∷◌, pos};
-ghost use Rattle.rasn_below.specs.Rows.{aligned, unaligned, IsWrittenAs};
+ghost use Rattle.per_core.specs.Rows.{aligned, unaligned, IsWrittenAs};
 ghost use Rattle.per_samples_a.specs.declared.alternative.Alternative.TheVariants.{X, Y};
 ghost use Rattle.per_samples_a.specs.declared.nested.Nested.TheVariants.{Record, Inner, Last};
 
@@ -11,7 +11,7 @@ use rasn_below::schema::AsnType;
 /// The index in two bits, and behind that of the inner choice its own (X.691 23.6).
 #[tactic(auto, unfolding(
 // Words that these rows unfold.
-rasn_below::specs::Rows::bytes, rasn_below::specs::Types::normal, rasn_below::specs::Types::settle))]
+per_core::specs::Rows::bytes, rasn_below::specs::Types::normal, rasn_below::specs::Types::settle))]
 pub fn inner_choice_is_written_behind_the_outer_index()
     ensures record { let own = ⟦<Nested as AsnType>⟧ in
         IsWrittenAs unaligned (own.schema own.CONSTRAINTS) own.levels own.value

@@ -2,7 +2,7 @@
 
 ghost use Rattle.std.specs.Prelude.{refl, [], ◌∷◌, Some, pos};
 ghost use Rattle.rasn_below.specs.Page.{whole, fields_of};
-ghost use Rattle.rasn_below.specs.Rows.{aligned, unaligned, IsWrittenAs, IsUnwritten};
+ghost use Rattle.per_core.specs.Rows.{aligned, unaligned, IsWrittenAs, IsUnwritten};
 ghost use Rattle.per_samples_a.specs.Sevens.{seven};
 
 use rasn_below::page::*;
@@ -43,7 +43,7 @@ impl Record for Seven {
 
 /// A number of one value takes no bits (X.691 11.5.4), and a complete encoding of no bits is a zero octet
 /// (X.691 11.1.3).
-#[tactic(auto, unfolding(rasn_below::specs::Rows::bytes, rasn_below::specs::Types::normal))]
+#[tactic(auto, unfolding(per_core::specs::Rows::bytes, rasn_below::specs::Types::normal))]
 pub fn seven_is_a_zero_octet()
     ensures uper { let own = ⟦<Seven as AsnType>⟧ in
         IsWrittenAs unaligned (own.schema own.CONSTRAINTS) own.levels own.value

@@ -2,7 +2,7 @@
 
 ghost use Rattle.std.specs.Prelude.{refl, true, false, [], ◌∷◌, ◌++◌, replicate, Some, None};
 ghost use Rattle.rasn_below.specs.Page.{bits, slot_of, fields_of};
-ghost use Rattle.rasn_below.specs.Rows.{aligned, unaligned, IsUnwritten, IsWrittenAs};
+ghost use Rattle.per_core.specs.Rows.{aligned, unaligned, IsUnwritten, IsWrittenAs};
 ghost use Rattle.per_samples_a.specs.Signals.{signals};
 
 use rasn_below::page::*;
@@ -58,7 +58,7 @@ impl Record for Signals {
 
 /// Zero bits at the end aren't written but as the size asks for them, and the count without them says whether an
 /// extensible size is met (X.680 22.7; X.691 16.2, 16.6). The octets are those of another compiler.
-#[tactic(auto, unfolding(rasn_below::specs::Rows::bytes, rasn_below::specs::Types::normal))]
+#[tactic(auto, unfolding(per_core::specs::Rows::bytes, rasn_below::specs::Types::normal))]
 pub fn named_bits_are_written_without_zeros_at_their_end()
     ensures uper { let own = ⟦<Signals as AsnType>⟧ in
         IsWrittenAs unaligned (own.schema own.CONSTRAINTS) own.levels own.value

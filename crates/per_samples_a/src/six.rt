@@ -2,7 +2,7 @@
 
 ghost use Rattle.std.specs.Prelude.{refl, true, [], ◌∷◌, Some, None, max};
 ghost use Rattle.rasn_below.specs.Page.{truth, slot_of, slot_levels, fields_of};
-ghost use Rattle.rasn_below.specs.Rows.{unaligned, IsWrittenAs};
+ghost use Rattle.per_core.specs.Rows.{unaligned, IsWrittenAs};
 ghost use Rattle.per_samples_a.specs.Optionals.{six};
 
 use crate::twelve::Twelve;
@@ -66,7 +66,7 @@ impl Record for Six {
 }
 
 /// The presence bits of six stand before what is there (X.691 19.2).
-#[tactic(auto, unfolding(rasn_below::specs::Rows::bytes, rasn_below::specs::Types::normal))]
+#[tactic(auto, unfolding(per_core::specs::Rows::bytes, rasn_below::specs::Types::normal))]
 pub fn six_presence_bits_come_first()
     ensures { let own = ⟦<Six as AsnType>⟧ in
         IsWrittenAs unaligned (own.schema own.CONSTRAINTS) own.levels own.value

@@ -2,7 +2,7 @@
 
 ghost use Rattle.std.specs.Prelude.{refl, true, [], ◌∷◌, Some, None, pos};
 ghost use Rattle.rasn_below.specs.Page.{truth, whole, slot_of, fields_of};
-ghost use Rattle.rasn_below.specs.Rows.{unaligned, IsWrittenAs};
+ghost use Rattle.per_core.specs.Rows.{unaligned, IsWrittenAs};
 ghost use Rattle.per_samples_a.specs.Absents.{some_absent};
 
 use rasn_below::page::*;
@@ -46,7 +46,7 @@ impl Record for SomeAbsent {
 }
 
 /// The presence bits of the second and the third component stand before all components (X.691 19.2).
-#[tactic(auto, unfolding(rasn_below::specs::Rows::bytes, rasn_below::specs::Types::normal))]
+#[tactic(auto, unfolding(per_core::specs::Rows::bytes, rasn_below::specs::Types::normal))]
 pub fn presence_bits_come_first()
     ensures there { let own = ⟦<SomeAbsent as AsnType>⟧ in
         IsWrittenAs unaligned (own.schema own.CONSTRAINTS) own.levels own.value

@@ -3,7 +3,7 @@
 ghost use Rattle.std.specs.Prelude.{[], ◌∷◌, codes};
 ghost use Rattle.rasn_below.specs.Components.{size◌to◌, extensible, of_characters, any};
 ghost use Rattle.rasn_below.specs.Types.{from_to};
-ghost use Rattle.rasn_below.specs.Rows.{aligned, unaligned, IsWrittenAs, IsUnwritten};
+ghost use Rattle.per_core.specs.Rows.{aligned, unaligned, IsWrittenAs, IsUnwritten};
 
 use rasn_below::types::{Ia5String, VisibleString};
 use rasn_below::{AsnType, Constrained, Constraint, Constraints, Limits, constraints};
@@ -25,7 +25,7 @@ impl Limits for ShortVisibleLimits {
 
 /// VisibleString (SIZE (1..3, ...)): the extension bit, and beyond three characters a count without bounds; seven bits
 /// a character, in APER eight from a boundary on (X.691 30.4, 30.5).
-#[tactic(auto, unfolding(rasn_below::specs::Rows::bytes, rasn_below::specs::Types::normal))]
+#[tactic(auto, unfolding(per_core::specs::Rows::bytes, rasn_below::specs::Types::normal))]
 pub fn short_visible_is_written_past_its_size()
     ensures uper { let own = ⟦<ShortVisible as AsnType>⟧ in
         IsWrittenAs unaligned (own.schema own.CONSTRAINTS) own.levels own.value
@@ -54,7 +54,7 @@ impl Limits for LettersAToELimits {
 
 /// VisibleString (FROM ("A".."E")) (SIZE (1..20)): a character is its place in the alphabet, in three bits, in APER
 /// four (X.691 30.5). A character that isn't permitted has no encoding.
-#[tactic(auto, unfolding(rasn_below::specs::Rows::bytes, rasn_below::specs::Types::normal))]
+#[tactic(auto, unfolding(per_core::specs::Rows::bytes, rasn_below::specs::Types::normal))]
 pub fn letters_a_to_e_are_written_as_places()
     ensures uper { let own = ⟦<LettersAToE as AsnType>⟧ in
         IsWrittenAs unaligned (own.schema own.CONSTRAINTS) own.levels own.value
@@ -90,7 +90,7 @@ impl Limits for OnlyXLimits {
 /// IA5String (FROM ("x")): a character takes no bits, so its count is all (X.691 30.5.2).
 #[tactic(auto, unfolding(
 // Words that these rows unfold.
-rasn_below::specs::Rows::bytes, rasn_below::specs::Types::normal, rasn_below::specs::Types::interval_of))]
+per_core::specs::Rows::bytes, rasn_below::specs::Types::normal, rasn_below::specs::Types::interval_of))]
 pub fn only_x_is_written_as_its_count()
     ensures uper { let own = ⟦<OnlyX as AsnType>⟧ in
         IsWrittenAs unaligned (own.schema own.CONSTRAINTS) own.levels own.value

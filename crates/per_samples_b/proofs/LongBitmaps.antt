@@ -2,7 +2,7 @@
 use Rattle.std.proofs.Common.{arith, ◌≡◌, refl, ℕ, zero, suc, ◌≤◌, true, [], ◌∷◌, ◌++◌, map, replicate, Some, None}
 use Rattle.rasn_below.specs.Values.{truth, record_value, slot_of}
 use Rattle.rasn_below.specs.Types.{normal, sequence_at, settle}
-use Rattle.rasn_below.specs.Rows.{aligned, unaligned, bytes}
+use Rattle.per_core.specs.Rows.{aligned, unaligned, bytes}
 use Rattle.per_samples_b.specs.Many.{many}
 
 pub unaligned_row : (n : ℕ) → 1 ≤ n → bytes unaligned (sequence_at many n) (normal (sequence_at many n) (record_value [] (map (slot_of truth) (replicate 64 None ++ Some true ∷ []))))

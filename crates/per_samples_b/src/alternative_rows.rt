@@ -1,7 +1,7 @@
 //! What is written of choices with an extension marker.
 
 ghost use Rattle.std.specs.Prelude.{true, [], ◌∷◌};
-ghost use Rattle.rasn_below.specs.Rows.{aligned, unaligned, IsWrittenAs};
+ghost use Rattle.per_core.specs.Rows.{aligned, unaligned, IsWrittenAs};
 ghost use Rattle.per_samples_b.specs.declared.alt.Alt.TheVariants.{Added, Inner};
 ghost use Rattle.per_samples_b.specs.declared.alt1.Alt1.TheVariants.{A as first_a};
 ghost use Rattle.per_samples_b.specs.declared.alt2.Alt2.TheVariants.{A, B};
@@ -16,7 +16,7 @@ use rasn_below::AsnType;
 
 /// An alternative of the root stands behind an extension bit 0 and its index (X.691 23.5, 23.6), which has no bits
 /// where it is the only one.
-#[tactic(auto, unfolding(rasn_below::specs::Rows::bytes, rasn_below::specs::Types::normal))]
+#[tactic(auto, unfolding(per_core::specs::Rows::bytes, rasn_below::specs::Types::normal))]
 pub fn root_alternatives_are_written_behind_their_index()
     ensures first { let own = ⟦<Alt1 as AsnType>⟧ in
         IsWrittenAs unaligned (own.schema own.CONSTRAINTS) own.levels own.value (first_a true) (0x40 ∷ []) }
@@ -28,7 +28,7 @@ pub fn root_alternatives_are_written_behind_their_index()
 
 /// An alternative behind the marker is an extension bit 1, its index as a normally small number, and an open type
 /// (X.691 23.8).
-#[tactic(auto, unfolding(rasn_below::specs::Rows::bytes, rasn_below::specs::Types::normal))]
+#[tactic(auto, unfolding(per_core::specs::Rows::bytes, rasn_below::specs::Types::normal))]
 pub fn added_alternatives_are_open_types()
     ensures only { let own = ⟦<Alt2 as AsnType>⟧ in
         IsWrittenAs unaligned (own.schema own.CONSTRAINTS) own.levels own.value (B true)
@@ -44,7 +44,7 @@ pub fn added_alternatives_are_open_types()
 /// variant, and its contents are counted from there.
 #[tactic(auto, unfolding(
 // Words that these rows unfold.
-rasn_below::specs::Rows::bytes, rasn_below::specs::Types::normal, rasn_below::specs::Types::settle))]
+per_core::specs::Rows::bytes, rasn_below::specs::Types::normal, rasn_below::specs::Types::settle))]
 pub fn alternatives_stand_in_a_sequence()
     ensures aligned { let own = ⟦<TwoAlternatives as AsnType>⟧ in
         IsWrittenAs aligned (own.schema own.CONSTRAINTS) own.levels own.value
@@ -69,7 +69,7 @@ pub fn alternatives_stand_in_a_sequence()
 /// A choice without a tag of its own is written as any other.
 #[tactic(auto, unfolding(
 // Words that these rows unfold.
-rasn_below::specs::Rows::bytes, rasn_below::specs::Types::normal, rasn_below::specs::Types::settle))]
+per_core::specs::Rows::bytes, rasn_below::specs::Types::normal, rasn_below::specs::Types::settle))]
 pub fn an_untagged_choice_has_its_marker()
     ensures root { let own = ⟦<BesideSeveral as AsnType>⟧ in
         IsWrittenAs unaligned (own.schema own.CONSTRAINTS) own.levels own.value

@@ -1,7 +1,7 @@
 //! What is written of many additions.
 
 ghost use Rattle.std.specs.Prelude.{true, [], ◌∷◌, ◌++◌, Some, None, replicate};
-ghost use Rattle.rasn_below.specs.Rows.{aligned, unaligned, IsWrittenAs};
+ghost use Rattle.per_core.specs.Rows.{aligned, unaligned, IsWrittenAs};
 
 use crate::many::Many;
 use rasn_below::AsnType;

@@ -1,7 +1,7 @@
 //! What is written of some records with additions.
 
 ghost use Rattle.std.specs.Prelude.{true, false, [], ◌∷◌, Some, None};
-ghost use Rattle.rasn_below.specs.Rows.{aligned, unaligned, IsWrittenAs};
+ghost use Rattle.per_core.specs.Rows.{aligned, unaligned, IsWrittenAs};
 
 use crate::added_default::AddedDefault;
 use crate::grouped::Grouped;
@@ -12,7 +12,7 @@ use crate::outer3::Outer3;
 use rasn_below::AsnType;
 
 /// Without additions the extension bit is 0 (X.691 19.1).
-#[tactic(auto, unfolding(rasn_below::specs::Rows::bytes, rasn_below::specs::Types::normal))]
+#[tactic(auto, unfolding(per_core::specs::Rows::bytes, rasn_below::specs::Types::normal))]
 pub fn extension_bit_shows_additions()
     ensures none { let own = ⟦<NoneNeeded as AsnType>⟧ in
         IsWrittenAs unaligned (own.schema own.CONSTRAINTS) own.levels own.value (record {}) (0x00 ∷ []) }
@@ -25,7 +25,7 @@ pub fn extension_bit_shows_additions()
 {}
 
 /// A required addition is written, one at its default isn't (X.691 19.7, 19.9).
-#[tactic(auto, unfolding(rasn_below::specs::Rows::bytes, rasn_below::specs::Types::normal))]
+#[tactic(auto, unfolding(per_core::specs::Rows::bytes, rasn_below::specs::Types::normal))]
 pub fn additions_are_open_types()
     ensures needed { let own = ⟦<OneNeeded as AsnType>⟧ in
         IsWrittenAs unaligned (own.schema own.CONSTRAINTS) own.levels own.value
@@ -38,7 +38,7 @@ pub fn additions_are_open_types()
 {}
 
 /// A group that holds nothing isn't written (X.691 19.9).
-#[tactic(auto, unfolding(rasn_below::specs::Rows::bytes, rasn_below::specs::Types::normal))]
+#[tactic(auto, unfolding(per_core::specs::Rows::bytes, rasn_below::specs::Types::normal))]
 pub fn empty_groups_are_absent()
     ensures empty { let own = ⟦<Grouped as AsnType>⟧ in
         IsWrittenAs unaligned (own.schema own.CONSTRAINTS) own.levels own.value
@@ -46,7 +46,7 @@ pub fn empty_groups_are_absent()
 {}
 
 /// A group and an addition behind it.
-#[tactic(auto, unfolding(rasn_below::specs::Rows::bytes, rasn_below::specs::Types::normal))]
+#[tactic(auto, unfolding(per_core::specs::Rows::bytes, rasn_below::specs::Types::normal))]
 pub fn groups_are_open_types()
     ensures aligned { let own = ⟦<Outer3 as AsnType>⟧ in
         IsWrittenAs aligned (own.schema own.CONSTRAINTS) own.levels own.value

@@ -2,7 +2,7 @@
 
 ghost use Rattle.std.specs.Prelude.{[], ◌∷◌};
 ghost use Rattle.rasn_below.specs.Page.{extensible_items};
-ghost use Rattle.rasn_below.specs.Rows.{aligned, unaligned, IsWrittenAs};
+ghost use Rattle.per_core.specs.Rows.{aligned, unaligned, IsWrittenAs};
 ghost use Rattle.per_samples_c.specs.Colors.{color};
 ghost use Rattle.per_samples_c.specs.declared.colors.TwoColors.TheVariants.{A, B};
 
@@ -40,7 +40,7 @@ impl Items for TwoColors {
 impl ByKind for TwoColors {}
 
 /// The extension bit; behind 0 the place in no bits, and behind 1 the place as a normally small number (X.691 14.3).
-#[tactic(auto, unfolding(rasn_below::specs::Rows::bytes, rasn_below::specs::Types::normal))]
+#[tactic(auto, unfolding(per_core::specs::Rows::bytes, rasn_below::specs::Types::normal))]
 pub fn added_item_is_written_behind_its_bit()
     ensures root_item { let own = ⟦<TwoColors as AsnType>⟧ in
         IsWrittenAs unaligned (own.schema own.CONSTRAINTS) own.levels own.value A (0x00 ∷ []) }

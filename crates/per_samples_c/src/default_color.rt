@@ -2,7 +2,7 @@
 
 ghost use Rattle.std.specs.Prelude.{[], ◌∷◌, Some, true, false, refl};
 ghost use Rattle.rasn_below.specs.Page.{truth, fields_of};
-ghost use Rattle.rasn_below.specs.Rows.{aligned, unaligned, IsWrittenAs};
+ghost use Rattle.per_core.specs.Rows.{aligned, unaligned, IsWrittenAs};
 ghost use Rattle.per_samples_c.specs.Colors.{color};
 ghost use Rattle.per_samples_c.specs.Defaults.{default_color};
 ghost use Rattle.per_samples_c.specs.declared.colors.TwoColors.TheVariants.{A};
@@ -54,7 +54,7 @@ impl Record for DefaultColor {
 }
 
 /// Components that aren't at their defaults stand behind two presence bits (X.691 19.2, 19.5).
-#[tactic(auto, unfolding(rasn_below::specs::Rows::bytes, rasn_below::specs::Types::normal))]
+#[tactic(auto, unfolding(per_core::specs::Rows::bytes, rasn_below::specs::Types::normal))]
 pub fn other_components_stand_behind_their_bits()
     ensures none { let own = ⟦<DefaultColor as AsnType>⟧ in
         IsWrittenAs unaligned (own.schema own.CONSTRAINTS) own.levels own.value

@@ -2,7 +2,7 @@
 
 ghost use Rattle.std.specs.Prelude.{refl, true, [], ◌∷◌, Some};
 ghost use Rattle.rasn_below.specs.Page.{item, root, truth, fields_of, all_items};
-ghost use Rattle.rasn_below.specs.Rows.{aligned, unaligned, IsWrittenAs};
+ghost use Rattle.per_core.specs.Rows.{aligned, unaligned, IsWrittenAs};
 ghost use Rattle.per_samples_c.specs.Items.{with_item};
 
 use rasn_below::page::*;
@@ -107,7 +107,7 @@ impl Record for WithItem {
 }
 
 /// The place of the item in eight bits, in APER on an octet boundary (X.691 11.5.7.2, 14.2).
-#[tactic(auto, unfolding(rasn_below::specs::Rows::bytes, rasn_below::specs::Types::normal))]
+#[tactic(auto, unfolding(per_core::specs::Rows::bytes, rasn_below::specs::Types::normal))]
 pub fn item_of_256_takes_an_octet()
     ensures uper { let own = ⟦<WithItem as AsnType>⟧ in
         IsWrittenAs unaligned (own.schema own.CONSTRAINTS) own.levels own.value

@@ -2,7 +2,7 @@
 
 ghost use Rattle.std.specs.Prelude.{[], ◌∷◌};
 ghost use Rattle.rasn_below.specs.Page.{all_items};
-ghost use Rattle.rasn_below.specs.Rows.{unaligned, IsWrittenAs};
+ghost use Rattle.per_core.specs.Rows.{unaligned, IsWrittenAs};
 ghost use Rattle.per_samples_c.specs.Levels.{level};
 ghost use Rattle.per_samples_c.specs.declared.levels.Level.TheVariants.{L48, L63};
 
@@ -110,7 +110,7 @@ impl Items for Level {
 impl ByKind for Level {}
 
 /// The place of an item in six bits (X.691 14.2).
-#[tactic(auto, unfolding(rasn_below::specs::Rows::bytes, rasn_below::specs::Types::normal))]
+#[tactic(auto, unfolding(per_core::specs::Rows::bytes, rasn_below::specs::Types::normal))]
 pub fn one_of_64_items_takes_six_bits()
     ensures fortyninth { let own = ⟦<Level as AsnType>⟧ in
         IsWrittenAs unaligned (own.schema own.CONSTRAINTS) own.levels own.value L48 (0xc0 ∷ []) }

@@ -1,7 +1,7 @@
 //! What is written of some records with additions.
 
 ghost use Rattle.std.specs.Prelude.{true, false, [], ◌∷◌, Some, None};
-ghost use Rattle.rasn_below.specs.Rows.{aligned, unaligned, IsWrittenAs};
+ghost use Rattle.per_core.specs.Rows.{aligned, unaligned, IsWrittenAs};
 
 use crate::default_outer3::DefaultOuter3;
 use crate::grouped1::Grouped1;
@@ -9,7 +9,7 @@ use crate::grouped2::Grouped2;
 use rasn_below::AsnType;
 
 /// A group that holds an addition of its own alone is written, one that holds nothing isn't (X.691 19.9).
-#[tactic(auto, unfolding(rasn_below::specs::Rows::bytes, rasn_below::specs::Types::normal))]
+#[tactic(auto, unfolding(per_core::specs::Rows::bytes, rasn_below::specs::Types::normal))]
 pub fn groups_have_additions()
     ensures newer { let own = ⟦<Grouped2 as AsnType>⟧ in
         IsWrittenAs unaligned (own.schema own.CONSTRAINTS) own.levels own.value
@@ -24,7 +24,7 @@ pub fn groups_have_additions()
 {}
 
 /// A component at its default isn't written; one with an addition isn't at it (X.691 19.5).
-#[tactic(auto, unfolding(rasn_below::specs::Rows::bytes, rasn_below::specs::Types::normal))]
+#[tactic(auto, unfolding(per_core::specs::Rows::bytes, rasn_below::specs::Types::normal))]
 pub fn defaults_have_no_additions()
     ensures default { let own = ⟦<DefaultOuter3 as AsnType>⟧ in
         IsWrittenAs aligned (own.schema own.CONSTRAINTS) own.levels own.value

@@ -2,7 +2,7 @@
 
 ghost use Rattle.std.specs.Prelude.{refl, true, false, [], ◌∷◌, Some};
 ghost use Rattle.rasn_below.specs.Page.{truth, fields_of};
-ghost use Rattle.rasn_below.specs.Rows.{unaligned, IsWrittenAs};
+ghost use Rattle.per_core.specs.Rows.{unaligned, IsWrittenAs};
 ghost use Rattle.per_samples_lists.specs.Bytes.{byte};
 
 use rasn_below::page::*;
@@ -60,7 +60,7 @@ impl Record for Byte {
 }
 
 /// Eight bits are an octet, the first one highest (X.691 11.1).
-#[tactic(auto, unfolding(rasn_below::specs::Rows::bytes, rasn_below::specs::Types::normal))]
+#[tactic(auto, unfolding(per_core::specs::Rows::bytes, rasn_below::specs::Types::normal))]
 pub fn eight_bits_are_an_octet()
     ensures uper { let own = ⟦<Byte as AsnType>⟧ in
         IsWrittenAs unaligned (own.schema own.CONSTRAINTS) own.levels own.value

@@ -2,7 +2,7 @@
 
 ghost use Rattle.std.specs.Prelude.{refl, true, [], ◌∷◌, Some};
 ghost use Rattle.rasn_below.specs.Page.{octets, truth, fields_of};
-ghost use Rattle.rasn_below.specs.Rows.{aligned, unaligned, IsWrittenAs};
+ghost use Rattle.per_core.specs.Rows.{aligned, unaligned, IsWrittenAs};
 ghost use Rattle.per_samples_lists.specs.Empties.{maybe_empty};
 
 use rasn_below::page::*;
@@ -46,7 +46,7 @@ impl Record for MaybeEmpty {
 }
 
 /// The count of octets in two bits; where it is 0 nothing stands behind it, and in APER no padding (X.691 17.8).
-#[tactic(auto, unfolding(rasn_below::specs::Rows::bytes, rasn_below::specs::Types::normal))]
+#[tactic(auto, unfolding(per_core::specs::Rows::bytes, rasn_below::specs::Types::normal))]
 pub fn no_octets_are_their_count()
     ensures none { let own = ⟦<MaybeEmpty as AsnType>⟧ in
         IsWrittenAs unaligned (own.schema own.CONSTRAINTS) own.levels own.value

@@ -2,7 +2,7 @@
 
 ghost use Rattle.std.specs.Prelude.{[], ◌∷◌};
 ghost use Rattle.rasn_below.specs.Page.{alternative, list_value, octets, root};
-ghost use Rattle.rasn_below.specs.Rows.{aligned, unaligned, IsWrittenAs};
+ghost use Rattle.per_core.specs.Rows.{aligned, unaligned, IsWrittenAs};
 
 use crate::filter::Filter;
 use rasn_below::schema::AsnType;
@@ -11,7 +11,7 @@ use rasn_below::schema::AsnType;
 /// octets the count (17.8) and they. In the aligned variant a count starts an octet.
 #[tactic(auto, unfolding(
 // Words that these rows unfold.
-rasn_below::specs::Rows::bytes, rasn_below::specs::Types::normal, rasn_below::specs::Types::settle))]
+per_core::specs::Rows::bytes, rasn_below::specs::Types::normal, rasn_below::specs::Types::settle))]
 pub fn a_filter_is_its_index_and_an_alternative()
     ensures present { let own = ⟦<Filter as AsnType>⟧ in
         IsWrittenAs unaligned (own.schema own.CONSTRAINTS) (λ _. 1) (λ v. v)

@@ -2,7 +2,7 @@
 
 ghost use Rattle.std.specs.Prelude.{refl, [], ◌∷◌};
 ghost use Rattle.rasn_below.specs.Page.{fields_of};
-ghost use Rattle.rasn_below.specs.Rows.{unaligned, IsWrittenAs};
+ghost use Rattle.per_core.specs.Rows.{unaligned, IsWrittenAs};
 ghost use Rattle.per_samples_lists.specs.declared.nest.Nest.{Nest', None', Some'};
 ghost use Rattle.per_samples_lists.specs.Nests.{nest, nest_contents, nest_depth};
 
@@ -74,7 +74,7 @@ impl Decode for Nest {
 /// A bit for each level (X.691 19.2): 1 where a further one is inside, at last 0.
 #[tactic(auto, unfolding(
 // Words that these rows unfold.
-rasn_below::specs::Rows::bytes, rasn_below::specs::Types::normal, rasn_below::specs::Types::settle))]
+per_core::specs::Rows::bytes, rasn_below::specs::Types::normal, rasn_below::specs::Types::settle))]
 pub fn a_level_is_a_bit()
     ensures one { let own = ⟦<Nest as AsnType>⟧ in
         IsWrittenAs unaligned (own.schema own.CONSTRAINTS) own.levels own.value (Nest' None') (0x00 ∷ []) }

@@ -2,7 +2,7 @@
 
 ghost use Rattle.std.specs.Prelude.{refl, [], ◌∷◌};
 ghost use Rattle.rasn_below.specs.Page.{fields_of};
-ghost use Rattle.rasn_below.specs.Rows.{aligned, unaligned, IsWrittenAs};
+ghost use Rattle.per_core.specs.Rows.{aligned, unaligned, IsWrittenAs};
 ghost use Rattle.per_samples_lists.specs.Trees.{branch, tree, tree_contents, tree_depth};
 
 use rasn_below::codec::{Decode, Encode};
@@ -77,7 +77,7 @@ impl Decode for Tree {
 /// A tree is its number, in an octet, and its children behind their count (X.691 20.6), in both variants.
 #[tactic(auto, unfolding(
 // Words that these rows unfold.
-rasn_below::specs::Rows::bytes, rasn_below::specs::Types::normal, rasn_below::specs::Types::settle))]
+per_core::specs::Rows::bytes, rasn_below::specs::Types::normal, rasn_below::specs::Types::settle))]
 pub fn a_list_of_trees_is_counted()
     ensures leaf { let own = ⟦<Tree as AsnType>⟧ in
         IsWrittenAs unaligned (own.schema own.CONSTRAINTS) (λ _. 2) (λ v. v) (branch 1 []) (0x01 ∷ 0x00 ∷ []) }

@@ -2,7 +2,7 @@
 use Rattle.std.proofs.Common.{◌≡◌, ◌≤◌, ℕ, zero, suc, pos, List, [], ◌∷◌, Option, Some, None, arith, refl}
 use Rattle.rasn_below.specs.Values.{Value, day, sequence_value}
 use Rattle.rasn_below.specs.Types.{sequence_at, normal, settle, Schema, date_at}
-use Rattle.rasn_below.specs.Rows.{Variant, aligned, unaligned, bytes}
+use Rattle.per_core.specs.Rows.{Variant, aligned, unaligned, bytes}
 use Rattle.per_samples_sets.specs.Dnests.{dnest}
 
 -- a date at each depth of two levels or more

@@ -1,7 +1,7 @@
 //! What is written of a DATE, and of a recursive SEQUENCE with one.
 
 ghost use Rattle.std.specs.Prelude.{[], ◌∷◌, Some, None, pos};
-ghost use Rattle.rasn_below.specs.Rows.{aligned, unaligned, IsWrittenAs};
+ghost use Rattle.per_core.specs.Rows.{aligned, unaligned, IsWrittenAs};
 ghost use Rattle.per_samples_sets.specs.declared.dnest.Dnest.{Dnest', None', Some'};
 
 use crate::dnest::Dnest;

@@ -3,7 +3,7 @@
 
 ghost use Rattle.std.specs.Prelude.{[], ◌∷◌, None, Some, true, pos, refl};
 ghost use Rattle.rasn_below.specs.Page.{truth, whole, slot_of, fields_of};
-ghost use Rattle.rasn_below.specs.Rows.{aligned, unaligned, IsWrittenAs};
+ghost use Rattle.per_core.specs.Rows.{aligned, unaligned, IsWrittenAs};
 ghost use Rattle.per_samples_sets.specs.Sets.{extended_set};
 
 use rasn_below::page::*;
@@ -72,7 +72,7 @@ impl SetRecord for ExtendedSet {
 impl ByKind for ExtendedSet {}
 
 /// The root stands in the order of its tags, and the additions as they are listed (X.691 19.7, 21).
-#[tactic(auto, unfolding(rasn_below::specs::Rows::bytes, rasn_below::specs::Types::normal))]
+#[tactic(auto, unfolding(per_core::specs::Rows::bytes, rasn_below::specs::Types::normal))]
 pub fn additions_follow_the_root()
     ensures written { let own = ⟦<ExtendedSet as AsnType>⟧ in
         IsWrittenAs unaligned (own.schema own.CONSTRAINTS) own.levels own.value

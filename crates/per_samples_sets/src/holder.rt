@@ -2,7 +2,7 @@
 
 ghost use Rattle.std.specs.Prelude.{refl, true, [], ◌∷◌, Some, pos};
 ghost use Rattle.rasn_below.specs.Page.{truth, slot_of, slot_levels, fields_of};
-ghost use Rattle.rasn_below.specs.Rows.{aligned, unaligned, IsWrittenAs};
+ghost use Rattle.per_core.specs.Rows.{aligned, unaligned, IsWrittenAs};
 ghost use Rattle.per_samples_sets.specs.Holders.{holder};
 
 use crate::set::Set;
@@ -47,7 +47,7 @@ impl Record for Holder {
 }
 
 /// The SET among them is written in the order of its tags (X.691 21).
-#[tactic(auto, unfolding(rasn_below::specs::Rows::bytes, rasn_below::specs::Types::normal))]
+#[tactic(auto, unfolding(per_core::specs::Rows::bytes, rasn_below::specs::Types::normal))]
 pub fn set_is_written_within()
     ensures written { let own = ⟦<Holder as AsnType>⟧ in
         IsWrittenAs unaligned (own.schema own.CONSTRAINTS) own.levels own.value

@@ -1,7 +1,7 @@
 //! What is written of records with identifiers, bags and strings of any octets.
 
 ghost use Rattle.std.specs.Prelude.{[], ◌∷◌, Some, None, pos};
-ghost use Rattle.rasn_below.specs.Rows.{aligned, unaligned, IsWrittenAs};
+ghost use Rattle.per_core.specs.Rows.{aligned, unaligned, IsWrittenAs};
 ghost use Rattle.per_samples_sets.specs.declared.key.Key.TheVariants.{Object, Other};
 
 use crate::connect::Connect;
@@ -13,9 +13,9 @@ use rasn_below::AsnType;
 /// 24, 17).
 #[tactic(auto, unfolding(
 // Words that these rows unfold.
-rasn_below::specs::Rows::bytes, rasn_below::specs::Types::normal, rasn_below::specs::Rows::contents,
+per_core::specs::Rows::bytes, rasn_below::specs::Types::normal, per_core::specs::Rows::contents,
 // More words.
-rasn_below::specs::Rows::subidentifier))]
+per_core::specs::Rows::subidentifier))]
 pub fn key_is_written_behind_its_index()
     ensures object { let own = ⟦<Connect as AsnType>⟧ in
         IsWrittenAs aligned (own.schema own.CONSTRAINTS) own.levels own.value
@@ -29,9 +29,9 @@ pub fn key_is_written_behind_its_index()
 /// The members of a bag stand in the order of their encodings, behind their count in two bits (X.691 22, 11.5.7).
 #[tactic(auto, unfolding(
 // Words that these rows unfold.
-rasn_below::specs::Rows::bytes, rasn_below::specs::Types::normal, rasn_below::specs::Types::over_bag,
+per_core::specs::Rows::bytes, rasn_below::specs::Types::normal, rasn_below::specs::Types::over_bag,
 // More words.
-rasn_below::specs::Values::bag_of, rasn_below::specs::Rows::contents, rasn_below::specs::Rows::subidentifier))]
+rasn_below::specs::Values::bag_of, per_core::specs::Rows::contents, per_core::specs::Rows::subidentifier))]
 pub fn members_are_written_in_order()
     ensures { let own = ⟦<Membership as AsnType>⟧ in
         IsWrittenAs aligned (own.schema own.CONSTRAINTS) own.levels own.value
@@ -43,7 +43,7 @@ pub fn members_are_written_in_order()
 /// presence bit.
 #[tactic(auto, unfolding(
 // Words that these rows unfold.
-rasn_below::specs::Rows::bytes, rasn_below::specs::Types::normal, rasn_below::specs::Types::settle))]
+per_core::specs::Rows::bytes, rasn_below::specs::Types::normal, rasn_below::specs::Types::settle))]
 pub fn texts_are_octets_behind_their_lengths()
     ensures { let own = ⟦<SomeTexts as AsnType>⟧ in
         IsWrittenAs aligned (own.schema own.CONSTRAINTS) own.levels own.value

@@ -1,7 +1,7 @@
 //! What is written of SETs: their components, and the presence bits of these, in ascending order of their tags.
 
 ghost use Rattle.std.specs.Prelude.{true, false, [], ◌∷◌, Some, None};
-ghost use Rattle.rasn_below.specs.Rows.{aligned, unaligned, IsWrittenAs};
+ghost use Rattle.per_core.specs.Rows.{aligned, unaligned, IsWrittenAs};
 ghost use Rattle.per_samples_sets.specs.declared.truth_or_none.TruthOrNone.TheVariants.{M, N};
 
 use crate::set::Set;
@@ -12,7 +12,7 @@ use rasn_below::AsnType;
 /// The component with the smaller tag stands first (X.691 21.1), and padding is decided in that order.
 #[tactic(auto, unfolding(
 // Words that these rows unfold.
-rasn_below::specs::Rows::bytes, rasn_below::specs::Types::normal, rasn_below::specs::Types::smallest))]
+per_core::specs::Rows::bytes, rasn_below::specs::Types::normal, rasn_below::specs::Types::smallest))]
 pub fn components_are_in_the_order_of_their_tags()
     ensures aligned { let own = ⟦<Set as AsnType>⟧ in
         IsWrittenAs aligned (own.schema own.CONSTRAINTS) own.levels own.value
@@ -25,7 +25,7 @@ pub fn components_are_in_the_order_of_their_tags()
 /// Presence bits stand in the order of the tags, too (X.691 21.1).
 #[tactic(auto, unfolding(
 // Words that these rows unfold.
-rasn_below::specs::Rows::bytes, rasn_below::specs::Types::normal, rasn_below::specs::Types::smallest))]
+per_core::specs::Rows::bytes, rasn_below::specs::Types::normal, rasn_below::specs::Types::smallest))]
 pub fn presence_bits_are_in_the_order_of_the_tags()
     ensures first_listed { let own = ⟦<SetOptional as AsnType>⟧ in
         IsWrittenAs unaligned (own.schema own.CONSTRAINTS) own.levels own.value
@@ -44,7 +44,7 @@ pub fn presence_bits_are_in_the_order_of_the_tags()
 /// A choice without a tag of its own counts with the smallest of its alternatives', whichever is chosen (X.691 21.1).
 #[tactic(auto, unfolding(
 // Words that these rows unfold.
-rasn_below::specs::Rows::bytes, rasn_below::specs::Types::normal, rasn_below::specs::Types::smallest,
+per_core::specs::Rows::bytes, rasn_below::specs::Types::normal, rasn_below::specs::Types::smallest,
 // More words.
 rasn_below::specs::Types::least_of))]
 pub fn a_choice_counts_with_its_smallest_tag()

@@ -7,7 +7,7 @@ use Rattle.rasn_schema.specs.Lawful.{IsLawfulType}
 use Rattle.rasn_schema.specs.Levels.{Levelled}
 use Rattle.rasn_schema.specs.Normal.{normal}
 use Rattle.rasn_schema.specs.Schemas.{Schema}
-use Rattle.rasn_traits.specs.Calls.{AtDepths}
+use Rattle.rasn_schema.specs.AtDepths.{AtDepths}
 use Rattle.per_core.specs.Basic.{read}
 use Rattle.per_core.specs.Spellings.{Settings}
 use Rattle.per_laws.proofs.Readers.{deeper_reads}

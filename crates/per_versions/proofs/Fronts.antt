@@ -10,7 +10,7 @@ use Rattle.rasn_schema.specs.Levels.{Levelled}
 use Rattle.per_core.specs.Basic.{fills, fills_known, front, read}
 use Rattle.per_core.specs.Spellings.{Settings}
 use Rattle.per_core.specs.Versions.{NewerType}
-use Rattle.per_core.proofs.Codes.{split_at_length}
+use Rattle.rasn_types.proofs.Codes.{split_at_length}
 use Rattle.per_core.proofs.Laws.{one_front, one_value}
 use Rattle.per_laws.proofs.AnyDepth
 use Rattle.per_laws.proofs.Levelled.{levelled_type_unfolds}

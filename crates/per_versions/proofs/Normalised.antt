@@ -9,7 +9,7 @@ use Rattle.rasn_schema.specs.Normal.{is_vacant, settle, each_slot, over_elements
 use Rattle.rasn_schema.specs.Schemas.{Presence, required, optional, group, default, Schema, Parts}
 use Rattle.per_core.specs.Basic.{fills, read}
 use Rattle.per_core.specs.Spellings.{Settings}
-use Rattle.per_core.proofs.Codes.{same_true}
+use Rattle.rasn_types.proofs.Codes.{same_true}
 use Rattle.per_core.proofs.LengthForms.{or_left, or_right}
 use Rattle.per_laws.proofs.Transitive.{or_both}
 use Rattle.per_laws.proofs.Types.{up_to}

@@ -17,9 +17,9 @@ use Rattle.per_core.specs.Canon as Canon
 use Rattle.per_core.specs.Canon.{ascending, bytes, canon, chosen, completed, members, octet_key}
 use Rattle.per_core.specs.Counts.{bit_items, counted, list_items}
 use Rattle.per_core.specs.Spellings.{Settings}
-use Rattle.per_core.specs.Versions.{all_of, joined}
+use Rattle.rasn_types.specs.AllOf.{all_of, joined}
 use Rattle.per_core.specs.Writers.{complete, written_if, Writer}
-use Rattle.per_core.proofs.Bags.{bag_becomes, some_list}
+use Rattle.rasn_schema.proofs.Bags.{bag_becomes, some_list}
 use Rattle.per_core.proofs.Counting.{length-map'}
 use Rattle.per_core.proofs.LengthForms.{and_left, and_right}
 use Rattle.per_core.proofs.Readings.{length-rules-in}

@@ -8,9 +8,10 @@ use Rattle.rasn_schema.specs.Lawful.{AreLawful, IsLawful, IsLawfulPresence, is_g
 use Rattle.per_laws.proofs.Normals.{named_still}
 use Rattle.rasn_schema.specs.Normal.{is_idle, are_idle, is_vacant, settle, each_slot, if_named, over_elements, over_bag, over_fields, over_alternative, normal, normals, normal_at}
 use Rattle.rasn_schema.specs.Schemas.{Presence, required, optional, group, default, Schema, Parts, no_parts, part}
-use Rattle.per_core.specs.Versions.{project, project_slots, project_at, slot_through, slots_through, through_elements, through_bag, through_fields, through_alternative, made, made_both, joined, all_of, IsPlain, NewerPresence, Newer, NewerParts, unchanged, more_items, newer_containing, newer_list, newer_set_of, newer_sequence, newer_choice, no_more, more_parts, also}
-use Rattle.per_core.proofs.Bags.{joined_of, sort}
-use Rattle.per_core.proofs.Codes.{same_true}
+use Rattle.rasn_types.specs.AllOf.{joined, all_of}
+use Rattle.per_core.specs.Versions.{project, project_slots, project_at, slot_through, slots_through, through_elements, through_bag, through_fields, through_alternative, made, made_both, IsPlain, NewerPresence, Newer, NewerParts, unchanged, more_items, newer_containing, newer_list, newer_set_of, newer_sequence, newer_choice, no_more, more_parts, also}
+use Rattle.rasn_schema.proofs.Bags.{joined_of, sort}
+use Rattle.rasn_types.proofs.Codes.{same_true}
 use Rattle.per_core.proofs.LengthForms.{and_left, and_right, or_left, or_right}
 use Rattle.per_laws.proofs.Chains.{bag_through}
 use Rattle.per_laws.proofs.Normals.{bag_map}

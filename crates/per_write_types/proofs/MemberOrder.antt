@@ -11,9 +11,9 @@ use Rattle.rasn_constraints.specs.Bounds.{Size}
 use Rattle.rasn_schema.specs.Schemas.{Schema}
 use Rattle.per_core.specs.Canon.{ascending, bytes, canon, completed, octet_key}
 use Rattle.per_core.specs.Counts.{counted, list_items}
-use Rattle.per_core.specs.Versions.{all_of, joined}
+use Rattle.rasn_types.specs.AllOf.{all_of, joined}
 use Rattle.per_core.specs.Writers.{Writer, written_if}
-use Rattle.per_core.proofs.Bags.{bag_becomes, some_list, sort}
+use Rattle.rasn_schema.proofs.Bags.{bag_becomes, some_list, sort}
 use Rattle.per_core.proofs.Laws.{same_bytes}
 use Rattle.per_write_types.specs.Written.{AreWritten}
 use Rattle.rasn_schema.proofs.Sorting.{map_sorted}

@@ -10,7 +10,7 @@ use Rattle.rasn_schema.specs.Schemas.{Schema}
 use Rattle.per_core.specs.Canon.{ascending, canon, octet_key}
 use Rattle.per_core.specs.Counts.{counted, list_items}
 use Rattle.per_core.specs.Writers.{Writer, written_if}
-use Rattle.per_core.proofs.Bags.{sort}
+use Rattle.rasn_schema.proofs.Bags.{sort}
 use Rattle.per_errors.specs.Bounds.{value_of, lower_of, upper_of}
 use Rattle.per_write.specs.declared.error.EncodeError.{EncodeError}
 use Rattle.per_write.specs.declared.error.EncodeErrorKind.{EncodeErrorKind}

@@ -5,7 +5,8 @@ use Rattle.rasn_schema.specs.Schemas.{TagTree, Presence, Schema}
 use Rattle.rasn_schema.specs.Normal.{normal, settle}
 use Rattle.rasn_traits.specs.Additions.{WrittenAddition}
 use Rattle.rasn_traits.specs.AdditionsRead.{FaultyAddition, ReadsAddition}
-use Rattle.rasn_traits.specs.Calls.{Answers, AtDepths, Behaves, DecoderRules, EncoderRules}
+use Rattle.rasn_schema.specs.AtDepths.{AtDepths}
+use Rattle.rasn_traits.specs.Calls.{Answers, Behaves, DecoderRules, EncoderRules}
 
 -- the normal form of an addition: a group that holds nothing is absent
 abbrev pub normal_addition : Presence → Schema → Option Value → Option Value

@@ -1,2 +1,2 @@
 -- What values that are the same by their codes are.
-pub use Rattle.per_core.proofs.Codes.{same_true}
+pub use Rattle.rasn_types.proofs.Codes.{same_true}

@@ -2,7 +2,6 @@ pub mod Calls
 pub mod Components
 pub mod OwnTags
 pub mod Page
-pub mod Rows
 pub mod Times
 pub mod Types
 pub mod Values

@@ -6,7 +6,6 @@ ghost use Rattle.rasn_schema.specs.Choices.{place_of};
 ghost use Rattle.rasn_schema.specs.Fields.{tag_of};
 
 pub use rasn_constraints::constraints::{Bounded, Constraint, Constraints, Extensible};
-pub use rasn_constraints::effective::effective_value;
 pub use rasn_constraints::integer_type::IntegerType;
 pub use rasn_schema::choices::{Choice, Variants};
 pub use rasn_schema::constrained::{Constrained, Limits};

@@ -1,8 +1,11 @@
 //! Constraints (X.680 49 to 52): bounds, sizes, permitted alphabets and extension markers.
 
-ghost use Rattle.std.specs.Prelude.{◌≡◌, ◌≤◌, ℕ, ℤ, pos, true, false, option_map};
-ghost use Rattle.rasn_constraints.specs.Bounds.{holds};
+ghost use Rattle.std.specs.Prelude.{◌≡◌, ◌≤◌, ℕ, ℤ, pos, true, false, option_map, MatchOption};
+ghost use Rattle.std.specs.Option.{ForSome};
+ghost use Rattle.either.specs.Either.{IsLeftAnd, IsRightAnd};
+ghost use Rattle.rasn_constraints.specs.Bounds.{above, holds};
 
+use either::{Either, Left, Right};
 use std::marker::Model;
 
 /// A number type in which bounds are stated: `i128` for values, `usize` for sizes.
@@ -57,7 +60,7 @@ impl<T: Copy> Bounded<T> {
 }
 
 impl<T: Number> Bounded<T> {
-    ghost use Rattle.rasn_constraints.specs.Constraints.{bounds_by, how_many};
+    ghost use Rattle.rasn_constraints.specs.Constraints.{bounds_by, how_many, start_of};
 
     /// Whether a value is within the bounds: none is, where the start is above the end.
     #[inline(always)]
@@ -83,6 +86,22 @@ impl<T: Number> Bounded<T> {
             return None;
         }
         end.abs_diff(start).checked_add(1)
+    }
+
+    /// What is written for a value under the bounds: where there is a start, how far the value is above it, `Left`
+    /// (X.691 11.5.3, 11.7.3), and else the value itself, `Right` (X.691 11.8). The value has to be within the bounds,
+    /// and its distance from the start has to be a number of the type.
+    pub fn effective_value(&self, value: T) -> Either<T, T>
+        requires within { holds (bounds_by T.whole self.now) (T.whole value) ≡ true }
+        requires fits { ForSome (start_of self.now) (λ start. above (T.whole start) (T.whole value) ≤ T.greatest) }
+        ensures { MatchOption (start_of self.now)
+            (IsRightAnd result (λ same. same ≡ value))
+            (λ start. IsLeftAnd result (λ offset. T.whole offset ≡ pos (above (T.whole start) (T.whole value)))) }
+    {
+        match self.start_and_end() {
+            (Some(start), _) => Left(T::from_u128(value.as_i128().abs_diff(start.as_i128()))),
+            (None, _) => Right(value),
+        }
     }
 }
 

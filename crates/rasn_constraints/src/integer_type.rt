@@ -1,6 +1,7 @@
 //! The number types that an INTEGER is held in (X.680 19).
 
-ghost use Rattle.std.specs.Prelude.{◌≡◌, ℕ, ℤ, pos, true, false, IfOk, MatchOption};
+ghost use Rattle.std.specs.Prelude.{◌≡◌, ℕ, ℤ, pos, true, false, int_lt, IfOk, MatchOption};
+ghost use Rattle.std.specs.Ordering.{int_cmp};
 ghost use Rattle.rasn_types.specs.Octets.{signed_octets, signed};
 ghost use Rattle.rasn_constraints.specs.Bounds.{Bounds, holds, fits_i128, unbounded};
 ghost use Rattle.rasn_constraints.specs.Ranges.{i128_range, signed_range, unsigned_range};
@@ -8,6 +9,7 @@ ghost use Rattle.rasn_constraints.specs.Ranges.{i128_range, signed_range, unsign
 use rasn_types::big::Integer;
 use rasn_types::integer::{signed_octets_of, whole_of_octets};
 use std::alloc::{AllocError, Allocator, Global};
+use std::cmp::Ordering;
 
 /// A type of whole numbers that an INTEGER is held in (X.680 19).
 pub trait IntegerType: Sized + Drop {
@@ -31,6 +33,17 @@ pub trait IntegerType: Sized + Drop {
     fn try_from_i128(value: i128) -> Option<Self>
         ensures { MatchOption result (holds range value ≡ false)
             (λ x. (number x ≡ value) × (holds range (number x) ≡ true)) };
+
+    /// How the number compares with an `i128`, be it one that an `i128` holds or not.
+    fn cmp_i128(&self, other: i128) -> Ordering
+        ensures { result ≡ int_cmp (number self.now) other };
+
+    /// Whether the number is below 0.
+    fn is_negative(&self) -> bool
+        ensures { result ≡ int_lt (number self.now) (pos 0) }
+    {
+        self.cmp_i128(0).is_lt()
+    }
 
     /// The fewest octets of the number in two's complement, highest first (X.690 8.3.2).
     fn to_signed_bytes_be<A: Allocator>(&self, alloc: A) -> Result<Vec<u8, A>, AllocError>
@@ -61,6 +74,10 @@ impl IntegerType for i8 {
         i8::try_from(value).ok()
     }
 
+    fn cmp_i128(&self, other: i128) -> Ordering {
+        i128::from(*self).cmp(&other)
+    }
+
     fn to_signed_bytes_be<A: Allocator>(&self, alloc: A) -> Result<Vec<u8, A>, AllocError> {
         signed_octets_of(alloc, i128::from(*self))
     }
@@ -86,6 +103,10 @@ impl IntegerType for i16 {
 
     fn try_from_i128(value: i128) -> Option<i16> {
         i16::try_from(value).ok()
+    }
+
+    fn cmp_i128(&self, other: i128) -> Ordering {
+        i128::from(*self).cmp(&other)
     }
 
     fn to_signed_bytes_be<A: Allocator>(&self, alloc: A) -> Result<Vec<u8, A>, AllocError> {
@@ -115,6 +136,10 @@ impl IntegerType for i32 {
         i32::try_from(value).ok()
     }
 
+    fn cmp_i128(&self, other: i128) -> Ordering {
+        i128::from(*self).cmp(&other)
+    }
+
     fn to_signed_bytes_be<A: Allocator>(&self, alloc: A) -> Result<Vec<u8, A>, AllocError> {
         signed_octets_of(alloc, i128::from(*self))
     }
@@ -140,6 +165,10 @@ impl IntegerType for i64 {
 
     fn try_from_i128(value: i128) -> Option<i64> {
         i64::try_from(value).ok()
+    }
+
+    fn cmp_i128(&self, other: i128) -> Ordering {
+        i128::from(*self).cmp(&other)
     }
 
     fn to_signed_bytes_be<A: Allocator>(&self, alloc: A) -> Result<Vec<u8, A>, AllocError> {
@@ -169,6 +198,10 @@ impl IntegerType for i128 {
         Some(value)
     }
 
+    fn cmp_i128(&self, other: i128) -> Ordering {
+        self.cmp(&other)
+    }
+
     fn to_signed_bytes_be<A: Allocator>(&self, alloc: A) -> Result<Vec<u8, A>, AllocError> {
         signed_octets_of(alloc, *self)
     }
@@ -194,6 +227,10 @@ impl IntegerType for u8 {
 
     fn try_from_i128(value: i128) -> Option<u8> {
         u8::try_from(value).ok()
+    }
+
+    fn cmp_i128(&self, other: i128) -> Ordering {
+        i128::from(*self).cmp(&other)
     }
 
     fn to_signed_bytes_be<A: Allocator>(&self, alloc: A) -> Result<Vec<u8, A>, AllocError> {
@@ -223,6 +260,10 @@ impl IntegerType for u16 {
         u16::try_from(value).ok()
     }
 
+    fn cmp_i128(&self, other: i128) -> Ordering {
+        i128::from(*self).cmp(&other)
+    }
+
     fn to_signed_bytes_be<A: Allocator>(&self, alloc: A) -> Result<Vec<u8, A>, AllocError> {
         signed_octets_of(alloc, i128::from(*self))
     }
@@ -248,6 +289,10 @@ impl IntegerType for u32 {
 
     fn try_from_i128(value: i128) -> Option<u32> {
         u32::try_from(value).ok()
+    }
+
+    fn cmp_i128(&self, other: i128) -> Ordering {
+        i128::from(*self).cmp(&other)
     }
 
     fn to_signed_bytes_be<A: Allocator>(&self, alloc: A) -> Result<Vec<u8, A>, AllocError> {
@@ -277,6 +322,10 @@ impl IntegerType for u64 {
         u64::try_from(value).ok()
     }
 
+    fn cmp_i128(&self, other: i128) -> Ordering {
+        i128::from(*self).cmp(&other)
+    }
+
     fn to_signed_bytes_be<A: Allocator>(&self, alloc: A) -> Result<Vec<u8, A>, AllocError> {
         signed_octets_of(alloc, i128::from(*self))
     }
@@ -303,6 +352,10 @@ impl IntegerType for Integer {
 
     fn try_from_i128(value: i128) -> Option<Integer> {
         Some(Integer::from(value))
+    }
+
+    fn cmp_i128(&self, other: i128) -> Ordering {
+        self.cmp(&Integer::from(other))
     }
 
     fn to_signed_bytes_be<A: Allocator>(&self, alloc: A) -> Result<Vec<u8, A>, AllocError> {

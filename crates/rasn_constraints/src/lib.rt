@@ -2,6 +2,5 @@
 #![tactic(auto)]
 
 pub mod constraints;
-pub mod effective;
 pub mod integer_type;
 pub mod limits;

@@ -3,7 +3,7 @@ use Rattle.std.proofs.Common.{◌≡◌, refl, Bool, true, false, ◌&&◌, ℕ,
 use Rattle.std.specs.Bool.{Decides}
 use Rattle.std.proofs.lemmas.Bool.{eq-eqb}
 use Rattle.rasn_types.specs.Values.{Value, same, code, equal_lists}
-use Rattle.per_core.proofs.Codes.{same_true}
+use Rattle.rasn_types.proofs.Codes.{same_true}
 
 equal_self : (xs : List ℕ) → equal_lists xs xs ≡ true
 equal_self [] = refl

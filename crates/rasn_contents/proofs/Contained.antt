@@ -4,7 +4,8 @@ use Rattle.std.specs.Prelude.{Result, Ok, Err}
 use Rattle.rasn_types.specs.Values.{Value}
 use Rattle.rasn_schema.specs.Normal.{normal}
 use Rattle.rasn_schema.specs.Schemas.{Schema}
-use Rattle.rasn_traits.specs.Calls.{AtDepths, EncoderRules, Written}
+use Rattle.rasn_schema.specs.AtDepths.{AtDepths}
+use Rattle.rasn_traits.specs.Calls.{EncoderRules, Written}
 use Rattle.rasn_traits.specs.Contents.{ClosesContents, PassesContents}
 
 normal_contained : (s : Schema) (v : Value) → normal s v ≡ normal (Schema.containing s) v

@@ -8,7 +8,7 @@ use Rattle.rasn_types.specs.declared.types.Codec.{Codec}
 use Rattle.rasn_types.specs.Values.{Value}
 use Rattle.rasn_schema.specs.Schemas.{Schema}
 use Rattle.rasn_schema.specs.Normal.{normal}
-use Rattle.rasn_traits.specs.Calls.{AtDepths}
+use Rattle.rasn_schema.specs.AtDepths.{AtDepths}
 use Rattle.per_core.specs.Writers.{join}
 use Rattle.per_core.specs.Canon.{canon, bytes, completed}
 use Rattle.per_enc.specs.Rules.{fresh, Presents}

@@ -6,7 +6,7 @@ use Rattle.rasn_types.specs.Values.{Value}
 use Rattle.rasn_types.specs.declared.types.Codec.{Codec}
 use Rattle.rasn_schema.specs.Schemas.{Schema}
 use Rattle.rasn_schema.specs.Normal.{normal}
-use Rattle.rasn_traits.specs.Calls.{AtDepths}
+use Rattle.rasn_schema.specs.AtDepths.{AtDepths}
 use Rattle.per_write.specs.Faults.{IsInValue}
 use Rattle.per_write.specs.declared.error.EncodeError.{EncodeError}
 use Rattle.per_write.specs.declared.error.EncodeErrorKind.TheVariants.{OutOfMemory as no_room_to_write}

@@ -1,3 +1,4 @@
+pub mod Bags
 pub mod Canonised
 pub mod Places
 pub mod Both

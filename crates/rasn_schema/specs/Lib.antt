@@ -1,4 +1,5 @@
 pub mod Absent
+pub mod AtDepths
 pub mod Canonised
 pub mod Choices
 pub mod Components

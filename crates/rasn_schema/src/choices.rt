@@ -156,9 +156,9 @@ pub trait Choice: AsnType {
 
     ghost EXTENDED_VARIANTS: { Option (List VariantShape) };
 
-    /// The identifier of each alternative (X.680 29.1): the root's, and behind them those behind the marker. No clause
-    /// ties them to the alternatives.
-    const IDENTIFIERS: &'static [&'static str];
+    /// The identifier of each alternative (X.680 29.1): the root's, and behind them those behind the marker; none,
+    /// where the type names none. No clause ties them to the alternatives.
+    const IDENTIFIERS: &'static [&'static str] = &[];
 
     // The root alternatives, to a number of levels.
     ghost alternatives: { ℕ → Parts };

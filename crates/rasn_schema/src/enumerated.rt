@@ -17,9 +17,9 @@ pub trait Enumerated: AsnType + Sized + Drop {
 
     ghost EXTENSIBLE: { Bool };
 
-    /// The identifier of each item (X.680 20.1): those before the extension marker, and behind them those after it. No
-    /// clause ties them to the items.
-    const IDENTIFIERS: &'static [&'static str];
+    /// The identifier of each item (X.680 20.1): those before the extension marker, and behind them those after it;
+    /// none, where the type names none. No clause ties them to the items.
+    const IDENTIFIERS: &'static [&'static str] = &[];
 
     // How many items stand before the extension marker.
     ghost roots: { ℕ };

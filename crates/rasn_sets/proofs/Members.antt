@@ -9,8 +9,8 @@ use Rattle.rasn_traits.specs.Calls.{EncoderRules}
 use Rattle.rasn_traits.specs.Bags.{WritesMember}
 use Rattle.rasn_traits.specs.Lists.{Amid}
 use Rattle.rasn_codec.proofs.Elements.{Awaits, Collection}
-use Rattle.per_core.specs.Versions.{all_of, joined}
-use Rattle.per_core.proofs.Bags.{bag_becomes, some_list, sort}
+use Rattle.rasn_types.specs.AllOf.{all_of, joined}
+use Rattle.rasn_schema.proofs.Bags.{bag_becomes, some_list, sort}
 use Rattle.rasn_sets.specs.Bags.{set_at}
 
 -- the bag of what the members of a bag become

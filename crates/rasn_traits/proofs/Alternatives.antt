@@ -7,7 +7,8 @@ use Rattle.rasn_schema.specs.Schemas.{Schema, Parts, no_parts, part}
 use Rattle.rasn_schema.specs.Choices.{VariantShape, alternative_at, alternative_in, one_level_in, place_of, variants_on}
 use Rattle.rasn_schema.specs.Fields.{tag_of}
 use Rattle.rasn_schema.specs.Normal.{normal, normal_at}
-use Rattle.rasn_traits.specs.Calls.{Answers, AtDepths, EncoderRules, Written, DecoderRules, Refuses, DecodesWell}
+use Rattle.rasn_schema.specs.AtDepths.{AtDepths}
+use Rattle.rasn_traits.specs.Calls.{Answers, EncoderRules, Written, DecoderRules, Refuses, DecodesWell}
 use Rattle.rasn_traits.specs.Choices.{AtAlternative, AlternativeWritten, PassesChoice, ClosesChoice, ChoicesWell, IsChosen, ReadsAlternative, TakesAlternative}
 use Rattle.rasn_traits.proofs.Writing.{at_suc}
 

@@ -6,7 +6,8 @@ use Rattle.rasn_schema.specs.Normal.{normal, normals}
 use Rattle.rasn_schema.specs.Records.{record_at, record_value}
 use Rattle.rasn_schema.specs.Schemas.{by_tag, count, listed, Parts, Schema}
 use Rattle.rasn_schema.proofs.Canonised.{normals_ordered}
-use Rattle.rasn_traits.specs.Calls.{AtDepths, EncoderRules, Written}
+use Rattle.rasn_schema.specs.AtDepths.{AtDepths}
+use Rattle.rasn_traits.specs.Calls.{EncoderRules, Written}
 use Rattle.rasn_traits.specs.Scopes.{OpenedToWrite}
 use Rattle.rasn_traits.specs.Sets.{InTagOrder, SetsWritten}
 use Rattle.rasn_traits.proofs.Writing.{at_suc, normal-ordered, normal-record}

@@ -5,7 +5,8 @@ use Rattle.rasn_types.specs.Values.{Value}
 use Rattle.rasn_schema.specs.Schemas.{TagTree, Presence, required, group, listed, Schema, Parts, no_parts, part}
 use Rattle.rasn_schema.specs.Normal.{normal, normals, settle}
 use Rattle.rasn_schema.specs.Records.{AtParts}
-use Rattle.rasn_traits.specs.Calls.{AtDepths, Behaves, EncoderRules}
+use Rattle.rasn_schema.specs.AtDepths.{AtDepths}
+use Rattle.rasn_traits.specs.Calls.{Behaves, EncoderRules}
 use Rattle.rasn_traits.specs.Presences.{presence_bit}
 
 -- a record of these root components, with or without an extension marker, and these additions behind it

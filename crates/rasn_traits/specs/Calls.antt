@@ -2,13 +2,10 @@
 use Rattle.std.specs.Prelude.{◌≡◌, ℕ, ◌≤◌, ◌⊎◌, Bool, true, false, Option, Result, Ok, Err, OnErr, IsErrAnd}
 use Rattle.rasn_types.specs.declared.types.Codec.{Codec}
 use Rattle.rasn_types.specs.Values.{Value}
+use Rattle.rasn_schema.specs.AtDepths.{AtDepths}
 use Rattle.rasn_schema.specs.Schemas.{Schema, Tag}
 use Rattle.rasn_schema.specs.Lawful.{is_group_schema}
 use Rattle.rasn_schema.specs.Normal.{normal, is_vacant}
-
--- a fact at each unfolding of a schema that is deep enough for a value of k levels
-pub record AtDepths (schema : ℕ → Schema) (k : ℕ) (P : Schema → Type 0) : Type 0 where
-  pub at : (n : ℕ) → k ≤ n → P (schema n)
 
 -- of a call that takes no memory: no error says that there was none
 abbrev pub takes_none : {E X : Type 0} → E → X → Type 0

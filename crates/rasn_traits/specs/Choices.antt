@@ -12,7 +12,8 @@ use Rattle.rasn_schema.specs.Choices.{variants_on}
 use Rattle.rasn_schema.specs.Components.{Chosen}
 use Rattle.rasn_schema.specs.Fields.{tag_of}
 use Rattle.rasn_schema.specs.Normal.{normal}
-use Rattle.rasn_traits.specs.Calls.{AtDepths, Behaves, EncoderRules, Encodes, Written, DecoderRules, Refuses, Answers}
+use Rattle.rasn_schema.specs.AtDepths.{AtDepths}
+use Rattle.rasn_traits.specs.Calls.{Behaves, EncoderRules, Encodes, Written, DecoderRules, Refuses, Answers}
 use Rattle.rasn_traits.specs.Scopes.{KeepsCodec}
 
 -- a fact on the schema of the alternative at a place, at each unfolding that is deep enough for a value of so many

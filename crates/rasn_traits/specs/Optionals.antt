@@ -3,7 +3,8 @@ use Rattle.std.specs.Prelude.{◌≡◌, ℕ, Bool, Result, Ok, Err, Option, Som
 use Rattle.rasn_types.specs.Values.{Value, same}
 use Rattle.rasn_schema.specs.Schemas.{Presence, optional, default, Schema}
 use Rattle.rasn_schema.specs.Normal.{normal}
-use Rattle.rasn_traits.specs.Calls.{AtDepths, Behaves, EncoderRules, DecoderRules, Answers, takes_none}
+use Rattle.rasn_schema.specs.AtDepths.{AtDepths}
+use Rattle.rasn_traits.specs.Calls.{Behaves, EncoderRules, DecoderRules, Answers, takes_none}
 use Rattle.rasn_traits.specs.Scopes.{PresentsPart, RefusesPart, WrittenPart, ReadsPart, FaultyPart}
 
 -- Ok gives the next presence bit, and Err comes only where it is refused.

@@ -6,7 +6,8 @@ use Rattle.rasn_types.specs.Values.{Value}
 use Rattle.rasn_schema.specs.Schemas.{TagTree, Presence, required, listed, by_tag, count, Order, Schema, Parts}
 use Rattle.rasn_schema.specs.Schemas.{no_parts, part}
 use Rattle.rasn_schema.specs.Normal.{normal, normals}
-use Rattle.rasn_traits.specs.Calls.{AtDepths, Behaves, EncoderRules, Written, DecoderRules, Refuses, Answers}
+use Rattle.rasn_schema.specs.AtDepths.{AtDepths}
+use Rattle.rasn_traits.specs.Calls.{Behaves, EncoderRules, Written, DecoderRules, Refuses, Answers}
 use Rattle.rasn_traits.specs.Additions.{extended, PresentsAdditions, RefusesAdditions}
 use Rattle.rasn_traits.specs.AdditionsRead.{ReadsAdditions, FaultyAdditions}
 use Rattle.rasn_traits.specs.Presences.{presence_bit, left_out}

@@ -6,7 +6,8 @@ use Rattle.rasn_schema.specs.Canonised.{canonised, canonised_at, canonised_slots
 use Rattle.rasn_schema.specs.Normal.{normal}
 use Rattle.rasn_schema.specs.Records.{record_at, record_value}
 use Rattle.rasn_schema.specs.Schemas.{by_tag, count, listed, Parts, Schema}
-use Rattle.rasn_traits.specs.Calls.{Answers, AtDepths, DecoderRules, EncoderRules, Written}
+use Rattle.rasn_schema.specs.AtDepths.{AtDepths}
+use Rattle.rasn_traits.specs.Calls.{Answers, DecoderRules, EncoderRules, Written}
 use Rattle.rasn_traits.specs.Scopes.{Ends, KeepsCodec, ReadsScope, WritesScope}
 
 -- What components are, as they are listed and in ascending order of their smallest tags.

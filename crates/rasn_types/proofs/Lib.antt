@@ -1,4 +1,5 @@
 pub mod Bits
+pub mod Codes
 pub mod Fewest
 pub mod Integers
 pub mod Octets

@@ -1,4 +1,5 @@
 pub mod Alphabets
+pub mod AllOf
 pub mod Bits
 pub mod Codecs
 pub mod Contents

@@ -5,7 +5,7 @@ use Rattle.rasn_types.specs.Values.{whole_code}
 use Rattle.rasn_constraints.specs.Bounds.{Bounds, Size}
 use Rattle.rasn_schema.specs.Levels.{ToLevels, PartsToLevels, to_leaf, to_date, no_date, still_cut, no_level, to_containing, to_list, to_set_of, to_sequence, to_choice, to_no_parts, to_part}
 use Rattle.rasn_schema.specs.Schemas.{TagTree, TagTrees, leaf, one_of, no_trees, tree, Order, listed, by_tag, Schema, Parts, part}
-use Rattle.per_core.proofs.Codes.{equal_lists_same}
+use Rattle.rasn_types.proofs.Codes.{equal_lists_same}
 use Rattle.per_core.proofs.LengthForms.{and_left, and_right}
 use Rattle.per_laws.proofs.Tagged.{one_tag}
 use Rattle.rasn_versions.specs.Alike.{same_truth, same_count, same_size, same_number, same_bounds, same_text, same_time, same_order, same_tree, same_trees, is_whole, are_whole}

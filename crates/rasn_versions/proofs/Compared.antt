@@ -7,7 +7,7 @@ use Rattle.rasn_schema.specs.Forms.{IsSimple}
 use Rattle.rasn_schema.specs.Levels.{ToLevels, PartsToLevels, to_leaf, to_date, no_date, still_cut, no_level, to_containing, to_list, to_set_of, to_sequence, to_choice, to_no_parts, to_part}
 use Rattle.rasn_schema.specs.Schemas.{TagTree, Presence, required, optional, group, default, Order, Schema, Parts, no_parts, part}
 use Rattle.per_core.specs.Versions.{widen}
-use Rattle.per_core.proofs.Codes.{equal_lists_same, same_true}
+use Rattle.rasn_types.proofs.Codes.{equal_lists_same, same_true}
 use Rattle.per_core.proofs.LengthForms.{and_left, and_right}
 use Rattle.per_laws.specs.Successors.{DefaultSucceeds, PresenceSucceeds, Succeeds, SucceedsParts, succeeds_itself, succeeds_items, succeeds_containing, succeeds_list, succeeds_set_of, succeeds_sequence, succeeds_choice, none_succeed, added_parts, succeeds_part}
 use Rattle.rasn_versions.specs.Alike.{is_whole, same_bounds, same_order, same_size, same_text, same_time, same_tree, same_truth}

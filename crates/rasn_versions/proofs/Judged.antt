@@ -7,7 +7,7 @@ use Rattle.rasn_schema.specs.Lawful.{IsLawfulDefault, leaves, are_distinct, are_
 use Rattle.rasn_schema.specs.Levels.{Levelled}
 use Rattle.rasn_schema.specs.Normal.{normal}
 use Rattle.rasn_schema.specs.Schemas.{Presence, required, optional, group, default, Order, listed, by_tag, Schema, Parts, no_parts, part}
-use Rattle.per_core.proofs.Codes.{same_true}
+use Rattle.rasn_types.proofs.Codes.{same_true}
 use Rattle.per_core.proofs.LengthForms.{and_left, and_right, or_left, or_right}
 use Rattle.per_laws.proofs.Types.{less_cut}
 use Rattle.per_laws.proofs.Levelled.{levelled_type_unfolds, levels_up_to, to_cut}

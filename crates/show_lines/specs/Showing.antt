@@ -6,7 +6,7 @@ use Rattle.per_lines.specs.Showing.{AreShown, HasNoText}
 use Rattle.per_lines.specs.declared.fault.Fault.TheVariants.{BadHexadecimal}
 use Rattle.per_located.specs.Placed.{IsPlaced}
 use Rattle.per_read.specs.declared.error.DecodeErrorKind.TheVariants as Decoding
-use Rattle.rasn_below.specs.Rows.{Codec, variant_of}
+use Rattle.per_core.specs.Rows.{Codec, variant_of}
 use Rattle.rasn_per.specs.Complete.{AreUnread, basically}
 use Rattle.rasn_per.specs.Kinds.{IsInOctets}
 use Rattle.rasn_schema.specs.Schemas.{Schema}

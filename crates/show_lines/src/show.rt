@@ -2,7 +2,7 @@
 
 ghost use Rattle.std.specs.Prelude.{◌≡◌, ◌⊎◌, IfOk, IfErr};
 ghost use Rattle.per_lines.specs.Showing.{AreShown};
-ghost use Rattle.rasn_below.specs.Rows.{variant_of};
+ghost use Rattle.per_core.specs.Rows.{variant_of};
 ghost use Rattle.rasn_per.specs.Complete.{basically};
 ghost use Rattle.per_lines.specs.declared.fault.Fault.TheVariants.{OutOfMemory};
 ghost use Rattle.per_located.specs.Placed.{IsPlaced, unplaced};

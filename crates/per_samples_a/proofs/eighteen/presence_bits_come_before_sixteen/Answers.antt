@@ -2,7 +2,7 @@ use Rattle.std.proofs.Common.{◌≡◌, ◌≤◌, ℕ, zero, suc, [], ◌∷�
 use Rattle.std.specs.Prelude.{pos}
 use Rattle.rasn_below.specs.Values.{Value, sequence_value, truth, whole}
 use Rattle.rasn_below.specs.Types.{sequence_at, normal, settle}
-use Rattle.rasn_below.specs.Rows.{unaligned, bytes}
+use Rattle.per_core.specs.Rows.{unaligned, bytes}
 use Rattle.per_samples_a.specs.Eighteens.{eighteen}
 use Rattle.per_samples_a.proofs.eighteen.presence_bits_come_before_sixteen.Goals as goal
 

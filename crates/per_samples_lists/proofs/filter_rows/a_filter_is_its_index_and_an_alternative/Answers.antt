@@ -1,7 +1,7 @@
 use Rattle.std.proofs.Common.{◌≡◌, ◌≤◌, ℕ, zero, suc, List, [], ◌∷◌, Some, arith, refl}
 use Rattle.rasn_below.specs.Page.{Value, alternative, list_value, octets, root}
 use Rattle.rasn_below.specs.Types.{normal, settle}
-use Rattle.rasn_below.specs.Rows.{Variant, aligned, unaligned, bytes}
+use Rattle.per_core.specs.Rows.{Variant, aligned, unaligned, bytes}
 use Rattle.per_samples_lists.specs.Filters.{filter_schema}
 use Rattle.per_samples_lists.proofs.filter_rows.a_filter_is_its_index_and_an_alternative.Goals as goal
 

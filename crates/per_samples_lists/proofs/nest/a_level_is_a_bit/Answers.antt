@@ -1,7 +1,7 @@
 use Rattle.std.proofs.Common.{◌≡◌, ◌≤◌, ℕ, zero, suc, [], ◌∷◌, Option, Some, None, arith, refl}
 use Rattle.rasn_below.specs.Values.{Value, sequence_value}
 use Rattle.rasn_below.specs.Types.{sequence_at, normal, settle}
-use Rattle.rasn_below.specs.Rows.{unaligned, bytes}
+use Rattle.per_core.specs.Rows.{unaligned, bytes}
 use Rattle.per_samples_lists.specs.Nests.{nest}
 use Rattle.per_samples_lists.proofs.nest.a_level_is_a_bit.Goals as goal
 

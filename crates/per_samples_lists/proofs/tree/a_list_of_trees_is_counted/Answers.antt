@@ -1,6 +1,6 @@
 use Rattle.std.proofs.Common.{◌≡◌, ◌≤◌, ℕ, zero, suc, [], ◌∷◌, Some, arith, refl}
 use Rattle.rasn_below.specs.Types.{sequence_at, normal, settle}
-use Rattle.rasn_below.specs.Rows.{Variant, aligned, unaligned, bytes}
+use Rattle.per_core.specs.Rows.{Variant, aligned, unaligned, bytes}
 use Rattle.per_samples_lists.specs.Trees.{branch, tree}
 use Rattle.per_samples_lists.proofs.tree.a_list_of_trees_is_counted.Goals as goal
 

@@ -1,4 +1,4 @@
-use Rattle.rasn_below.specs.Rows.{aligned, unaligned}
+use Rattle.per_core.specs.Rows.{aligned, unaligned}
 use Rattle.per_samples_sets.proofs.Written.{aligned_later, at_depths, later, near}
 use Rattle.per_samples_sets.proofs.date_rows.years_of_a_range_are_written_behind_its_index.Goals as goal
 

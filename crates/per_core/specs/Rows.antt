@@ -4,7 +4,7 @@ use Rattle.rasn_types.specs.Variants.{Variant}
 use Rattle.rasn_types.specs.Values.{Value}
 use Rattle.rasn_schema.specs.Schemas.{Schema}
 use Rattle.rasn_schema.specs.Normal.{normal}
-use Rattle.rasn_traits.specs.Calls.{AtDepths}
+use Rattle.rasn_schema.specs.AtDepths.{AtDepths}
 use Rattle.per_core.specs.Canon.{bytes}
 pub use Rattle.rasn_types.specs.Variants.{Variant, aligned, unaligned}
 pub use Rattle.rasn_types.specs.Codecs.{variant_of}

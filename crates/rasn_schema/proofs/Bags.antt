@@ -1,10 +1,10 @@
 -- A bag's elements in its one order, whatever order they came in.
 use Rattle.std.proofs.Common.{◌≡◌, refl, sym, ap, ◌∙◌, ℕ, ◌<◌, Bool, true, false, cond, eqb, List, [], ◌∷◌, ◌++◌, map, arith, inl, inr, ◌⊎◌, lt-ltb, le-ltb, eq-eqb, ne_eqb, Option, Some, None, ◌||◌}
+use Rattle.std.proofs.lemmas.Bool.{or_parts}
+use Rattle.rasn_types.proofs.Codes.{code_same}
+use Rattle.rasn_types.specs.AllOf.{all_of, joined}
 use Rattle.rasn_types.specs.Values.{Value, before, put, sorted, code, bag, as_values, bag_of}
 use Rattle.rasn_schema.specs.Depth.{any_of}
-use Rattle.per_core.specs.Versions.{all_of, joined}
-use Rattle.per_core.proofs.Codes.{code_same}
-use Rattle.per_core.proofs.LengthForms.{or_left, or_right}
 
 -- what `joined` was made of
 pub joined_of : {A : Type 0} (o : Option A) (q : Option (List A)) (us : List A) → joined o q ≡ Some us → (u : A) × (us1 : List A) × (o ≡ Some u) × (q ≡ Some us1) × (us ≡ u ∷ us1)
@@ -107,15 +107,16 @@ module _ {A : Type 0} (less : A → A → Bool) (asym : (x y : A) → less x y �
 
   -- what holds of no element of the sorted list holds of none
   any_put : (K : A → Bool) (v : A) (xs : List A) → any_of K (put less v xs) ≡ false → (K v ≡ false) × (any_of K xs ≡ false)
-  any_put K v [] e = (or_left (K v) false e, refl)
+  any_put K v [] e = ((or_parts (K v) false e).0, refl)
   any_put K v (x ∷ xs) e = go (less x v) refl (any_put K v xs)
     where
       go : (t : Bool) → less x v ≡ t → (any_of K (put less v xs) ≡ false → (K v ≡ false) × (any_of K xs ≡ false)) → (K v ≡ false) × (any_of K (x ∷ xs) ≡ false)
       go true t ih = let h : (K x || any_of K (put less v xs)) ≡ false = sym (ap (any_of K) (later v x xs t)) ∙ e in
-          let r = ih (or_right (K x) (any_of K (put less v xs)) h) in
-          (r.0, ap (λ c. c || any_of K xs) (or_left (K x) (any_of K (put less v xs)) h) ∙ r.1)
+          let q = or_parts (K x) (any_of K (put less v xs)) h in
+          let r = ih q.1 in
+          (r.0, ap (λ c. c || any_of K xs) q.0 ∙ r.1)
       go false t ih = let h : (K v || any_of K (x ∷ xs)) ≡ false = sym (ap (any_of K) (here v x xs t)) ∙ e in
-          (or_left (K v) (any_of K (x ∷ xs)) h, or_right (K v) (any_of K (x ∷ xs)) h)
+          or_parts (K v) (any_of K (x ∷ xs)) h
 
   pub any_sorted : (K : A → Bool) (xs : List A) → any_of K (sorted less xs) ≡ false → any_of K xs ≡ false
   any_sorted K [] e = refl
