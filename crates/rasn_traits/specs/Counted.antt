@@ -2,13 +2,13 @@
 -- over any codec's relations and for each family of schemas that is so counted.
 use Rattle.std.specs.Prelude.{◌≡◌, ℕ, suc, ◌⊎◌, Bool, true, false, ◌&&◌, nat_lt, List, [], ◌∷◌, Option, Some, None}
 use Rattle.std.specs.Prelude.{Result, Ok, Err, IfOk, IsErrAnd}
-use Rattle.rasn_types.specs.Values.{Value, Side, root, added, item, alternative, slots}
+use Rattle.rasn_types.specs.Values.{Value, Side, root, added, item, alternative, no_slots, slots}
 use Rattle.rasn_types.specs.Values
 use Rattle.rasn_schema.specs.Choices.{alternative_in, one_level_in}
 use Rattle.rasn_schema.specs.Enumerations.{addeds_of, is_extensible}
-use Rattle.rasn_schema.specs.Lawful.{if_fields, presence_bits}
+use Rattle.rasn_schema.specs.Lawful.{presence_bits}
 use Rattle.rasn_schema.specs.Schemas
-use Rattle.rasn_schema.specs.Schemas.{count, default, listed, no_parts, part, Parts, Presence, required, Schema}
+use Rattle.rasn_schema.specs.Schemas.{count, listed, no_parts, part, Parts, Presence, required, Schema}
 use Rattle.rasn_schema.specs.declared.items.ItemCounts.{ItemCounts}
 use Rattle.rasn_schema.specs.declared.items.Place.{Place}
 use Rattle.rasn_schema.specs.declared.items.Place.TheVariants.{Root, Added}
@@ -106,10 +106,10 @@ pub record ClosesGroupOf {E X O : Type 0} (rules : EncoderRules E X) (opens : X 
       → ClosesGroup rules opens schema o j result y
   pub behaves : Behaves rules.already rules.failed rules.codec j result y
 
--- X.680 25.6: whether a part may be absent, or there, as it is
+-- X.680 25.6: whether a part may be absent, or there, as it is. Of one with a default this says nothing: where it is
+-- absent it has no encoding, but a group of such parts holds nothing, and isn't refused (X.691 19.9).
 abbrev pub may_be : Presence → Option Value → Bool
 may_be required None = false
-may_be (default d) None = false
 may_be p r = true
 
 -- whether what stands for parts is as many, and there where it has to be
@@ -123,10 +123,12 @@ all_may_be (part t p s ps) (x ∷ xs) = may_be p x && all_may_be ps xs
 abbrev pub has_at : Parts → ℕ → Bool
 has_at ps i = nat_lt i (count ps)
 
--- whether a value is of a schema's kind, its outermost level alone
+-- whether a value is of a schema's kind, its outermost level alone. Where a tree is cut off, a record without parts may
+-- be a group that holds nothing (X.691 19.9).
 abbrev pub is_of_kind : Schema → Value → Bool
 is_of_kind Schemas.boolean (Values.truth b) = true
 is_of_kind Schemas.null Values.nothing = true
+is_of_kind Schemas.cut (Values.fields no_slots no_slots) = true
 is_of_kind (Schemas.number bounds mark range) (Values.whole z) = true
 is_of_kind (Schemas.items roots addeds ext) (Values.item root i) = nat_lt i roots
 is_of_kind (Schemas.items roots addeds ext) (Values.item added i) = nat_lt i addeds
