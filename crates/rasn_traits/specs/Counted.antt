@@ -2,6 +2,8 @@
 -- over any codec's relations and for each family of schemas that is so counted.
 use Rattle.std.specs.Prelude.{◌≡◌, ℕ, suc, ◌⊎◌, Bool, true, false, ◌&&◌, nat_lt, List, [], ◌∷◌, Option, Some, None}
 use Rattle.std.specs.Prelude.{Result, Ok, Err, IfOk, IsErrAnd}
+use Rattle.rasn_types.specs.Alphabets.{has_all}
+use Rattle.rasn_types.specs.Contents.{is_date, is_identifier, is_text, is_time}
 use Rattle.rasn_types.specs.Values.{Value, Side, root, added, item, alternative, no_slots, slots}
 use Rattle.rasn_types.specs.Values
 use Rattle.rasn_schema.specs.Choices.{alternative_in, one_level_in}
@@ -123,8 +125,9 @@ all_may_be (part t p s ps) (x ∷ xs) = may_be p x && all_may_be ps xs
 abbrev pub has_at : Parts → ℕ → Bool
 has_at ps i = nat_lt i (count ps)
 
--- whether a value is of a schema's kind, its outermost level alone. Where a tree is cut off, a record without parts may
--- be a group that holds nothing (X.691 19.9).
+-- whether a value is of a schema's kind, its outermost level alone: of a text, an identifier, a time and a date one that
+-- it may be, of a character string characters of its alphabet. Where a tree is cut off, a record without parts may be a
+-- group that holds nothing (X.691 19.9).
 abbrev pub is_of_kind : Schema → Value → Bool
 is_of_kind Schemas.boolean (Values.truth b) = true
 is_of_kind Schemas.null Values.nothing = true
@@ -134,12 +137,12 @@ is_of_kind (Schemas.items roots addeds ext) (Values.item root i) = nat_lt i root
 is_of_kind (Schemas.items roots addeds ext) (Values.item added i) = nat_lt i addeds
 is_of_kind (Schemas.octet_string size mark) (Values.octets os) = true
 is_of_kind Schemas.any (Values.octets os) = true
-is_of_kind (Schemas.text kind) (Values.octets os) = true
-is_of_kind Schemas.identifier (Values.octets os) = true
+is_of_kind (Schemas.text kind) (Values.octets os) = is_text kind os
+is_of_kind Schemas.identifier (Values.octets os) = is_identifier os
 is_of_kind (Schemas.bit_string size mark named) (Values.bits bs) = true
-is_of_kind (Schemas.char_string alphabet size mark) (Values.characters cs) = true
-is_of_kind (Schemas.time kind) (Values.characters cs) = true
-is_of_kind Schemas.date (Values.day y m d) = true
+is_of_kind (Schemas.char_string alphabet size mark) (Values.characters cs) = has_all alphabet cs
+is_of_kind (Schemas.time kind) (Values.characters cs) = is_time kind cs
+is_of_kind Schemas.date (Values.day y m d) = is_date y m d
 is_of_kind (Schemas.containing s) v = is_of_kind s v
 is_of_kind (Schemas.list e size mark) (Values.elements vs) = true
 is_of_kind (Schemas.set_of e size mark) (Values.bag vs) = true
