@@ -123,10 +123,13 @@ impl Fields {
     pub fn number_of_optional_and_default_fields(&self) -> usize
         ensures { result ≡ count_by may_be_absent self.now }
     {
-        self.list
-            .iter()
-            .filter(|field| field.presence != Presence::Required)
-            .count()
+        let mut count = 0;
+        for field in self.list {
+            if field.presence != Presence::Required {
+                count += 1;
+            }
+        }
+        count
     }
 
     /// The components in ascending order of their smallest tags, in which those of a SET are written (X.691 21.1);
