@@ -5,7 +5,8 @@ use Rattle.rasn_schema.specs.Fields.{tag_of}
 use Rattle.rasn_schema.specs.Schemas
 use Rattle.rasn_schema.specs.Schemas.{Schema}
 use Rattle.rasn_schema.specs.Normal.{normal}
-use Rattle.rasn_traits.specs.Calls.{AtDepths, Behaves, EncoderRules, Encodes, Written}
+use Rattle.rasn_schema.specs.AtDepths.{AtDepths}
+use Rattle.rasn_traits.specs.Calls.{Behaves, EncoderRules, Encodes, Written}
 use Rattle.rasn_traits.specs.Choices.{EncodesAlternative, EncodesAt, PassesChoice, RefusesUnknown, unknown_tag, unknown_unopened, unknown_value}
 use Rattle.std.proofs.lemmas.Result.{err_from_is_err_and}
 use Rattle.rasn_traits.proofs.Alternatives.{choice_refused, choice_closed}
