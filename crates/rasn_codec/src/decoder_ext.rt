@@ -148,9 +148,12 @@ pub trait DecoderExt: Decoder {
             C.value self.old result self.new }
     {
         let (tag, outside) = self.open_choice::<C>()?;
-        let value = C::from_tag(self, tag)?;
+        let decoded = C::from_tag(self, tag);
+        if decoded.is_err() {
+            return decoded;
+        }
         self.close_choice(outside)?;
-        Ok(value)
+        decoded
     }
 
     /// Reads a SEQUENCE OF under constraints (X.691 20), of which the size counts elements.

@@ -38,8 +38,11 @@ impl<T: Record> EncodeKind<T> for SequenceKind {
 impl<T: Record> DecodeKind<T> for SequenceKind {
     fn decode_value<D: Decoder>(decoder: &mut D, tag: Tag) -> Result<T, D::Error> {
         let outside = decoder.open_sequence::<T>(tag)?;
-        let value = T::decode_components(decoder)?;
+        let decoded = T::decode_components(decoder);
+        if decoded.is_err() {
+            return decoded;
+        }
         decoder.close_sequence(outside)?;
-        Ok(value)
+        decoded
     }
 }
