@@ -93,6 +93,5 @@ pub fn plain<T: Components, P: DecodeCells + Drop, D: Decoder>(
     ensures { TakesFields D.rules (root_parts T.components.0) (added_parts T.components.0) P.contents (λ _. [])
         decoder.old result decoder.new }
 {
-    let (before, ()) = all::<T, _, _, _>(&cells, bounds.lists.root, &NoAdditions, decoder)?;
-    Ok(before)
+    cells.decode_cells(root::<T>(), bounds.lists.root, decoder)
 }
