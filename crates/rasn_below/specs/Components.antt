@@ -8,7 +8,7 @@ use Rattle.rasn_schema.specs.Schemas.{leaf, Schema, TagTree}
 use Rattle.rasn_schema.specs.Forms.{is_size_marked, size_of}
 use Rattle.rasn_schema.specs.Levels.{containing_levelled}
 use Rattle.rasn_traits.specs.Moments.{date_at}
-use Rattle.rasn_sets.specs.Bags.{set_at, set_fits, set_levelled}
+use Rattle.rasn_schema.specs.Bags.{set_at, set_fits, set_levelled}
 use Rattle.rasn_useful.specs.Laws.Dates.{date_fits, date_levelled}
 pub use Rattle.rasn_schema.specs.Components.{Component, TypeLists, Chosen, chosen, chosen_behind, fields_in, fields_of}
 pub use Rattle.rasn_schema.specs.Components.{added_parts, parts_of, root_parts, variants_listed}

@@ -1,5 +1,6 @@
 pub mod Absent
 pub mod AtDepths
+pub mod Bags
 pub mod Canonised
 pub mod Choices
 pub mod Components

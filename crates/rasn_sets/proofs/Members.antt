@@ -11,7 +11,7 @@ use Rattle.rasn_traits.specs.Lists.{Amid}
 use Rattle.rasn_codec.proofs.Elements.{Awaits, Collection}
 use Rattle.rasn_types.specs.AllOf.{all_of, joined}
 use Rattle.rasn_schema.proofs.Bags.{bag_becomes, some_list, sort}
-use Rattle.rasn_sets.specs.Bags.{set_at}
+use Rattle.rasn_schema.specs.Bags.{set_at}
 
 -- the bag of what the members of a bag become
 all_map : (f : Value → Value) (vs : List Value) → all_of (λ v. Some (f v)) vs ≡ Some (map f vs)

@@ -6,7 +6,7 @@ use Rattle.rasn_schema.specs.Lists.{list_at, list_value}
 use Rattle.rasn_schema.specs.Schemas.{Schema}
 use Rattle.rasn_traits.specs.BagsRead.{BagsWell}
 use Rattle.rasn_traits.specs.Calls.{DecoderRules, Refuses}
-use Rattle.rasn_sets.specs.Bags.{set_at}
+use Rattle.rasn_schema.specs.Bags.{set_at}
 
 module _ {E S : Type 0} (rules : DecoderRules E S) (well : BagsWell rules) (member : ℕ → Schema) (size : Size) (mark : Bool) (s : S) where
   -- the bag of what is read

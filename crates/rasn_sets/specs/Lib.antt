@@ -1,4 +1,3 @@
-pub mod Bags
 pub mod Components
 pub mod Equality
 pub mod Made

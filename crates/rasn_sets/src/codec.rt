@@ -5,7 +5,7 @@ ghost use Rattle.rasn_types.specs.Values.{bag_of};
 ghost use Rattle.rasn_schema.specs.Forms.{is_size_marked, size_of};
 ghost use Rattle.rasn_schema.specs.Lists.{deepest};
 ghost use Rattle.rasn_traits.specs.Calls.{Encodes, Reads};
-ghost use Rattle.rasn_sets.specs.Bags.{set_at};
+ghost use Rattle.rasn_schema.specs.Bags.{set_at};
 
 use crate::set_of::SetOf;
 use rasn_codec::codec::{Decode, Decoder, DecoderExt, Encode, Encoder};

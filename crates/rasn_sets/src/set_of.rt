@@ -9,7 +9,7 @@ ghost use Rattle.rasn_constraints.specs.Ranges.{no_constraints};
 ghost use Rattle.rasn_schema.specs.Fields.{tagged};
 ghost use Rattle.rasn_schema.specs.Forms.{is_size_marked, size_of};
 ghost use Rattle.rasn_schema.specs.Lists.{deepest};
-ghost use Rattle.rasn_sets.specs.Bags.{set_at, set_levelled, set_stated, set_tag};
+ghost use Rattle.rasn_schema.specs.Bags.{set_at, set_levelled, set_stated, set_tag};
 ghost use Rattle.rasn_sets.specs.Equality.{same_bag, stand_alike, times};
 ghost use Rattle.rasn_sets.specs.Laws.Equality.{same_bag_equiv};
 
