@@ -8,7 +8,7 @@ use Rattle.rasn_constraints.specs.Bounds.{Size}
 use Rattle.rasn_schema.specs.Normal.{normal, normal_bits}
 use Rattle.rasn_schema.specs.Schemas.{Schema}
 use Rattle.json.specs.Json.{Json}
-use Rattle.rasn_jer.specs.Shown.{IsBits, Shows, shows_bits}
+use Rattle.rasn_jer.specs.Shown.{fixed_count, IsBits, Shows, shows_bits}
 
 -- bits up to the least count are those in normal form
 normal_form : (l : Option ℕ) (n : ℕ) (bs : Bits) → n ≡ unwrap_or l 0 → n < 2 ^ 64 → filled_up n (trimmed bs) ≡ normal_bits l bs
@@ -24,7 +24,7 @@ unfolding normal
 normal_is size mark bs = refl
 
 -- what shows these shows the normal form
-pub named_shown : (size : Size) (mark : Bool) (n : ℕ) (bs : Bits) (j : Json) → n ≡ unwrap_or size.least 0 → n < 2 ^ 64 → IsBits (filled_up n (trimmed bs)) j
+pub named_shown : (size : Size) (mark : Bool) (n : ℕ) (fixed : Option ℕ) (bs : Bits) (j : Json) → n ≡ unwrap_or size.least 0 → n < 2 ^ 64 → fixed ≡ fixed_count size mark → IsBits fixed (filled_up n (trimmed bs)) j
     → Shows (Schema.bit_string size mark true) (normal (Schema.bit_string size mark true) (bits bs)) j
-named_shown size mark n bs j e h k = subst (λ (v : Value). Shows (Schema.bit_string size mark true) v j)
-    (ap bits (normal_form size.least n bs e h) ∙ sym (normal_is size mark bs)) (shows_bits k)
+named_shown size mark n fixed bs j e h f k = subst (λ (v : Value). Shows (Schema.bit_string size mark true) v j)
+    (ap bits (normal_form size.least n bs e h) ∙ sym (normal_is size mark bs)) (shows_bits (subst (λ (o : Option ℕ). IsBits o (filled_up n (trimmed bs)) j) f k))

@@ -8,9 +8,9 @@ use Rattle.rasn_jer.specs.Shown.{IsBits, fixed_bits, counted_bits, Shows, shows_
 use Rattle.rasn_jer.specs.Shown.{ShowsAll, shows_end, shows_next, ShowsParts, parts_end, part_there, part_left_out, ShowsAdditions, additions_end, addition_there, addition_spread, addition_left_out}
 use Rattle.rasn_jer.specs.Texts.{join}
 
-bits_numbered : {bs : _} {j : Json} → IsBits bs j → HasNumbers j
-bits_numbered fixed_bits = tt
-bits_numbered (counted_bits h) = (tt, (h, tt))
+bits_numbered : {fixed : Option ℕ} {bs : _} {j : Json} → IsBits fixed bs j → HasNumbers j
+bits_numbered (fixed_bits f) = tt
+bits_numbered (counted_bits f h) = (tt, (h, tt))
 
 join_numbered : (ms ns : Members) → MembersHaveNumbers ms → MembersHaveNumbers ns → MembersHaveNumbers (join ms ns)
 join_numbered no_members ns h k = k

@@ -1,5 +1,6 @@
 -- Which JSON value shows a value of a schema (ITU-T X.697). Lists of names are any: a schema has none.
-use Rattle.std.specs.Prelude.{ℕ, ℤ, ◌≡◌, Bool, true, false, List, [], ◌∷◌, length, slice_get, Option, Some}
+use Rattle.std.specs.Prelude.{ℕ, ℤ, ◌≡◌, ◌≢◌, Bool, true, false, List, [], ◌∷◌, length, slice_get, Option, Some}
+use Rattle.std.specs.Prelude.{None, nat_eq, if◌then◌else◌}
 use Rattle.std.specs.Prelude.{codes, decimal, encode_utf8_all}
 use Rattle.std.specs.Char.{OutOfScalarRange}
 use Rattle.rasn_types.specs.Packed.{packed}
@@ -31,12 +32,21 @@ pub record IsWhole (z : ℤ) (s : List ℕ) : Type 0 where
   pub is_number : IsNumber s
   pub digits : fits_i128 z ≡ true → s ≡ signed_decimal z
 
--- X.697: bits are the hexadecimal digits of their octets, and an object that also tells how many there are, where the
--- size doesn't say it
-pub data IsBits (bs : List Bool) : Json → Type 0 where
-  fixed_bits : IsBits bs (string (encode_upper (packed bs)))
-  counted_bits : IsNumber (decimal (length bs))
-      → IsBits bs (object (member (codes "value") (string (encode_upper (packed bs)))
+-- the one number that is the lower and the upper bound, where there is one
+abbrev pub only_count : Option ℕ → Option ℕ → Option ℕ
+only_count (Some least) (Some most) = if nat_eq least most then Some least else None
+only_count _ _ = None
+
+-- X.680 51.5: how many items there are, where a size without an extension marker is one number
+abbrev pub fixed_count : Size → Bool → Option ℕ
+fixed_count size mark = if mark then None else only_count size.least size.most
+
+-- X.697: bits are the hexadecimal digits of their octets alone, where there are as many as the size fixes, and else an
+-- object that also tells how many there are
+pub data IsBits (fixed : Option ℕ) (bs : List Bool) : Json → Type 0 where
+  fixed_bits : fixed ≡ Some (length bs) → IsBits fixed bs (string (encode_upper (packed bs)))
+  counted_bits : fixed ≢ Some (length bs) → IsNumber (decimal (length bs))
+      → IsBits fixed bs (object (member (codes "value") (string (encode_upper (packed bs)))
       (member (codes "length") (number (decimal (length bs))) no_members)))
 
 -- a text is that of a JSON value, whose numbers are numbers
@@ -44,10 +54,10 @@ pub record ShowsJson (j : Json) (text : List ℕ) : Type 0 where
   pub has_numbers : HasNumbers j
   pub is_text : text ≡ text_of j
 
--- a text shows bits
-pub record ShowsBits (bs : List Bool) (text : List ℕ) : Type 0 where
+-- a text shows bits, of which there are so many where a count is fixed
+pub record ShowsBits (fixed : Option ℕ) (bs : List Bool) (text : List ℕ) : Type 0 where
   pub json : Json
-  pub are_bits : IsBits bs json
+  pub are_bits : IsBits fixed bs json
   pub is_text : text ≡ text_of json
 
 -- a character isn't a scalar value of Unicode
@@ -88,7 +98,8 @@ mutual
     shows_octets : {size : Size} {mark : Bool} {os : List ℕ}
         → Shows (Schema.octet_string size mark) (octets os) (string (encode_upper os))
     shows_any : {os : List ℕ} → Shows Schema.any (octets os) (string (encode_upper os))
-    shows_bits : {size : Size} {mark named : Bool} {bs : List Bool} {j : Json} → IsBits bs j
+    shows_bits : {size : Size} {mark named : Bool} {bs : List Bool} {j : Json}
+        → IsBits (fixed_count size mark) bs j
         → Shows (Schema.bit_string size mark named) (bits bs) j
     shows_string : {c : Schema} {v : Value} {s : List ℕ} → IsString c v s → Shows c v (string s)
     shows_list : {e : Schema} {size : Size} {mark : Bool} {vs : List Value} {js : Items} → ShowsAll e vs js

@@ -9,14 +9,14 @@ ghost use Rattle.rasn_types.specs.Values.{Value};
 ghost use Rattle.rasn_schema.specs.Choices.{place_of, variants_behind};
 ghost use Rattle.rasn_schema.specs.Extensions.{fields_behind};
 ghost use Rattle.rasn_schema.specs.Fields.{in_tag_order, tag_of};
-ghost use Rattle.rasn_schema.specs.Forms.{size_of};
+ghost use Rattle.rasn_schema.specs.Forms.{is_size_marked, size_of};
 ghost use Rattle.rasn_schema.specs.Schemas.{Schema};
 ghost use Rattle.rasn_traits.specs.Calls.{Writes};
 ghost use Rattle.rasn_jer.specs.Names.{AreNamesOf};
 ghost use Rattle.rasn_jer.specs.Places.{inside, is_full, IsNamedBy, with_addition, with_group};
 ghost use Rattle.rasn_jer.specs.Rules.{AddedSo, BehavesSo, ClosesPlace, EntersPlace, LeavesPlace, NeedsRecord};
 ghost use Rattle.rasn_jer.specs.Rules.{IsUnmade, WritesJson, WritesText, jer_rules};
-ghost use Rattle.rasn_jer.specs.Shown.{ShowsText};
+ghost use Rattle.rasn_jer.specs.Shown.{fixed_count, ShowsText};
 ghost use Rattle.rasn_jer.specs.Texts.{enclosed as enclosed_text, text_of};
 ghost use Rattle.rasn_jer.specs.declared.error.EncodeError.TheVariants.{AlreadyFailed};
 ghost use Rattle.rasn_jer.specs.declared.place.Kind.TheVariants.{One};
@@ -363,7 +363,7 @@ impl<A: Allocator + Copy> encoder::Encoder for Encoder<A> {
         value: &BitString,
         _identifier: Identifier,
     ) -> Result<(), EncodeError> {
-        let text = bits(self.alloc, value, is_of_fixed_size(constraints));
+        let text = bits(self.alloc, value, count_of(constraints));
         self.write(text)
     }
 
@@ -375,7 +375,7 @@ impl<A: Allocator + Copy> encoder::Encoder for Encoder<A> {
         _identifier: Identifier,
     ) -> Result<(), EncodeError> {
         let least = least_count(constraints);
-        let text = named_bits(self.alloc, value, least, is_of_fixed_size(constraints));
+        let text = named_bits(self.alloc, value, least, count_of(constraints));
         self.write(text)
     }
 
@@ -682,14 +682,14 @@ fn least_count(constraints: &Constraints) -> usize
     }
 }
 
-/// Whether constraints say how many items there are.
-fn is_of_fixed_size(constraints: &Constraints) -> bool {
-    match constraints.size() {
-        Some(size) => {
-            let (least, most) = size.constraint.start_and_end();
-            !size.extensible && least.is_some() && least == most
-        }
-        None => false,
+/// How many items there are, where constraints fix it: by a size of one number, without an extension marker.
+fn count_of(constraints: &Constraints) -> Option<usize>
+    ensures { result ≡ fixed_count (size_of constraints.now) (is_size_marked constraints.now) }
+{
+    let size = constraints.size()?;
+    match size.constraint.start_and_end() {
+        (Some(least), Some(most)) if !size.extensible && least == most => Some(least),
+        _ => None,
     }
 }
 

@@ -16,8 +16,9 @@
 //! - BOOLEAN, NULL and INTEGER: these of JSON, a number in its decimal digits.
 //! - ENUMERATED: the item's identifier as a string.
 //! - OCTET STRING and open types: a string of hexadecimal digits.
-//! - BIT STRING: such a string where the size is fixed, and else an object of `value` and `length`; bits that have
-//!   names in their normal form.
+//! - BIT STRING: such a string where the size is one number without an extension marker, and else an object of `value`
+//!   and `length`, which also shows bits that are more or fewer than that number; bits that have names in their normal
+//!   form.
 //! - Strings of characters: a string. In GeneralString, GraphicString and TeletexString each octet is the character
 //!   with its number.
 //! - OBJECT IDENTIFIER: a string, such as `"1.2.840"`. Times: their canonical text. DATE: such as `"2026-11-27"`, with

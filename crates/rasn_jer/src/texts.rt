@@ -158,16 +158,16 @@ pub fn hexadecimal<A: Allocator + Copy>(alloc: A, octets: &[u8]) -> Result<Vec<u
     quoted(alloc, digits.as_str())
 }
 
-/// Bits by the hexadecimal digits of their octets, spare bits zero: alone where the type says how many bits there are,
-/// else as an object that tells this too (X.697, BIT STRING).
+/// Bits by the hexadecimal digits of their octets, spare bits zero: alone where there are as many as the type fixes,
+/// else as an object that tells how many (X.697, BIT STRING).
 pub fn bits<A: Allocator + Copy>(
     alloc: A,
     value: &BitString,
-    is_fixed: bool,
+    fixed: Option<usize>,
 ) -> Result<Vec<u8, A>, AllocError>
-    ensures { IfOk result (λ text. ShowsBits value.now text.items) }
+    ensures { IfOk result (λ text. ShowsBits fixed value.now text.items) }
 {
-    if is_fixed {
+    if fixed == Some(value.len()) {
         return hexadecimal(alloc, value.as_octets());
     }
     let digits = hex::encode_upper(alloc, value.as_octets())?;
@@ -187,12 +187,12 @@ pub fn named_bits<A: Allocator + Copy>(
     alloc: A,
     value: &BitString,
     least: usize,
-    is_fixed: bool,
+    fixed: Option<usize>,
 ) -> Result<Vec<u8, A>, AllocError>
-    ensures { IfOk result (λ text. ShowsBits (filled_up least (trimmed value.now)) text.items) }
+    ensures { IfOk result (λ text. ShowsBits fixed (filled_up least (trimmed value.now)) text.items) }
 {
     let normal = value.trimmed_to(least)?;
-    bits(alloc, &normal, is_fixed)
+    bits(alloc, &normal, fixed)
 }
 
 /// Octets as a string, each as the character with its number.

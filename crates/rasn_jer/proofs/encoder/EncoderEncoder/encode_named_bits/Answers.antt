@@ -7,5 +7,5 @@ returns g c = leaf c.named_bits-text.result (λ t. t.items) c.args.self.now _ _ 
     (over_ok c.named_bits-text.result c.named_bits-text.ensures (λ t h. record {
       json = h.json;
       is_text = h.is_text;
-      shows = named_shown _ _ _ _ h.json c.least_count-least.ensures c.least_count-least.type_inv h.are_bits;
+      shows = named_shown _ _ _ _ _ h.json c.least_count-least.ensures c.least_count-least.type_inv c.count_of.ensures h.are_bits;
     }))
