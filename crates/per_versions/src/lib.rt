@@ -7,6 +7,7 @@
 #![tactic(auto)]
 
 pub mod chains;
+pub mod constrained;
 pub mod depth;
 pub mod exchange;
 pub mod faults;

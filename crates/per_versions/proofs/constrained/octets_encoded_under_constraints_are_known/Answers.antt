@@ -1,0 +1,8 @@
+use Rattle.per_versions.proofs.Laws
+use Rattle.per_versions.proofs.constrained.octets_encoded_under_constraints_are_known.Goals as goal
+use Rattle.rasn_per.specs.Complete.{reading}
+use Rattle.rasn_types.specs.Codecs.{variant_of}
+
+pub returns : goal.returns
+returns g c = λ q strict codec x y octets h d.
+    Laws.written_known (reading strict (variant_of codec)) (g.T.AsnType.schema q) (g.T.AsnType.levelled q) (g.T.AsnType.levels x) (g.T.AsnType.value x) octets h (g.T.AsnType.value y) d.ok.are_read
