@@ -1,21 +1,22 @@
 -- Lists and bags, whose elements and members are items of an array.
-use Rattle.std.proofs.Common.{◌≡◌, Bool, true, false, List, [], ◌∷◌, ◌++◌, Result, Ok, Err, refl, sym, ap, ◌∙◌, subst, append_assoc, append-nil, inl, inr, ℕ}
-use Rattle.std.specs.Prelude.{IfErr, IfOk, OnOk}
+use Rattle.std.proofs.Common.{◌≡◌, Bool, true, false, List, [], ◌∷◌, ◌++◌, Result, Ok, Err, refl, sym, ap, ◌∙◌, subst, append_assoc, append-nil, inl, inr, ℕ, suc, length, ◌⊎◌, arith}
+use Rattle.std.specs.Prelude.{IfOk, IsErrAnd}
+use Rattle.std.proofs.lemmas.Result.{err_from_is_err_and}
 use Rattle.rasn_types.specs.Values.{Value, bag_of}
 use Rattle.rasn_constraints.specs.Bounds.{Size}
 use Rattle.rasn_schema.specs.Lists.{list_value}
 use Rattle.rasn_traits.specs.Bags.{AwaitsMember, BagOpened, bag_schema, WritesMember}
 use Rattle.rasn_traits.specs.Calls.{Written}
-use Rattle.rasn_traits.specs.Lists.{AwaitsElement, ListForm, ListOpened, schema_of, WritesNext}
+use Rattle.rasn_traits.specs.Lists.{AwaitsElement, ListForm, ListOpened, Mistimed, schema_of, WritesNext}
 use Rattle.json.specs.Json.{array, no_items, item}
 use Rattle.rasn_jer.proofs.Writing.{already, closed}
 use Rattle.rasn_jer.specs.Laws.Relations.{unrefused}
 use Rattle.rasn_jer.specs.Places.{behind, inside, is_full_of, Place, State, unfailed_at, vacant_place, with_value}
-use Rattle.rasn_jer.specs.Rules.{Closed, EntersPlace, fault_of, IsOpenList, jer_rules, Presents, Refuses}
+use Rattle.rasn_jer.specs.Rules.{Closed, ClosesItems, CountsItem, EntersPlace, fault_of, IsOpenList, jer_rules, Presents, Refuses}
 use Rattle.rasn_jer.specs.Shown.{element_here, element_behind, HasElement, in_element, in_member, shows_bag, shows_end, shows_list, shows_next, StandsIn}
 use Rattle.rasn_jer.specs.Texts.{comma, enclosed, items_text, text_of}
 use Rattle.rasn_jer.specs.declared.error.EncodeError.{EncodeError}
-use Rattle.rasn_jer.specs.declared.error.EncodeError.TheVariants.{AlreadyFailed}
+use Rattle.rasn_jer.specs.declared.error.EncodeError.TheVariants.{AlreadyFailed, OutOfTurn}
 use Rattle.rasn_jer.specs.declared.place.Kind.{Kind}
 use Rattle.rasn_jer.specs.declared.place.Kind.TheVariants as Kinds
 
@@ -23,40 +24,48 @@ assoc3 : (a b c d : List ℕ) → a ++ (b ++ (c ++ d)) ≡ (a ++ (b ++ c)) ++ d
 assoc3 a b c d = ap (λ (l : List ℕ). a ++ l) (sym (append_assoc b c d)) ∙ sym (append_assoc a (b ++ c) d)
 
 -- what was just opened
-opened : (f : ListForm) (x : State) (p o : Place) (y : State) → x.failed ≡ false → o ≡ x.place → y ≡ unfailed_at p
-    → p ≡ vacant_place Kinds.Items → IsOpenList f x f.all o y
-opened f x p o y b w e q =
+opened : (f : ListForm) (x : State) (p o : Place) (n : ℕ) (y : State) → n ≡ length f.all → x.failed ≡ false → o ≡ x.place → y ≡ unfailed_at p
+    → p ≡ vacant_place Kinds.Items → IsOpenList f x f.all (o, n) y
+opened f x p o n y l b w e q =
     let within : y ≡ inside Kinds.Items = e ∙ ap unfailed_at q in
     record {
       begun = b;
       outer = w;
+      counted = l;
       left = ap (λ (z : State). z.failed) within;
       items = ap (λ (z : State). z.place.kind) within;
       whole = λ js h. (js, h, ap (λ (z : State). z.place.text ++ items_text z.place.is_empty js) (sym within));
       member = λ v h. h;
     }
 
-pub list_opened : {E : Type 0} (size : Size) (mark : Bool) (count : ℕ) (place : Result Place E) (x : State) (r : Result Place EncodeError) (y : State)
-    → EntersPlace place x r y → IfOk place (λ p. p ≡ vacant_place Kinds.Items) → ListOpened jer_rules IsOpenList size mark count x r y
-list_opened size mark count (Ok p) x (Ok o) y w h = λ e vs c. opened (record { element = e; size = size; mark = mark; all = vs }) x p o y w.entered.0 w.entered.1 w.entered.2 h
-list_opened size mark count (Err n) x (Ok o) y w h = absurd w.entered
-list_opened size mark count (Ok p) x (Err d) y w h = elim w.entered [ inl m ↦ inl m | inr q ↦ inr (λ e vs c. inl (already d x q.0 q.1)) ]
-list_opened size mark count (Err n) x (Err d) y w h = elim w.entered [ inl m ↦ inl m | inr q ↦ inr (λ e vs c. inl (already d x q.0 q.1)) ]
+pub list_opened : {E : Type 0} (size : Size) (mark : Bool) (count : ℕ) (place : Result Place E) (x : State) (o : Place) (y : State)
+    → EntersPlace place x (Ok o) y → IfOk place (λ p. p ≡ vacant_place Kinds.Items) → ListOpened jer_rules IsOpenList size mark count x (Ok (o, count)) y
+list_opened size mark count (Ok p) x o y w h = λ e vs c. opened (record { element = e; size = size; mark = mark; all = vs }) x p o count y (sym c) w.entered.0 w.entered.1 w.entered.2 h
+list_opened size mark count (Err n) x o y w h = absurd w.entered
 
-pub bag_opened : {E : Type 0} (size : Size) (mark : Bool) (count : ℕ) (place : Result Place E) (x : State) (r : Result Place EncodeError) (y : State)
-    → EntersPlace place x r y → IfOk place (λ p. p ≡ vacant_place Kinds.Items) → BagOpened jer_rules IsOpenList size mark count x r y
-bag_opened size mark count (Ok p) x (Ok o) y w h = λ e vs c. opened (record { element = e; size = size; mark = mark; all = vs }) x p o y w.entered.0 w.entered.1 w.entered.2 h
-bag_opened size mark count (Err n) x (Ok o) y w h = absurd w.entered
-bag_opened size mark count (Ok p) x (Err d) y w h = elim w.entered [ inl m ↦ inl m | inr q ↦ inr (λ e vs c. inl (already d x q.0 q.1)) ]
-bag_opened size mark count (Err n) x (Err d) y w h = elim w.entered [ inl m ↦ inl m | inr q ↦ inr (λ e vs c. inl (already d x q.0 q.1)) ]
+pub list_unopened : {E : Type 0} (size : Size) (mark : Bool) (count : ℕ) (place : Result Place E) (x : State) (d : EncodeError) (y : State)
+    → EntersPlace place x (Err d) y → ListOpened jer_rules IsOpenList size mark count x (Err d) y
+list_unopened size mark count (Ok p) x d y w = elim w.entered [ inl m ↦ inl m | inr q ↦ inr (λ e vs c. inl (already d x q.0 q.1)) ]
+list_unopened size mark count (Err n) x d y w = elim w.entered [ inl m ↦ inl m | inr q ↦ inr (λ e vs c. inl (already d x q.0 q.1)) ]
+
+pub bag_opened : {E : Type 0} (size : Size) (mark : Bool) (count : ℕ) (place : Result Place E) (x : State) (o : Place) (y : State)
+    → EntersPlace place x (Ok o) y → IfOk place (λ p. p ≡ vacant_place Kinds.Items) → BagOpened jer_rules IsOpenList size mark count x (Ok (o, count)) y
+bag_opened size mark count (Ok p) x o y w h = λ e vs c. opened (record { element = e; size = size; mark = mark; all = vs }) x p o count y (sym c) w.entered.0 w.entered.1 w.entered.2 h
+bag_opened size mark count (Err n) x o y w h = absurd w.entered
+
+pub bag_unopened : {E : Type 0} (size : Size) (mark : Bool) (count : ℕ) (place : Result Place E) (x : State) (d : EncodeError) (y : State)
+    → EntersPlace place x (Err d) y → BagOpened jer_rules IsOpenList size mark count x (Err d) y
+bag_unopened size mark count (Ok p) x d y w = elim w.entered [ inl m ↦ inl m | inr q ↦ inr (λ e vs c. inl (already d x q.0 q.1)) ]
+bag_unopened size mark count (Err n) x d y w = elim w.entered [ inl m ↦ inl m | inr q ↦ inr (λ e vs c. inl (already d x q.0 q.1)) ]
 
 -- one element more
-one_more : (f : ListForm) (x : State) (v : Value) (vs : List Value) (o : Place) (y z : State) → IsOpenList f x (v ∷ vs) o y → Presents y f.element v z → IsOpenList f x vs o z
-one_more f x v vs o y z h w =
+one_more : (f : ListForm) (x : State) (v : Value) (vs : List Value) (o : Place) (n m : ℕ) (y z : State) → IsOpenList f x (v ∷ vs) (o, n) y → n ≡ suc m → Presents y f.element v z → IsOpenList f x vs (o, m) z
+one_more f x v vs o n m y z h k w =
     let now : z.place ≡ behind y.place (text_of w.json) = subst (λ (k : Kind). z.place ≡ with_value k y.place (text_of w.json)) h.items w.taken.written in
     record {
       begun = h.begun;
       outer = h.outer;
+      counted = (let c = h.counted in omega (arith, c, k));
       left = w.left;
       items = ap (λ (p : Place). p.kind) now ∙ h.items;
       whole = λ js k. (let all = h.whole (item w.json js) (shows_next w.shows k) in
@@ -65,7 +74,7 @@ one_more f x v vs o y z h w =
     }
 
 -- a fault of an element is one of the whole
-standing : (d : EncodeError) (f : ListForm) (x : State) (v : Value) (vs : List Value) (o : Place) (y : State) → IsOpenList f x (v ∷ vs) o y
+standing : (d : EncodeError) (f : ListForm) (x : State) (v : Value) (vs : List Value) (o : Place × ℕ) (y : State) → IsOpenList f x (v ∷ vs) o y
     → Refuses d y f.element v → HasElement v f.all × StandsIn (fault_of d) f.element v
 standing d f x v vs o y h k = (
   h.member v element_here,
@@ -75,49 +84,72 @@ standing d f x v vs o y h k = (
   ],
 )
 
-pub element_awaited : (f : ListForm) (x : State) (v : Value) (vs : List Value) (o : Place) (y : State) → IsOpenList f x (v ∷ vs) o y → AwaitsElement jer_rules IsOpenList f x v vs o y
-element_awaited f x v vs o y h = record {
-  presented = λ z w. one_more f x v vs o y z h w;
-  refused = λ d k. (let s = standing d f x v vs o y h k in inr (in_element s.0 s.1));
-  room = λ d m. m;
+pub element_awaited : (f : ListForm) (x : State) (v : Value) (vs : List Value) (o : Place) (n m : ℕ) (y : State) → IsOpenList f x (v ∷ vs) (o, n) y → n ≡ suc m → AwaitsElement jer_rules IsOpenList f x v vs (o, m) y
+element_awaited f x v vs o n m y h k = record {
+  presented = λ z w. one_more f x v vs o n m y z h k w;
+  refused = λ d q. (let s = standing d f x v vs (o, n) y h q in inr (in_element s.0 s.1));
+  room = λ d r. r;
 }
 
-pub member_awaited : (f : ListForm) (x : State) (v : Value) (vs : List Value) (o : Place) (y : State) → IsOpenList f x (v ∷ vs) o y → AwaitsMember jer_rules IsOpenList f x v vs o y
-member_awaited f x v vs o y h = record {
-  presented = λ z w. one_more f x v vs o y z h w;
-  refused = λ d k. (let s = standing d f x v vs o y h k in inr (in_member s.0 s.1));
-  room = λ d m. m;
+pub member_awaited : (f : ListForm) (x : State) (v : Value) (vs : List Value) (o : Place) (n m : ℕ) (y : State) → IsOpenList f x (v ∷ vs) (o, n) y → n ≡ suc m → AwaitsMember jer_rules IsOpenList f x v vs (o, m) y
+member_awaited f x v vs o n m y h k = record {
+  presented = λ z w. one_more f x v vs o n m y z h k w;
+  refused = λ d q. (let s = standing d f x v vs (o, n) y h q in inr (in_member s.0 s.1));
+  room = λ d r. r;
 }
 
-pub list_closed : (f : ListForm) (x : State) (o : Place) (y : State) (r : Result (Unit {0}) EncodeError) (z : State) → Closed Kinds.Items 91 93 o y r z
+pub list_closed : (f : ListForm) (x : State) (o : Place × ℕ) (y : State) (r : Result (Unit {0}) EncodeError) (z : State) → Closed Kinds.Items 91 93 o.0 y r z
     → IsOpenList f x [] o y → Written jer_rules (schema_of f) (list_value f.all) x r z
 list_closed f x o y r z q h =
     let all = h.whole no_items shows_end in
-    closed Kinds.Items 91 93 o x y _ _ (array all.0) r z refl h.begun h.outer h.left h.items (shows_list all.1) (ap (λ (l : List ℕ). enclosed 91 l 93) (sym (all.2 ∙ append-nil y.place.text))) q
+    closed Kinds.Items 91 93 o.0 x y _ _ (array all.0) r z refl h.begun h.outer h.left h.items (shows_list all.1) (ap (λ (l : List ℕ). enclosed 91 l 93) (sym (all.2 ∙ append-nil y.place.text))) q
 
-pub bag_closed : (f : ListForm) (x : State) (o : Place) (y : State) (r : Result (Unit {0}) EncodeError) (z : State) → Closed Kinds.Items 91 93 o y r z
+pub bag_closed : (f : ListForm) (x : State) (o : Place × ℕ) (y : State) (r : Result (Unit {0}) EncodeError) (z : State) → Closed Kinds.Items 91 93 o.0 y r z
     → IsOpenList f x [] o y → Written jer_rules (bag_schema f) (bag_of f.all) x r z
 bag_closed f x o y r z q h =
     let all = h.whole no_items shows_end in
-    closed Kinds.Items 91 93 o x y _ _ (array all.0) r z refl h.begun h.outer h.left h.items (shows_bag all.1) (ap (λ (l : List ℕ). enclosed 91 l 93) (sym (all.2 ∙ append-nil y.place.text))) q
+    closed Kinds.Items 91 93 o.0 x y _ _ (array all.0) r z refl h.begun h.outer h.left h.items (shows_bag all.1) (ap (λ (l : List ℕ). enclosed 91 l 93) (sym (all.2 ∙ append-nil y.place.text))) q
+
+-- while elements are left, none is refused out of turn
+unbegun : (f : ListForm) (x : State) (v : Value) (vs : List Value) (o : Place) (n : ℕ) (y : State) (e : EncodeError) → IsOpenList f x (v ∷ vs) (o, n) y
+    → ((e ≡ AlreadyFailed) × (y.failed ≡ true)) ⊎ ((e ≡ OutOfTurn) × (n ≡ 0)) → ⊥
+unbegun f x v vs o n y e h (inl a) = (let t : true ≡ false = sym a.1 ∙ h.left in cc)
+unbegun f x v vs o n y e h (inr a) = (let c = h.counted in let k = a.1 in omega (arith, c, k))
+
+-- behind the last element one is refused so
+untimely : (f : ListForm) (x : State) (o : Place) (n : ℕ) (y : State) (e : EncodeError) → IsOpenList f x [] (o, n) y
+    → ((e ≡ AlreadyFailed) × (y.failed ≡ true)) ⊎ ((e ≡ OutOfTurn) × (n ≡ 0)) → Mistimed jer_rules y e
+untimely f x o n y e h (inl a) = absurd (let t : true ≡ false = sym a.1 ∙ h.left in cc)
+untimely f x o n y e h (inr a) = inr a.0
 
 -- a call before an element, and one before a member
-pub element_next : (o : Place) (y : State) (r : Result (Unit {0}) EncodeError) → OnOk r (y.failed ≡ false) → IfErr r (λ e. (e ≡ AlreadyFailed) × (y.failed ≡ true)) → WritesNext jer_rules IsOpenList o y r o y
-element_next o y (Ok u) f w = record {
-  law = λ l x v vs h. element_awaited l x v vs o y h;
-  behaves = record { again = λ a. absurd (let t : true ≡ false = sym a ∙ f in cc); fails = tt; kept = refl };
+pub element_next : (o : Place) (n m : ℕ) (y : State) (r : Result (Unit {0}) EncodeError) (z : State) → CountsItem n y r m z → WritesNext jer_rules IsOpenList (o, n) y r (o, m) z
+element_next o n m y (Ok u) z w = record {
+  law = λ l x v vs h. subst (λ (s : State). AwaitsElement jer_rules IsOpenList l x v vs (o, m) s) (sym w.ok.2) (element_awaited l x v vs o n m y h w.ok.1);
+  late = λ l x h. absurd (let c = h.counted in let k = w.ok.1 in omega (arith, c, k));
+  behaves = w.behaves;
 }
-element_next o y (Err e) f w = record {
-  law = λ l x v vs h. absurd (let t : true ≡ false = sym w.1 ∙ h.left in cc);
-  behaves = record { again = λ a. w.0; fails = w.1; kept = refl };
+element_next o n m y (Err e) z w = record {
+  law = λ l x v vs h. absurd (unbegun l x v vs o n y e h w.err);
+  late = λ l x h. untimely l x o n y e h w.err;
+  behaves = w.behaves;
 }
 
-pub member_next : (o : Place) (y : State) (r : Result (Unit {0}) EncodeError) → OnOk r (y.failed ≡ false) → IfErr r (λ e. (e ≡ AlreadyFailed) × (y.failed ≡ true)) → WritesMember jer_rules IsOpenList o y r o y
-member_next o y (Ok u) f w = record {
-  law = λ l x v vs h. member_awaited l x v vs o y h;
-  behaves = record { again = λ a. absurd (let t : true ≡ false = sym a ∙ f in cc); fails = tt; kept = refl };
+pub member_next : (o : Place) (n m : ℕ) (y : State) (r : Result (Unit {0}) EncodeError) (z : State) → CountsItem n y r m z → WritesMember jer_rules IsOpenList (o, n) y r (o, m) z
+member_next o n m y (Ok u) z w = record {
+  law = λ l x v vs h. subst (λ (s : State). AwaitsMember jer_rules IsOpenList l x v vs (o, m) s) (sym w.ok.2) (member_awaited l x v vs o n m y h w.ok.1);
+  late = λ l x h. absurd (let c = h.counted in let k = w.ok.1 in omega (arith, c, k));
+  behaves = w.behaves;
 }
-member_next o y (Err e) f w = record {
-  law = λ l x v vs h. absurd (let t : true ≡ false = sym w.1 ∙ h.left in cc);
-  behaves = record { again = λ a. w.0; fails = w.1; kept = refl };
+member_next o n m y (Err e) z w = record {
+  law = λ l x v vs h. absurd (unbegun l x v vs o n y e h w.err);
+  late = λ l x h. untimely l x o n y e h w.err;
+  behaves = w.behaves;
 }
+
+-- a list and a bag of which something is left
+pub some_left : (f : ListForm) (x : State) (v : Value) (vs : List Value) (o : Place × ℕ) (y : State) (r : Result (Unit {0}) EncodeError) (z : State) → IsOpenList f x (v ∷ vs) o y → ClosesItems o y r z
+    → IsErrAnd r (Mistimed jer_rules y)
+some_left f x v vs o y r z h w =
+    let e = err_from_is_err_and r (w.early (let c = h.counted in omega (arith, c)) h.left) in
+    rw e.1 (inr e.2)

@@ -1,5 +1,6 @@
 -- The rules of an encoder that writes JSON.
-use Rattle.std.specs.Prelude.{ℕ, ◌≡◌, ◌≢◌, ◌⊎◌, Bool, true, false, List, ◌++◌, length, Result, Ok, Err}
+use Rattle.std.specs.Prelude.{ℕ, suc, ◌<◌, ◌≡◌, ◌≢◌, ◌⊎◌, Bool, true, false, List, ◌++◌, length, Result, Ok, Err}
+use Rattle.std.specs.Prelude.{IfErr, IsErrAnd, OnOk}
 use Rattle.rasn_types.specs.Values.{Value}
 use Rattle.rasn_types.specs.declared.types.Codec.TheVariants.{Uper}
 use Rattle.rasn_schema.specs.Schemas.{count, Schema}
@@ -90,10 +91,11 @@ pub record OpensAddition (x : State) (o : Place) (i : State) : Type 0 where
   pub members : x.place.kind ≡ Kinds.Members
 
 -- A list or a bag is open: whatever items show the elements that are left, those that were written and these are the
--- text of items that show all.
-pub record IsOpenList (f : ListForm) (x : State) (vs : List Value) (o : Place) (y : State) : Type 0 where
+-- text of items that show all. What was open waits outside, and how many are left is counted.
+pub record IsOpenList (f : ListForm) (x : State) (vs : List Value) (o : Place × ℕ) (y : State) : Type 0 where
   pub begun : x.failed ≡ false
-  pub outer : o ≡ x.place
+  pub outer : o.0 ≡ x.place
+  pub counted : o.1 ≡ length vs
   pub left : y.failed ≡ false
   pub items : y.place.kind ≡ Kinds.Items
   pub whole : (js : Items) → ShowsAll f.element vs js → (all : Items) × ShowsAll f.element f.all all
@@ -206,6 +208,18 @@ Closed kind opening closing o j (Err e) y = (e ≡ OutOfMemory) ⊎ IsUnclosed k
 pub record ClosesPlace (kind : Kind) (opening closing : ℕ) (o : Place) (j : State)
     (result : Result (Unit {0}) EncodeError) (y : State) : Type 0 where
   pub closed : Closed kind opening closing o j result y
+  pub behaves : BehavesSo j result y
+
+-- A call before an item of an array, of which so many are left: one less then, and where none is left it refuses.
+pub record CountsItem (n : ℕ) (x : State) (result : Result (Unit {0}) EncodeError) (m : ℕ) (y : State) : Type 0 where
+  pub ok : OnOk result ((x.failed ≡ false) × (n ≡ suc m) × (y ≡ x))
+  pub err : IfErr result (λ e. ((e ≡ AlreadyFailed) × (x.failed ≡ true)) ⊎ ((e ≡ OutOfTurn) × (n ≡ 0)))
+  pub behaves : BehavesSo x result y
+
+-- A call that closes an array, of which so many items are left: where one is it refuses.
+pub record ClosesItems (o : Place × ℕ) (j : State) (result : Result (Unit {0}) EncodeError) (y : State) : Type 0 where
+  pub closed : o.1 ≡ 0 → Closed Kinds.Items 91 93 o.0 j result y
+  pub early : 0 < o.1 → j.failed ≡ false → IsErrAnd result (λ e. e ≡ OutOfTurn)
   pub behaves : BehavesSo j result y
 
 -- a record is open, or why none is

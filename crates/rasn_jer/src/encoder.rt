@@ -14,7 +14,8 @@ ghost use Rattle.rasn_schema.specs.Schemas.{Schema};
 ghost use Rattle.rasn_traits.specs.Calls.{Writes};
 ghost use Rattle.rasn_jer.specs.Names.{AreNamesOf};
 ghost use Rattle.rasn_jer.specs.Places.{inside, is_full, IsNamedBy, with_addition, with_group};
-ghost use Rattle.rasn_jer.specs.Rules.{AddedSo, BehavesSo, ClosesPlace, EntersPlace, LeavesPlace, NeedsRecord};
+ghost use Rattle.rasn_jer.specs.Rules.{AddedSo, BehavesSo, ClosesItems, ClosesPlace, CountsItem, EntersPlace};
+ghost use Rattle.rasn_jer.specs.Rules.{LeavesPlace, NeedsRecord};
 ghost use Rattle.rasn_jer.specs.Rules.{IsUnmade, WritesJson, WritesText, jer_rules};
 ghost use Rattle.rasn_jer.specs.Shown.{fixed_count, ShowsText};
 ghost use Rattle.rasn_jer.specs.Texts.{enclosed as enclosed_text, text_of};
@@ -195,6 +196,33 @@ impl<A: Allocator + Copy> Encoder<A> {
         }
     }
 
+    /// Counts the next item of an array, of which so many are left. Where none is left it refuses.
+    fn next_item(&mut self, left: &mut usize) -> Result<(), EncodeError>
+        ensures { CountsItem left.old self.old result left.new self.new }
+    {
+        if self.failed {
+            return Err(EncodeError::AlreadyFailed);
+        }
+        match left.checked_sub(1) {
+            Some(others) => {
+                *left = others;
+                Ok(())
+            }
+            None => Err(self.refuse_now(EncodeError::OutOfTurn)),
+        }
+    }
+
+    /// Closes an array of which no item is left. Where one is it refuses.
+    fn close_items(&mut self, items: (Place<A>, usize)) -> Result<(), EncodeError>
+        ensures { ClosesItems items self.old result self.new }
+    {
+        let (outside, left) = items;
+        if left > 0 {
+            return Err(self.refuse(EncodeError::OutOfTurn));
+        }
+        self.close(outside, Kind::Items, b'[', b']')
+    }
+
     /// Answers an error where a call was refused before.
     fn check_unfailed(&self) -> Result<(), EncodeError>
         ensures ok { OnOk result (self.now.failed ≡ false) }
@@ -265,9 +293,9 @@ impl<A: Allocator + Copy> encoder::Encoder for Encoder<A> {
     /// Octets that contain a value are shown as it.
     type Contents = ();
 
-    type List = Place<A>;
+    type List = (Place<A>, usize);
 
-    type Bag = Place<A>;
+    type Bag = (Place<A>, usize);
 
     ghost rules = { jer_rules };
 
@@ -586,38 +614,40 @@ impl<A: Allocator + Copy> encoder::Encoder for Encoder<A> {
         &mut self,
         _tag: Tag,
         _constraints: &Constraints,
-        _count: usize,
+        count: usize,
         _identifier: Identifier,
-    ) -> Result<Place<A>, EncodeError> {
+    ) -> Result<(Place<A>, usize), EncodeError> {
         let place = Place::new(self.alloc, Kind::Items);
-        self.enter(Ok(place))
+        let outside = self.enter(Ok(place))?;
+        Ok((outside, count))
     }
 
-    fn next_element(&mut self, _list: &mut Place<A>) -> Result<(), EncodeError> {
-        self.check_unfailed()
+    fn next_element(&mut self, list: &mut (Place<A>, usize)) -> Result<(), EncodeError> {
+        self.next_item(&mut list.1)
     }
 
-    fn close_list(&mut self, list: Place<A>) -> Result<(), EncodeError> {
-        self.close(list, Kind::Items, b'[', b']')
+    fn close_list(&mut self, list: (Place<A>, usize)) -> Result<(), EncodeError> {
+        self.close_items(list)
     }
 
     fn open_set_of(
         &mut self,
         _tag: Tag,
         _constraints: &Constraints,
-        _count: usize,
+        count: usize,
         _identifier: Identifier,
-    ) -> Result<Place<A>, EncodeError> {
+    ) -> Result<(Place<A>, usize), EncodeError> {
         let place = Place::new(self.alloc, Kind::Items);
-        self.enter(Ok(place))
+        let outside = self.enter(Ok(place))?;
+        Ok((outside, count))
     }
 
-    fn next_member(&mut self, _bag: &mut Place<A>) -> Result<(), EncodeError> {
-        self.check_unfailed()
+    fn next_member(&mut self, bag: &mut (Place<A>, usize)) -> Result<(), EncodeError> {
+        self.next_item(&mut bag.1)
     }
 
-    fn close_set_of(&mut self, bag: Place<A>) -> Result<(), EncodeError> {
-        self.close(bag, Kind::Items, b'[', b']')
+    fn close_set_of(&mut self, bag: (Place<A>, usize)) -> Result<(), EncodeError> {
+        self.close_items(bag)
     }
 
     fn fail(&mut self) {
