@@ -9,11 +9,16 @@ ghost use Rattle.per_versions.specs.Exchanges.{Exchanges, PassesOn};
 ghost use Rattle.per_versions.specs.Readings.{IsReadByNewer, IsReadByOlder};
 ghost use Rattle.per_versions.specs.declared.exchange.ExchangeError.TheVariants as Faults;
 
+use crate::constrained::{
+    newer_reader_answers_the_widening_under_constraints,
+    older_reader_answers_the_projection_under_constraints,
+};
 use crate::round_trips::{what_was_decoded_is_encoded, what_was_decoded_is_encoded_canonically};
 use crate::versions::{newer_reader_answers_the_widening, older_reader_answers_the_projection};
 use rasn_codec::codec::{Decode, Encode};
 use rasn_per::uper::{DecodeError, EncodeError};
 use rasn_per::{aper, uper};
+use rasn_schema::schema::Constraints;
 use rasn_types::types::Codec;
 use std::alloc::Global;
 
@@ -76,6 +81,44 @@ pub fn read_by_newer<New: Decode, Old: Encode>(
     Ok(answer)
 }
 
+/// What an older type's reader answers under constraints to a value that a newer type's writer writes under others, in
+/// the variant of a codec: the projection of its normal form (X.680, 52).
+pub fn read_by_older_under_constraints<New: Encode, Old: Decode>(
+    alloc: Global,
+    codec: Codec,
+    written: &Constraints,
+    read: &Constraints,
+    value: &New,
+) -> Result<Old, ExchangeError>
+    ensures { let newer = New.schema written.now in let older = Old.schema read.now in
+        let v = New.value value.now in NewerType newer older →
+        Exchanges codec newer (New.levels value.now) v Old.value (IsReadByOlder newer older v) result }
+{
+    older_reader_answers_the_projection_under_constraints::<New, Old>();
+    let octets = encode_under(alloc, codec, written, value)?;
+    let answer: Old = decode_under(alloc, codec, read, &octets)?;
+    Ok(answer)
+}
+
+/// What a newer type's reader answers under constraints to a value that an older type's writer writes under others, in
+/// the variant of a codec: the widening of its normal form (X.680, 52).
+pub fn read_by_newer_under_constraints<New: Decode, Old: Encode>(
+    alloc: Global,
+    codec: Codec,
+    written: &Constraints,
+    read: &Constraints,
+    value: &Old,
+) -> Result<New, ExchangeError>
+    ensures { let newer = New.schema read.now in let older = Old.schema written.now in
+        let v = Old.value value.now in NewerType newer older →
+        Exchanges codec older (Old.levels value.now) v New.value (IsReadByNewer newer older v) result }
+{
+    newer_reader_answers_the_widening_under_constraints::<New, Old>();
+    let octets = encode_under(alloc, codec, written, value)?;
+    let answer: New = decode_under(alloc, codec, read, &octets)?;
+    Ok(answer)
+}
+
 /// What a relay makes of octets in the variant of one codec, in that of another or the same: the canonical octets of
 /// the value that they spell (X.691, 11.1, 19.9). Of a lawful type that keeps to the numbers of an `i128` it refuses,
 /// memory aside, only octets that spell no value.
@@ -112,5 +155,35 @@ fn decode<T: Decode>(alloc: Global, codec: Codec, octets: &[u8]) -> Result<T, De
     match codec {
         Codec::Aper => aper::decode(alloc, octets),
         Codec::Uper => uper::decode(alloc, octets),
+    }
+}
+
+/// The canonical octets of a value under constraints, in the variant of a codec.
+fn encode_under<T: Encode>(
+    alloc: Global,
+    codec: Codec,
+    constraints: &Constraints,
+    value: &T,
+) -> Result<Vec<u8>, EncodeError>
+    ensures { Encoded codec (T.schema constraints.now) (T.levels value.now) (T.value value.now) result }
+{
+    match codec {
+        Codec::Aper => aper::encode_with_constraints(alloc, constraints, value),
+        Codec::Uper => uper::encode_with_constraints(alloc, constraints, value),
+    }
+}
+
+/// The value that all octets spell under constraints, in the variant of a codec.
+fn decode_under<T: Decode>(
+    alloc: Global,
+    codec: Codec,
+    constraints: &Constraints,
+    octets: &[u8],
+) -> Result<T, DecodeError>
+    ensures { Decoded codec (T.schema constraints.now) T.value octets.now result }
+{
+    match codec {
+        Codec::Aper => aper::decode_with_constraints(alloc, constraints, octets),
+        Codec::Uper => uper::decode_with_constraints(alloc, constraints, octets),
     }
 }

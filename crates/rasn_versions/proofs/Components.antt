@@ -1,13 +1,14 @@
 -- Newer versions by what was added to them, at each number of levels.
 use Rattle.std.proofs.Common.{ℕ, zero, suc, ◌+◌, Bool, true, false, List, [], ◌∷◌, ◌++◌, arith, Some}
 use Rattle.rasn_constraints.specs.Bounds.{Size}
+use Rattle.rasn_schema.specs.Bags.{set_at}
 use Rattle.rasn_schema.specs.Components.{Component, alternatives_at, parts_of}
 use Rattle.rasn_schema.specs.Forms.{always}
 use Rattle.rasn_schema.specs.Lawful.{IsLawfulType}
 use Rattle.rasn_schema.specs.Lists.{list_at}
 use Rattle.rasn_schema.specs.Records.{record_at}
 use Rattle.rasn_schema.specs.Schemas.{TagTree, Presence, Order, Schema, Parts, part}
-use Rattle.per_core.specs.Versions.{NewerPresence, Newer, NewerParts, NewerType, unchanged, more_items, newer_list, newer_sequence, newer_choice, no_more, more_parts, also}
+use Rattle.per_core.specs.Versions.{NewerPresence, Newer, NewerParts, NewerType, unchanged, more_items, newer_containing, newer_list, newer_set_of, newer_sequence, newer_choice, no_more, more_parts, also}
 use Rattle.per_laws.proofs.Itself.{newer_than_itself}
 use Rattle.rasn_versions.specs.Components.{AreNewer}
 
@@ -47,6 +48,13 @@ items_added roots adds more n = more_items (omega arith)
 pub list_newer : (T' T : ℕ → Schema) (size : Size) (mark : Bool) → NewerType T' T → NewerType (list_at T' size mark) (list_at T size mark)
 list_newer T' T size mark k zero = unchanged tt
 list_newer T' T size mark k (suc n) = newer_list (k n)
+
+pub set_newer : (T' T : ℕ → Schema) (size : Size) (mark : Bool) → NewerType T' T → NewerType (set_at T' size mark) (set_at T size mark)
+set_newer T' T size mark k zero = unchanged tt
+set_newer T' T size mark k (suc n) = newer_set_of (k n)
+
+pub contents_newer : (T' T : ℕ → Schema) → NewerType T' T → NewerType (λ n. Schema.containing (T' n)) (λ n. Schema.containing (T n))
+contents_newer T' T k n = newer_containing (k n)
 
 parts_newer : (may : Bool) (news olds : List Component) → AreNewer may news olds → (n : ℕ) → NewerParts may (parts_of news n) (parts_of olds n)
 parts_newer true [] [] k n = no_more

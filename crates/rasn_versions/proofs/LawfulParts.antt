@@ -2,9 +2,10 @@
 use Rattle.std.proofs.Common.{◌≡◌, refl, ap, ◌∙◌, ap₂, ℕ, zero, suc, ◌+◌, Bool, true, false, ltb, ◌&&◌, List, [], ◌∷◌, ◌++◌, Some}
 use Rattle.rasn_constraints.specs.Bounds.{Size}
 use Rattle.rasn_constraints.specs.LawfulConstraints.{is_lawful_size}
+use Rattle.rasn_schema.specs.Bags.{set_at, set_levelled}
 use Rattle.rasn_schema.specs.Components.{Component, alternatives_at, alternatives_levelled, components_levelled, parts_of}
 use Rattle.rasn_schema.specs.Lawful.{leaves, are_distinct, are_lawful_tags, are_required, has_bit, no_groups, presence_bits, tags_below, IsLawful, AreLawful, IsLawfulRecord, IsLawfulChoice, IsLawfulType}
-use Rattle.rasn_schema.specs.Levels.{Levelled, record_levelled}
+use Rattle.rasn_schema.specs.Levels.{Levelled, containing_levelled, record_levelled}
 use Rattle.rasn_schema.specs.Lists.{list_at, list_levelled}
 use Rattle.rasn_schema.specs.Records.{record_at}
 use Rattle.rasn_schema.specs.Schemas.{Presence, required, optional, group, default, Order, listed, by_tag, Schema, Parts, part}
@@ -107,6 +108,21 @@ list_at_lawful T size mark l e (suc n) = (e, l n)
 
 pub list_parts : (T : ℕ → Schema) (size : Size) (mark : Bool) → Levelled T → IsLawfulType T → is_lawful_size size.least size.most ≡ true → IsLawfulType (list_at T size mark)
 list_parts T size mark g l e = record { unfolds = levelled_type_unfolds (list_at T size mark) (list_levelled size mark g); lawful = list_at_lawful T size mark l.lawful e }
+
+set_at_lawful : (T : ℕ → Schema) (size : Size) (mark : Bool) → ((n : ℕ) → IsLawful (T n)) → is_lawful_size size.least size.most ≡ true → (n : ℕ) → IsLawful (set_at T size mark n)
+unfolding IsLawful
+set_at_lawful T size mark l e zero = tt
+set_at_lawful T size mark l e (suc n) = (e, l n)
+
+pub set_parts : (T : ℕ → Schema) (size : Size) (mark : Bool) → Levelled T → IsLawfulType T → is_lawful_size size.least size.most ≡ true → IsLawfulType (set_at T size mark)
+set_parts T size mark g l e = record { unfolds = levelled_type_unfolds (set_at T size mark) (set_levelled size mark g); lawful = set_at_lawful T size mark l.lawful e }
+
+contents_at_lawful : (s : Schema) → IsLawful s → IsLawful (Schema.containing s)
+unfolding IsLawful
+contents_at_lawful s l = l
+
+pub contents_parts : (T : ℕ → Schema) → Levelled T → IsLawfulType T → IsLawfulType (λ n. Schema.containing (T n))
+contents_parts T g l = record { unfolds = levelled_type_unfolds (λ n. Schema.containing (T n)) (containing_levelled g); lawful = λ n. contents_at_lawful (T n) (l.lawful n) }
 
 -- a component of a lawful type is a newer version of itself, as an addition of a record of its own
 in_additions : {o o' : Order} {ext ext' : Bool} {ps' ps adds' adds : Parts} → Newer (Schema.sequence o' ps' ext' adds') (Schema.sequence o ps ext adds) → NewerParts ext adds' adds

@@ -5,6 +5,7 @@
 ghost use Rattle.std.specs.Prelude.{◌≡◌, ℕ, ◌+◌, ◌++◌, Bool, true, false, List, Some};
 ghost use Rattle.rasn_constraints.specs.Bounds.{Size};
 ghost use Rattle.rasn_constraints.specs.LawfulConstraints.{is_lawful_size};
+ghost use Rattle.rasn_schema.specs.Bags.{set_at};
 ghost use Rattle.rasn_schema.specs.Components.{Component, alternatives_at, parts_of};
 ghost use Rattle.rasn_schema.specs.Forms.{always};
 ghost use Rattle.rasn_schema.specs.Lawful.{IsLawfulType};
@@ -40,6 +41,18 @@ pub fn more_items_make_a_newer_version()
 pub fn list_of_a_newer_type_is_newer()
     ensures { (newer older : ℕ → Schema) (size : Size) (mark : Bool) → NewerType newer older
         → NewerType (list_at newer size mark) (list_at older size mark) }
+{}
+
+/// A SET OF members of a newer type is a newer version, under the same size.
+pub fn set_of_a_newer_type_is_newer()
+    ensures { (newer older : ℕ → Schema) (size : Size) (mark : Bool) → NewerType newer older
+        → NewerType (set_at newer size mark) (set_at older size mark) }
+{}
+
+/// Octets that contain a value of a newer type are a newer version (X.682, 11).
+pub fn contents_of_a_newer_type_are_newer()
+    ensures { (newer older : ℕ → Schema) → NewerType newer older
+        → NewerType (λ n. Schema.containing (newer n)) (λ n. Schema.containing (older n)) }
 {}
 
 /// A SEQUENCE or SET whose components are newer ones is a newer version: the root has as many, and behind the marker
@@ -80,4 +93,16 @@ pub fn choice_of_lawful_alternatives_is_lawful()
 pub fn list_of_a_lawful_type_is_lawful()
     ensures { (element : ℕ → Schema) (size : Size) (mark : Bool) → Levelled element → IsLawfulType element
         → is_lawful_size size.least size.most ≡ true → IsLawfulType (list_at element size mark) }
+{}
+
+/// A SET OF members of a lawful type is lawful under a size that is in order.
+pub fn set_of_a_lawful_type_is_lawful()
+    ensures { (member : ℕ → Schema) (size : Size) (mark : Bool) → Levelled member → IsLawfulType member
+        → is_lawful_size size.least size.most ≡ true → IsLawfulType (set_at member size mark) }
+{}
+
+/// Octets that contain a value of a lawful type are lawful (X.682, 11).
+pub fn contents_of_a_lawful_type_are_lawful()
+    ensures { (contents : ℕ → Schema) → Levelled contents → IsLawfulType contents
+        → IsLawfulType (λ n. Schema.containing (contents n)) }
 {}
