@@ -54,7 +54,7 @@ returns-in_err-encode_with_tag g c =
       behaves = search rules;
     })
     (λ _ _. rw (p.1, p.2) (value_refused g.Self.Encoder.rules (choices_of g.C.Choice.alternatives g.C.Choice.EXTENDED_VARIANTS g.C.Choice.added) (g.T.AsnType.schema g.T.AsnType.CONSTRAINTS) _ _
-        c.args.self.now c.open_choice.new.self c.encode_with_tag.new.encoder _ (λ n. (o n).1) c.in_err-encode_with_tag.ensures.law))
+    c.args.self.now c.open_choice.new.self c.encode_with_tag.new.encoder _ (λ n. (o n).1) c.in_err-encode_with_tag.ensures.law))
     (search rules)
 
 pub returns : goal.returns
