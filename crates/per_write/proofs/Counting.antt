@@ -5,7 +5,8 @@ use Rattle.std.proofs.Common.{◌≡◌, refl, sym, ap, ap₂, ◌∙◌, subst,
 use Rattle.std.proofs.lemmas.Bool.{le-ltb}
 use Rattle.std.proofs.Math.Bool.{and-true}
 use Rattle.rasn_types.specs.Codecs.{variant_of}
-use Rattle.rasn_types.specs.Variants.{Variant}
+use Rattle.rasn_types.specs.Bits.{width}
+use Rattle.rasn_types.specs.Variants.{Variant, unaligned}
 use Rattle.rasn_types.specs.declared.types.Codec.{Codec}
 use Rattle.rasn_constraints.specs.Bounds.{allows, any_size, at_least, at_most, holds, Size}
 use Rattle.rasn_constraints.specs.Constraints.{bounds_by, end_of, is_marked, size_between, size_in, start_of}
@@ -26,7 +27,7 @@ use Rattle.per_core.proofs.LengthForms.{and_left, and_right}
 use Rattle.per_pieces.proofs.Fragments.{first_fragment, in_their_fragments, fragments_of_few, fragments_of_many}
 use Rattle.per_write.specs.Remains.{Remains}
 use Rattle.per_pieces.proofs.Writing.{then_assoc}
-use Rattle.per_write.proofs.Writing.{remains_after, remains_last, wrote_same, wrote_then}
+use Rattle.per_write.proofs.Writing.{remains_after, remains_last, wrote_none, wrote_same, wrote_then}
 
 -- items between two places
 length-slice : (ws : List Writer) (start end : ℕ) → start ≤ end → end ≤ length ws → length (slice_range ws start end) ≡ end - start
@@ -135,6 +136,30 @@ wrote_bounded writers kind x m y least most l u n on_octet b e h o v w =
     (counted_constrained a least most l u n on_octet kind all b e h o)
     (wrote_then x m y _ _ v
     (subst (λ (ws : List Writer). StateAppends m (one_by_one ws) y) all_of_it (subst (λ (c : Codec). StateAppends m (one_by_one (slice_range (writers (variant_of c)) 0 n)) y) v.same w)))
+
+-- X.691 11.5.4, 11.9.4.1: a count that is the only one has no bits in the unaligned variant, and its items no padding
+only_count : (t : Bool) (p : ℕ) → just [] p ≡ (constrained_whole unaligned (0 + 1) 0 ▹ padding_if t unaligned) p
+unfolding constrained_whole width
+only_count true p = refl
+only_count false p = refl
+
+without_length : (a : Variant) (l u n : ℕ) (t : Bool) → a ≡ unaligned → l ≡ u → l ≤ n → n ≤ u → (p : ℕ)
+    → just [] p ≡ (constrained_whole a (u - l + 1) (n - l) ▹ padding_if t a) p
+without_length a l u n t v e h k p =
+    only_count t p
+    ∙ ap (λ (m : ℕ). (constrained_whole unaligned (m + 1) 0 ▹ padding_if t unaligned) p) (let z : 0 ≡ u - l = omega (arith, e) in z)
+    ∙ ap (λ (m : ℕ). (constrained_whole unaligned (u - l + 1) m ▹ padding_if t unaligned) p) (let z : 0 ≡ n - l = omega (arith, e, h, k) in z)
+    ∙ ap (λ (b : Variant). (constrained_whole b (u - l + 1) (n - l) ▹ padding_if t b) p) (sym v)
+
+pub wrote_without_length : (writers : Variant → List Writer) (kind : ItemKind) (x y : State) (least most : Option ℕ) (l u n : ℕ) → x.failed ≡ false →
+    let all = writers (variant_of x.codec) in
+    IsConstrained least most l u → n ≡ length all → allows (record { least = least; most = most }) (length all) ≡ true → variant_of x.codec ≡ unaligned → l ≡ u → l ≤ n → n ≤ u →
+    StateAppends x (one_by_one (slice_range (writers (variant_of x.codec)) 0 n)) y →
+    StateAppends x (counted_in (variant_of x.codec) (record { least = least; most = most }) kind all) y
+wrote_without_length writers kind x y least most l u n f b e h v d i k w =
+    let t = ltb 0 n && is_aligned kind l u in
+    wrote_bounded writers kind x x y least most l u n t b e h refl
+    (wrote_same x x (just []) _ (without_length (variant_of x.codec) l u n t v d i k) (wrote_none x f)) w
 
 -- items whose count no bounds constrain
 pub wrote_free : (items : List Writer) (kind : ItemKind) (x y : State) (least most : Option ℕ) → IsFree least most → allows (record { least = least; most = most }) (length items) ≡ true

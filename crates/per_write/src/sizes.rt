@@ -1,6 +1,7 @@
 //! Items under a size constraint (X.691 11.9.3.3, 11.9.4, 16, 17, 20 and 30.5).
 
-ghost use Rattle.std.specs.Prelude.{◌≡◌, ◌≤◌, length, false};
+ghost use Rattle.std.specs.Prelude.{◌≡◌, ◌≤◌, ◌↔◌, IsTrue, length, false};
+ghost use Rattle.rasn_types.specs.declared.types.Codec.TheVariants.{Uper};
 ghost use Rattle.rasn_types.specs.Variants.{Variant};
 ghost use Rattle.per_write.specs.Faults.{IsMemory};
 ghost use Rattle.per_pieces.specs.Fragments.{constrained_length, unconstrained_length};
@@ -15,6 +16,7 @@ use per_core::lengths::{FRAGMENT, constrained_bounds};
 use per_errors::sizes::OutOfSize;
 use per_pieces::lengths::{push_constrained_length, push_unconstrained_length};
 use rasn_schema::constraints::{Bounded, Extensible};
+use rasn_types::types::Codec;
 use std::alloc::Allocator;
 
 impl<A: Allocator + Clone> Writer<A> {
@@ -68,6 +70,9 @@ impl<A: Allocator + Clone> Writer<A> {
         match constrained_bounds(lower, upper) {
             Some((lower, upper)) => {
                 let count = items.len();
+                if is_without_length(self.codec, lower, upper) {
+                    return items.put(self, 0, count);
+                }
                 let on_octet = count > 0 && items.item().is_aligned(lower, upper);
                 self.put_constrained_length(lower, upper, count, on_octet)?;
                 items.put(self, 0, count)
@@ -144,4 +149,13 @@ impl<A: Allocator + Clone> Writer<A> {
         self.unless_out_of_memory(pushed)?;
         Ok(())
     }
+}
+
+/// Whether a count between bounds takes no bits, and its items no padding: in the unaligned variant, where the bounds
+/// are the same (X.691 11.5.4, 11.9.4.1).
+#[inline(always)]
+fn is_without_length(codec: Codec, lower: usize, upper: usize) -> bool
+    ensures { IsTrue result ↔ ((codec ≡ Uper) × (lower ≡ upper)) }
+{
+    codec == Codec::Uper && lower == upper
 }
