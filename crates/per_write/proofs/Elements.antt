@@ -19,7 +19,7 @@ use Rattle.per_core.specs.Counts.{counted, counted_in, determinant, fragment_siz
 use Rattle.per_core.specs.Writers.{Writer, after, join, just, ◌▹◌, one_by_one, pad, padding, refused}
 use Rattle.per_write.specs.declared.error.EncodeError.{EncodeError}
 use Rattle.per_write.specs.declared.error.EncodeErrorKind.{EncodeErrorKind}
-use Rattle.per_write.specs.declared.error.EncodeErrorKind.TheVariants.{SizeConstraintNotSatisfied, ValueConstraintNotSatisfied, AlphabetConstraintNotSatisfied, IntegerTypeConversionFailed, VariantNotInChoice, RealNotSupported, TooManyAdditions, Below, AlreadyFailed, OutOfMemory, OutOfTurn}
+use Rattle.per_write.specs.declared.error.EncodeErrorKind.TheVariants.{SizeConstraintNotSatisfied, ValueConstraintNotSatisfied, AlphabetConstraintNotSatisfied, IntegerTypeConversionFailed, VariantNotInChoice, RealNotSupported, TooManyAdditions, Below, AlreadyFailed, OutOfMemory, OutOfTurn, WrongKind}
 use Rattle.per_write.specs.declared.lists.UnwrittenElements.{UnwrittenElements}
 use Rattle.per_write.specs.Faults.{at_once, element_behind, element_here, HasElement, in_element, IsError, IsMemory, OutsideSize, RefusesValue, Stands}
 use Rattle.per_pieces.specs.Fragments.{constrained_length, one_fragment, unconstrained_length}
@@ -321,6 +321,7 @@ stands_in_element TooManyAdditions x y e size mark v vs f h k = absurd k
 stands_in_element Below x y e size mark v vs f h k = in_element h k
 stands_in_element OutOfMemory x y e size mark v vs f h k = absurd k
 stands_in_element OutOfTurn x y e size mark v vs f h k = in_element h k
+stands_in_element WrongKind x y e size mark v vs f h k = in_element h k
 
 refuses_element : (d : EncodeError) (x y : State) (e : Schema) (size : Size) (mark : Bool) (front : List Value) (v : Value) (vs : List Value) → y.failed ≡ false → y.codec ≡ x.codec → RefusesValue d y e v →
     RefusesValue d x (Schema.list e size mark) (list_value (front ++ v ∷ vs))

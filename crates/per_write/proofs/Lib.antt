@@ -6,6 +6,7 @@ pub mod Fields
 pub mod Gathering
 pub mod Indexes
 pub mod OpenTypes
+pub mod OtherKinds
 pub mod RecordsClosed
 pub mod SetRoots
 pub mod Refusing

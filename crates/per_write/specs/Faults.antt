@@ -14,6 +14,7 @@ use Rattle.rasn_schema.specs.Lists.{list_value}
 use Rattle.rasn_schema.specs.Records.{record_value}
 use Rattle.rasn_schema.specs.Schemas.{by_tag, Schema, Parts, part, Presence, TagTree}
 use Rattle.rasn_traits.specs.Additions.{extended}
+use Rattle.rasn_traits.specs.Counted.{is_of_kind}
 use Rattle.per_core.specs.Canon.{canon, shown}
 use Rattle.per_errors.specs.Bounds.{value_of, lower_of, upper_of}
 use Rattle.per_write.specs.State.{State}
@@ -24,7 +25,7 @@ use Rattle.per_write.specs.declared.error.EncodeErrorKind.TheVariants.{ValueCons
 use Rattle.per_write.specs.declared.error.EncodeErrorKind.TheVariants.{AlphabetConstraintNotSatisfied}
 use Rattle.per_write.specs.declared.error.EncodeErrorKind.TheVariants.{IntegerTypeConversionFailed, VariantNotInChoice}
 use Rattle.per_write.specs.declared.error.EncodeErrorKind.TheVariants.{RealNotSupported, TooManyAdditions, Below}
-use Rattle.per_write.specs.declared.error.EncodeErrorKind.TheVariants.{AlreadyFailed, OutOfMemory, OutOfTurn}
+use Rattle.per_write.specs.declared.error.EncodeErrorKind.TheVariants.{AlreadyFailed, OutOfMemory, OutOfTurn, WrongKind}
 
 -- an error of a kind, under the variant in use
 pub record IsError (kind : EncodeErrorKind) (e : EncodeError) (x : State) : Type 0 where
@@ -116,6 +117,10 @@ IsReal _ _ = ⊥
 abbrev pub IsAbsent : Schema → Value → Type 0
 IsAbsent s v = v ≡ no_value
 
+-- a value isn't of its schema's kind
+abbrev pub IsOther : Schema → Value → Type 0
+IsOther s v = is_of_kind s v ≡ false
+
 -- X.691 19.2, 19.8: a component that is written, by its schema
 pub data HasPart (s : Schema) (v : Value) : Parts → List (Option Value) → Type 0 where
   part_here : {t : TagTree} {p : Presence} {ps : Parts} {rs : List (Option Value)} → shown p (Some v) ≡ Some true
@@ -166,6 +171,7 @@ IsInValue Below s v = StandsIn IsUnlawful s v
 IsInValue AlreadyFailed s v = ⊥
 IsInValue OutOfMemory s v = ⊥
 IsInValue OutOfTurn s v = StandsIn IsAbsent s v
+IsInValue WrongKind s v = StandsIn IsOther s v
 
 -- where a kind's fault stands: in the value, or in what the encoder was before
 abbrev pub Stands : EncodeErrorKind → State → Schema → Value → Type 0

@@ -6,7 +6,7 @@ use Rattle.per_write.specs.declared.error.EncodeErrorKind.TheVariants.{ValueCons
 use Rattle.per_write.specs.declared.error.EncodeErrorKind.TheVariants.{AlphabetConstraintNotSatisfied}
 use Rattle.per_write.specs.declared.error.EncodeErrorKind.TheVariants.{IntegerTypeConversionFailed, VariantNotInChoice}
 use Rattle.per_write.specs.declared.error.EncodeErrorKind.TheVariants.{RealNotSupported, TooManyAdditions, Below}
-use Rattle.per_write.specs.declared.error.EncodeErrorKind.TheVariants.{AlreadyFailed, OutOfMemory, OutOfTurn}
+use Rattle.per_write.specs.declared.error.EncodeErrorKind.TheVariants.{AlreadyFailed, OutOfMemory, OutOfTurn, WrongKind}
 
 abbrev pub name_of : EncodeErrorKind → List ℕ
 name_of (SizeConstraintNotSatisfied told) = codes "SizeConstraintNotSatisfied"
@@ -20,3 +20,4 @@ name_of Below = codes "Below"
 name_of AlreadyFailed = codes "AlreadyFailed"
 name_of OutOfMemory = codes "OutOfMemory"
 name_of OutOfTurn = codes "OutOfTurn"
+name_of WrongKind = codes "WrongKind"

@@ -62,6 +62,9 @@ pub enum EncodeErrorKind {
     /// asked for (X.680 25.6).
     #[error("a part was presented out of turn")]
     OutOfTurn,
+    /// A value is of another kind than its type.
+    #[error("a value is of another kind than its type")]
+    WrongKind,
 }
 
 impl EncodeErrorKind {
@@ -81,6 +84,7 @@ impl EncodeErrorKind {
             EncodeErrorKind::AlreadyFailed => "AlreadyFailed",
             EncodeErrorKind::OutOfMemory => "OutOfMemory",
             EncodeErrorKind::OutOfTurn => "OutOfTurn",
+            EncodeErrorKind::WrongKind => "WrongKind",
         }
     }
 }

@@ -6,6 +6,7 @@ ghost use Rattle.std.specs.Prelude.{◌≡◌, ◌≤◌, ◌∷◌, [], true, f
 ghost use Rattle.rasn_types.specs.Bits.{to_bits};
 ghost use Rattle.rasn_types.specs.Codecs.{variant_of};
 ghost use Rattle.rasn_traits.specs.Absent.{WritesAbsent};
+ghost use Rattle.rasn_traits.specs.Counted.{WritesOther};
 ghost use Rattle.rasn_traits.specs.Reals.{WritesNoReal};
 ghost use Rattle.per_bits.specs.Octets.{low_bits_of};
 ghost use Rattle.per_core.specs.Writers.{just, one_by_one};
@@ -209,6 +210,14 @@ impl<A: Allocator + Clone> Writer<A> {
         ensures { WritesAbsent encoder_rules self.old result self.new }
     {
         Err(self.refuse(EncodeErrorKind::OutOfTurn))
+    }
+
+    /// Refuses a value that isn't of its schema's kind. Takes no memory.
+    pub fn refuse_other(&mut self) -> Result<(), EncodeError>
+        requires { self.old.failed ≡ false }
+        ensures { WritesOther encoder_rules self.old result self.new }
+    {
+        Err(self.refuse(EncodeErrorKind::WrongKind))
     }
 
     /// Refuses where a call was refused before.

@@ -3,7 +3,7 @@
 
 ghost use Rattle.std.specs.Prelude.{◌≡◌, Option, true, false};
 ghost use Rattle.per_write.specs.Presences.{MarksOrNot};
-ghost use Rattle.per_write.specs.State.{within};
+ghost use Rattle.per_write.specs.State.{empty_scope, within};
 
 use crate::Writer;
 use crate::additions::Additions;
@@ -73,6 +73,16 @@ impl<A: Allocator + Clone> Writer<A> {
         }
     }
 
+    /// Goes into an alternative of a CHOICE, of which no presence bit and no addition is given. Answers what waits
+    /// outside until it is closed.
+    #[inline(always)]
+    pub fn enter_alternative(&mut self) -> Scope<A>
+        ensures waits { result ≡ self.old.scope }
+        ensures inside { self.new ≡ record self.old { scope = empty_scope true } }
+    {
+        self.enter(Presences { place: 0, left: 0 }, None)
+    }
+
     /// States whether anything is open from now on. Answers whether anything was until then.
     #[inline(always)]
     pub fn set_open(&mut self, is_open: bool) -> bool
@@ -84,7 +94,7 @@ impl<A: Allocator + Clone> Writer<A> {
 
     /// Goes out of a SEQUENCE or CHOICE: what waited outside is there again.
     #[inline(always)]
-    pub(crate) fn leave(&mut self, outside: Scope<A>)
+    pub fn leave(&mut self, outside: Scope<A>)
         ensures { self.new ≡ record self.old { scope = outside } }
     {
         let Scope {

@@ -8,3 +8,4 @@ pub mod BagOrder
 pub mod Refusing
 pub mod Opened
 pub mod DatesWritten
+pub mod AtPlaces

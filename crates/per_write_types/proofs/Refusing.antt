@@ -14,8 +14,8 @@ use Rattle.rasn_schema.proofs.Bags.{sort}
 use Rattle.per_errors.specs.Bounds.{value_of, lower_of, upper_of}
 use Rattle.per_write.specs.declared.error.EncodeError.{EncodeError}
 use Rattle.per_write.specs.declared.error.EncodeErrorKind.{EncodeErrorKind}
-use Rattle.per_write.specs.declared.error.EncodeErrorKind.TheVariants.{SizeConstraintNotSatisfied, ValueConstraintNotSatisfied, AlphabetConstraintNotSatisfied, IntegerTypeConversionFailed, VariantNotInChoice, RealNotSupported, TooManyAdditions, Below, AlreadyFailed, OutOfMemory, OutOfTurn}
-use Rattle.per_write.specs.Faults.{HasElement, element_here, element_behind, IsAbsent, IsForeign, IsOutOfBounds, IsOutOfSize, IsPastBounds, IsReal, IsUnlawful, OutsideSize, RefusesValue, Stands, StandsIn, at_once, in_addition, in_alternative, in_contents, in_element, in_member, in_part, in_set}
+use Rattle.per_write.specs.declared.error.EncodeErrorKind.TheVariants.{SizeConstraintNotSatisfied, ValueConstraintNotSatisfied, AlphabetConstraintNotSatisfied, IntegerTypeConversionFailed, VariantNotInChoice, RealNotSupported, TooManyAdditions, Below, AlreadyFailed, OutOfMemory, OutOfTurn, WrongKind}
+use Rattle.per_write.specs.Faults.{HasElement, element_here, element_behind, IsAbsent, IsForeign, IsOther, IsOutOfBounds, IsOutOfSize, IsPastBounds, IsReal, IsUnlawful, OutsideSize, RefusesValue, Stands, StandsIn, at_once, in_addition, in_alternative, in_contents, in_element, in_member, in_part, in_set}
 use Rattle.per_write.specs.Items.{HasRefused, refused_behind, refused_here}
 use Rattle.per_write.specs.State.{State}
 use Rattle.per_write.proofs.Elements.{length-forms}
@@ -97,6 +97,7 @@ stands_in_member TooManyAdditions x y e size mark v vs f h k = absurd k
 stands_in_member Below x y e size mark v vs f h k = in_member h k
 stands_in_member OutOfMemory x y e size mark v vs f h k = absurd k
 stands_in_member OutOfTurn x y e size mark v vs f h k = in_member h k
+stands_in_member WrongKind x y e size mark v vs f h k = in_member h k
 
 -- a fault that stands in a list stands in the bag of its elements
 bag_stands : (fault : Schema → Value → Type 0) (e : Schema) (size : Size) (mark : Bool) (ws vs : List Value) → ((v : Value) → HasElement v ws → HasElement v vs)
@@ -137,6 +138,7 @@ stands_as_bag Below x e size mark ws vs s moves h = bag_stands IsUnlawful e size
 stands_as_bag AlreadyFailed x e size mark ws vs s moves h = h
 stands_as_bag OutOfMemory x e size mark ws vs s moves h = absurd h
 stands_as_bag OutOfTurn x e size mark ws vs s moves h = bag_stands IsAbsent e size mark ws vs moves (λ q. absurd (cc)) _ _ refl refl h
+stands_as_bag WrongKind x e size mark ws vs s moves h = bag_stands IsOther e size mark ws vs moves (λ q. absurd (cc)) _ _ refl refl h
 
 -- what refuses a list refuses the bag of its elements, where that has no encoding either
 pub refused_as_bag : (d : EncodeError) (x : State) (e : Schema) (size : Size) (mark : Bool) (ws vs : List Value) → length ws ≡ length vs → ((v : Value) → HasElement v ws → HasElement v vs)

@@ -1,4 +1,5 @@
 pub mod Choices
+pub mod Placed
 pub mod Times
 pub mod Integers
 pub mod Written

@@ -22,9 +22,9 @@ use std::marker::Model;
 #[derive(Drop)]
 pub struct OutsideChoice<A: Allocator + Clone> {
     /// What was open.
-    scope: Scope<A>,
+    pub(crate) scope: Scope<A>,
     /// What was written before, where the alternative that is written has no place yet.
-    before: Option<Pieces<A>>,
+    pub(crate) before: Option<Pieces<A>>,
 }
 
 impl<A: Allocator + Clone> Model for OutsideChoice<A> {
@@ -113,7 +113,7 @@ fn open_in_place<A: Allocator + Clone>(
 
 /// Opens a CHOICE of added alternatives too: the one that is written has no place yet.
 #[inline(always)]
-fn open_without_place<A: Allocator + Clone>(
+pub(crate) fn open_without_place<A: Allocator + Clone>(
     writer: &mut Writer<A>,
 ) -> Result<OutsideChoice<A>, EncodeError>
     requires { writer.old.failed ≡ false }

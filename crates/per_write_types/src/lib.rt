@@ -12,4 +12,5 @@ pub mod identifiers;
 pub mod integers;
 pub mod member_order;
 pub mod members;
+pub mod placed;
 pub mod times;
