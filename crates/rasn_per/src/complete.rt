@@ -101,9 +101,12 @@ pub fn decode_in<T: Decode>(
 {
     let total = BitReader::from_octets(octets).len();
     let mut decoder = Decoder::from_octets(alloc, octets, options);
-    let value = T::decode_with_constraints(&mut decoder, constraints)?;
+    let decoded = T::decode_with_constraints(&mut decoder, constraints);
+    if decoded.is_err() {
+        return decoded;
+    }
     match ended(&decoder.input(), total, options.needs_zero_padding()) {
-        Ok(()) => Ok(value),
+        Ok(()) => decoded,
         Err(surplus) => Err(refusal(surplus, decoder.codec())),
     }
 }

@@ -1,37 +1,51 @@
-use Rattle.std.proofs.Common.{◌∙◌, ap, refl, subst, Err}
+use Rattle.std.proofs.Common.{◌≡◌, refl, subst, true, false, Result, Ok, Err}
+use Rattle.std.specs.Result.{is_err}
 use Rattle.per_core.specs.Ends.{Ends}
 use Rattle.per_bits.specs.Surpluses.{IsWhy}
-use Rattle.std.proofs.lemmas.Result.{err_from_is_err_and}
 use Rattle.rasn_types.proofs.Reading.{are_octets}
 use Rattle.rasn_per.proofs.Answered.{read, unread, surplus}
 use Rattle.rasn_per.proofs.Few.{few}
 use Rattle.rasn_per.proofs.Decoded.{begun, full_octets}
 use Rattle.rasn_per.proofs.complete.decode_in.Goals as goal
 
-pub returns-in_err-value-clause-decoded : goal.returns-in_err-value-clause-decoded
-returns-in_err-value-clause-decoded g c =
-    let p = err_from_is_err_and c.from_residual.result c.from_residual.ensures.1 in
+-- what a call answered, by whether that is an error
+refused : {T E : Type 0} (r : Result T E) → true ≡ is_err r → (e : E) × (r ≡ Err e)
+refused (Err e) h = (e, refl)
+refused (Ok x) h = absurd (let f : true ≡ false = h in cc)
+
+answered : {T E : Type 0} (r : Result T E) → false ≡ is_err r → (x : T) × (r ≡ Ok x)
+answered (Ok x) h = (x, refl)
+answered (Err e) h = absurd (let f : false ≡ true = h in cc)
+
+pub returns-then-is_err-clause-decoded : goal.returns-then-is_err-clause-decoded
+returns-then-is_err-clause-decoded g c =
+    let p = refused c.decode_with_constraints-decoded.result c.if-is_err.ensures.value in
+    let h = rw p.1 at c.decode_with_constraints-decoded.ensures in
     unread c.args.options.codec c.args.options.zero_padding (g.T.AsnType.schema c.args.constraints.now) g.T.AsnType.value c.args.octets.now _
-    (begun c.args.options _ _ _ c.from_octets-decoder.ensures c.requires refl) _ _ (p.1 ∙ ap Err p.2) c.in_err-value.ensures.law
+    (begun c.args.options _ _ _ c.from_octets-decoder.ensures c.requires refl) _ p.0 p.1 h.law
 
 pub ended-requires-clause-octets : goal.ended-requires-clause-octets
 ended-requires-clause-octets g c = full_octets _ _ _ c.from_octets.ensures.bits c.len-total.ensures
 
 pub returns-in-Ok-clause-decoded : goal.returns-in-Ok-clause-decoded
 returns-in-Ok-clause-decoded g c =
-    read c.args.options.codec c.args.options.zero_padding (g.T.AsnType.schema c.args.constraints.now) g.T.AsnType.value c.args.octets.now _
-    (begun c.args.options _ _ _ c.from_octets-decoder.ensures c.requires refl) _ _ _ (are_octets _ c.type_inv.octets) c.in_ok-value.ensures.law
-    (record { left = c.input.result.bits; total = c.len-total.result; ends = subst (λ z. Ends z c.input.result.bits c.len-total.result) c.needs_zero_padding.ensures c.in-Ok.ensures.ok; left_is = c.input.ensures.bits; total_is = c.len-total.ensures; all = c.from_octets.ensures.bits })
+    let q = answered c.decode_with_constraints-decoded.result c.if-is_err.ensures.value in
+    let h = rw q.1 at c.decode_with_constraints-decoded.ensures in
+    rw q.1 (read c.args.options.codec c.args.options.zero_padding (g.T.AsnType.schema c.args.constraints.now) g.T.AsnType.value c.args.octets.now _
+    (begun c.args.options _ _ _ c.from_octets-decoder.ensures c.requires refl) _ _ _ (are_octets _ c.type_inv.octets) h.law
+    (record { left = c.input.result.bits; total = c.len-total.result; ends = subst (λ z. Ends z c.input.result.bits c.len-total.result) c.needs_zero_padding.ensures c.in-Ok.ensures.ok; left_is = c.input.ensures.bits; total_is = c.len-total.ensures; all = c.from_octets.ensures.bits }))
 
 pub returns-clause-decoded : goal.returns-clause-decoded
 returns-clause-decoded g c =
+    let q = answered c.decode_with_constraints-decoded.result c.if-is_err.ensures.value in
+    let h = rw q.1 at c.decode_with_constraints-decoded.ensures in
     surplus c.args.options.codec c.args.options.zero_padding (g.T.AsnType.schema c.args.constraints.now) g.T.AsnType.value c.args.octets.now _
-    (begun c.args.options _ _ _ c.from_octets-decoder.ensures c.requires refl) c.in-Err.surplus _ _ _ _ _ c.refusal.ensures c.codec.ensures c.in_ok-value.ensures.law
+    (begun c.args.options _ _ _ c.from_octets-decoder.ensures c.requires refl) c.in-Err.surplus _ _ _ _ _ c.refusal.ensures c.codec.ensures h.law
     (record { left = c.input.result.bits; total = c.len-total.result; ends = subst (λ z. Ends z c.input.result.bits c.len-total.result → ⊥) c.needs_zero_padding.ensures c.in-Err.ensures.none; left_is = c.input.ensures.bits; total_is = c.len-total.ensures; all = c.from_octets.ensures.bits })
     (record { left = c.input.result.bits; total = c.len-total.result; ends = subst (λ z. IsWhy z c.input.result.bits c.len-total.result c.in-Err.surplus) c.needs_zero_padding.ensures c.in-Err.ensures.why; left_is = c.input.ensures.bits; total_is = c.len-total.ensures; all = c.from_octets.ensures.bits })
 
-pub returns-in_err-value-clause-few : goal.returns-in_err-value-clause-few
-returns-in_err-value-clause-few g c = few c.args.options.codec (g.T.AsnType.schema c.args.constraints.now) g.T.AsnType.value c.args.octets.now c.args.options.zero_padding _ (returns-in_err-value-clause-decoded g c)
+pub returns-then-is_err-clause-few : goal.returns-then-is_err-clause-few
+returns-then-is_err-clause-few g c = few c.args.options.codec (g.T.AsnType.schema c.args.constraints.now) g.T.AsnType.value c.args.octets.now c.args.options.zero_padding _ (returns-then-is_err-clause-decoded g c)
 
 pub returns-in-Ok-clause-few : goal.returns-in-Ok-clause-few
 returns-in-Ok-clause-few g c = few c.args.options.codec (g.T.AsnType.schema c.args.constraints.now) g.T.AsnType.value c.args.octets.now c.args.options.zero_padding _ (returns-in-Ok-clause-decoded g c)
