@@ -18,6 +18,7 @@ pub mod Zeros
 pub mod SetOrders
 pub mod Placing
 pub mod SetReadings
+mod FewArcs
 mod FewItems
 pub mod FewLengths
 pub mod FewTook

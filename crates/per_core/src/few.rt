@@ -1,8 +1,9 @@
 //! The items of a value and the bits of its encodings (X.691, 11.9).
 
-ghost use Rattle.std.specs.Prelude.{◌≡◌, ◌<◌, ◌≤◌, ◌+◌, ◌*◌, ◌^◌, ℕ, Bool, [], length};
+ghost use Rattle.std.specs.Prelude.{◌≡◌, ◌<◌, ◌≤◌, ◌+◌, ◌*◌, ◌^◌, ℕ, Bool, true, List, [], length};
 ghost use Rattle.rasn_types.specs.Bits.{Bits};
-ghost use Rattle.rasn_types.specs.Values.{Value};
+ghost use Rattle.rasn_types.specs.Identifiers.{are_arcs, contents};
+ghost use Rattle.rasn_types.specs.Values.{Value, octets};
 ghost use Rattle.rasn_types.specs.Variants.{unaligned};
 ghost use Rattle.rasn_schema.specs.Schemas.{Schema};
 ghost use Rattle.per_core.specs.Basic.{basic};
@@ -28,4 +29,12 @@ pub fn so_many_nulls_take_so_few_bits()
     ensures in_fragments { (strict : Bool) (p k n : ℕ) → n ≡ 65536 * k → n < 2 ^ 64 → (bits : Bits)
         × (length bits ≡ 8 * k + 8)
         × basic (record { variant = unaligned; strict = strict }) any_nulls (nulls n) p bits }
+{}
+
+/// An OBJECT IDENTIFIER of n arcs has n - 1 contents octets or more (X.690, 8.19), which are its items. So the arcs are
+/// few for its bits, too: at most 65535, and 8192 for each bit of a basic encoding (X.691, 11.9).
+pub fn arcs_are_few_for_their_bits()
+    ensures octets { (arcs : List ℕ) → are_arcs arcs ≡ true → length arcs ≤ item_count (octets (contents arcs)) + 1 }
+    ensures bits { (a : Settings) (arcs : List ℕ) (p : ℕ) (bits : Bits) → are_arcs arcs ≡ true
+        → basic a Schema.identifier (octets (contents arcs)) p bits → length arcs ≤ most_items (length bits) }
 {}
