@@ -23,6 +23,6 @@ mod FewItems
 pub mod FewLengths
 pub mod FewTook
 pub mod FewWithin
-mod HeldIn
+pub mod HeldIn
 mod NullRows
 pub mod Fits

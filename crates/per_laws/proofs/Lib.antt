@@ -38,6 +38,7 @@ pub mod Same
 pub mod LevelSamples
 pub mod Tagged
 pub mod Valued
+pub mod OfKind
 pub mod Replaced
 pub mod Sound
 pub mod Named

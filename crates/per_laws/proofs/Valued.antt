@@ -99,7 +99,7 @@ sort_countable : (vs : List Value) → is_countable vs ≡ true → is_countable
 unfolding sort
 sort_countable vs h = ap (λ (n : ℕ). ltb n (2 ^ 64)) (length_sorted (λ v w. before (code v) (code w)) vs) ∙ h
 
-bag_passes : (f : Value → Bool) (vs : List Value) → is_countable vs ≡ true → all_pass f vs ≡ true → if_bag f (bag_of vs) ≡ true
+pub bag_passes : (f : Value → Bool) (vs : List Value) → is_countable vs ≡ true → all_pass f vs ≡ true → if_bag f (bag_of vs) ≡ true
 unfolding if_bag
 bag_passes f vs c h =
     ap (if_bag f) (bag_is vs)

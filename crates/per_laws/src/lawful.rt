@@ -2,6 +2,7 @@
 //! trees, one for each number of levels; it is lawful where these are its unfoldings and each of them is lawful.
 
 ghost use Rattle.std.specs.Prelude.{◌≡◌, ◌↔◌, ◌⊎◌, ◌+◌, ◌<◌, ◌≤◌, ◌^◌, ℕ, Bool, true, false, List, Some, ℤ};
+ghost use Rattle.rasn_types.specs.Bits.{Bits};
 ghost use Rattle.rasn_types.specs.Values.{Value, Side, Slots, fields, slots};
 ghost use Rattle.rasn_types.specs.Variants.{Variant};
 ghost use Rattle.rasn_constraints.specs.Bounds.{holds, above, Bounds};
@@ -9,7 +10,7 @@ ghost use Rattle.rasn_schema.specs.Depth.{Unfolds, meets_cut};
 ghost use Rattle.rasn_schema.specs.Lawful.{IsLawful, IsLawfulType, is_value};
 ghost use Rattle.rasn_schema.specs.Normal.{normal};
 ghost use Rattle.rasn_schema.specs.Schemas.{Tag, default, Order, by_tag, Schema, Parts};
-ghost use Rattle.per_core.specs.Basic.{fills_known, read};
+ghost use Rattle.per_core.specs.Basic.{basic, fills_known, read};
 ghost use Rattle.per_core.specs.Canon.{canon, bytes};
 ghost use Rattle.per_core.specs.Spellings.{Settings};
 ghost use Rattle.per_core.specs.Versions.{NewerType, project, widen};
@@ -142,6 +143,14 @@ pub fn lawful_distance_fits()
     ensures { (bounds range : Bounds) (mark : Bool) → IsLawful (Schema.number bounds mark range) → (l u z : ℤ)
         → bounds.low ≡ Some l → bounds.high ≡ Some u → holds bounds z ≡ true →
         (above l z < above l u + 1) × (above l u + 1 < 2 ^ 127) }
+{}
+
+/// What bits spell is a value of its schema: one of its kind, and in the range of its number type, at any depth. This
+/// holds of a lawful schema, where the value meets no branch that is cut off (in a default of a component that is
+/// absent; X.691, 19.5).
+pub fn what_is_spelled_is_a_value()
+    ensures { (a : Settings) (s : Schema) (v : Value) (p : ℕ) (bits : Bits) → IsLawful s → meets_cut s v ≡ false
+        → basic a s v p bits → is_value s v ≡ true }
 {}
 
 /// The normal form of a schema's value is a value of that schema (X.691, 19.9).
