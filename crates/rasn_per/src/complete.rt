@@ -8,59 +8,62 @@ ghost use Rattle.rasn_per.specs.Counts.{AnswersFew, AnswersFewInFront};
 ghost use Rattle.rasn_per.specs.Kinds.{kind_of};
 ghost use Rattle.rasn_per.specs.Remainders.{IsRemainder, IsWhyNone};
 
+use crate::types::{DecodeAs, EncodeAs};
 use per_bits::ended::{Surplus, ended};
 use per_bits::{BitList, BitReader};
 use per_de::error::{DecodeError, DecodeErrorKind, ParserFailCause};
 use per_de::{Decoder, DecoderOptions};
 use per_enc::{EncodeError, EncodeErrorKind, Encoder, EncoderOptions};
 use per_errors::count::Count;
-use rasn_codec::codec::{Decode, Encode};
 use rasn_schema::constraints::Constraints;
 use rasn_schema::limits::is_lawful;
 use rasn_types::types::Codec;
 use std::alloc::{Allocator, Global};
 use std::mem;
 
-/// `encode` of both modules, under constraints: the canonical octets of a value, in the variant of a codec.
-pub fn encode_in<T: Encode, A: Allocator + Clone>(
+/// The canonical octets of a value of a type (X.691 11.1, 12 to 32), in the variant of a codec.
+///
+/// Refuses with `OutOfMemory` where memory ran out, and else only a value that has no encoding.
+pub fn encode_in<T, S: EncodeAs<T>, A: Allocator + Clone>(
     alloc: A,
     codec: Codec,
-    constraints: &Constraints,
+    schema: &S,
     value: &T,
 ) -> Result<Vec<u8, A>, EncodeError>
-    ensures { Encoded codec (T.schema constraints.now) (T.levels value.now) (T.value value.now) result }
+    ensures { Encoded codec (S.schema schema.now) (S.levels_of value.now) (S.value_of value.now) result }
 {
-    encode_over(BitList::new(alloc), codec, constraints, value)
+    encode_over(BitList::new(alloc), codec, schema, value)
 }
 
-/// `encode_buf` of both modules: the canonical octets of a value, in place of what the buffer held and in its memory.
-/// After an error it is empty.
-pub fn encode_into<T: Encode, A: Allocator + Clone>(
+/// The canonical octets of a value of a type, as `encode_in` gives them, in place of what the buffer held and in its
+/// memory. After an error it is empty.
+pub fn encode_into<T, S: EncodeAs<T>, A: Allocator + Clone>(
     codec: Codec,
+    schema: &S,
     value: &T,
     buffer: &mut Vec<u8, A>,
 ) -> Result<(), EncodeError>
-    ensures { EncodedInto codec (T.schema T.CONSTRAINTS) (T.levels value.now) (T.value value.now)
+    ensures { EncodedInto codec (S.schema schema.now) (S.levels_of value.now) (S.value_of value.now)
         result buffer.new.items }
 {
     buffer.clear();
     let alloc = allocator_of(buffer, codec)?;
     let memory = mem::replace(buffer, Vec::new(alloc));
-    *buffer = encode_over(BitList::from_memory(memory), codec, &T::CONSTRAINTS, value)?;
+    *buffer = encode_over(BitList::from_memory(memory), codec, schema, value)?;
     Ok(())
 }
 
 /// The canonical octets of a value, in the memory of a list of bits, which are cleared.
-fn encode_over<T: Encode, A: Allocator + Clone>(
+fn encode_over<T, S: EncodeAs<T>, A: Allocator + Clone>(
     output: BitList<A>,
     codec: Codec,
-    constraints: &Constraints,
+    schema: &S,
     value: &T,
 ) -> Result<Vec<u8, A>, EncodeError>
-    ensures { Encoded codec (T.schema constraints.now) (T.levels value.now) (T.value value.now) result }
+    ensures { Encoded codec (S.schema schema.now) (S.levels_of value.now) (S.value_of value.now) result }
 {
     let mut encoder = Encoder::new_with_output(encoder_options(codec), output);
-    value.encode_with_constraints(&mut encoder, constraints)?;
+    schema.encode_as(&mut encoder, value)?;
     encoder.output_into_vec()
 }
 
@@ -87,21 +90,24 @@ fn allocator_of<A: Allocator + Clone>(buffer: &Vec<u8, A>, codec: Codec) -> Resu
     }
 }
 
-/// `decode` of both modules, under constraints: the value that all octets spell, in the variant of the options.
-pub fn decode_in<T: Decode>(
+/// The value of a type that all octets spell (X.691, any basic encoding), in the variant of the options, whose depth is
+/// 128 levels.
+///
+/// Refuses with `OutOfMemory` where memory ran out, and else only octets that spell no value of the type.
+pub fn decode_in<T: Drop, S: DecodeAs<T>>(
     alloc: Global,
     options: DecoderOptions,
-    constraints: &Constraints,
+    schema: &S,
     octets: &[u8],
 ) -> Result<T, DecodeError>
     requires { options.levels ≡ 128 }
-    ensures decoded { DecodedBy options.zero_padding options.codec (T.schema constraints.now) T.value
+    ensures decoded { DecodedBy options.zero_padding options.codec (S.schema schema.now) S.value_of
         octets.now result }
-    ensures few { AnswersFew (T.schema constraints.now) T.value octets.now result }
+    ensures few { AnswersFew (S.schema schema.now) S.value_of octets.now result }
 {
     let total = BitReader::from_octets(octets).len();
     let mut decoder = Decoder::from_octets(alloc, octets, options);
-    let decoded = T::decode_with_constraints(&mut decoder, constraints);
+    let decoded = schema.decode_as(&mut decoder);
     if decoded.is_err() {
         return decoded;
     }
@@ -111,20 +117,23 @@ pub fn decode_in<T: Decode>(
     }
 }
 
-/// `decode_with_remainder` of both modules: the value that a front of octets spells, in the variant of the options,
-/// and the octets behind it.
-pub fn decode_front<T: Decode>(
+/// The value of a type whose complete encoding (as `decode_in` takes it) the octets begin with, in the variant of the
+/// options, whose depth is 128 levels, and the octets behind it. Padding isn't looked at.
+///
+/// Refuses with `OutOfMemory` where memory ran out, and else only octets that begin with no value of the type.
+pub fn decode_front<'octets, T: Drop, S: DecodeAs<T>>(
     alloc: Global,
     options: DecoderOptions,
-    octets: &[u8],
-) -> Result<(T, &[u8]), DecodeError>
+    schema: &S,
+    octets: &'octets [u8],
+) -> Result<(T, &'octets [u8]), DecodeError>
     requires levels { options.levels ≡ 128 }
     requires padding { options.zero_padding ≡ false }
-    ensures decoded { DecodedFront options.codec (T.schema T.CONSTRAINTS) T.value octets.now result }
-    ensures few { AnswersFewInFront (T.schema T.CONSTRAINTS) T.value octets.now result }
+    ensures decoded { DecodedFront options.codec (S.schema schema.now) S.value_of octets.now result }
+    ensures few { AnswersFewInFront (S.schema schema.now) S.value_of octets.now result }
 {
     let mut decoder = Decoder::from_octets(alloc, octets, options);
-    let value = T::decode(&mut decoder)?;
+    let value = schema.decode_as(&mut decoder)?;
     match remainder(decoder.input().len(), octets) {
         Ok(rest) => Ok((value, rest)),
         Err(why) => Err(refusal(why, decoder.codec())),

@@ -5,7 +5,8 @@ pub use per_bits as bits;
 pub use per_core::model;
 
 pub mod aper;
-mod complete;
+pub mod complete;
 pub mod counts;
 pub mod per;
+pub mod types;
 pub mod uper;

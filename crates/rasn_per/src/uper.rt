@@ -39,7 +39,7 @@ pub fn encode_buf<T: Encode, A: Allocator + Clone>(
     ensures { EncodedInto Uper (T.schema T.CONSTRAINTS) (T.levels value.now) (T.value value.now)
         result buffer.new.items }
 {
-    encode_into(Codec::Uper, value, buffer)
+    encode_into(Codec::Uper, &T::CONSTRAINTS, value, buffer)
 }
 
 /// The canonical octets of a value under constraints, in place of its type's own. They should be `lawful`.
@@ -75,7 +75,7 @@ pub fn decode_with_remainder<T: Decode>(
     ensures decoded { DecodedFront Uper (T.schema T.CONSTRAINTS) T.value octets.now result }
     ensures few { AnswersFewInFront (T.schema T.CONSTRAINTS) T.value octets.now result }
 {
-    decode_front(alloc, DecoderOptions::unaligned(), octets)
+    decode_front(alloc, DecoderOptions::unaligned(), &T::CONSTRAINTS, octets)
 }
 
 /// The value that all octets spell under constraints, in place of its type's own. They should be `lawful`.

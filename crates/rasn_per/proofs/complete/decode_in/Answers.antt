@@ -19,9 +19,9 @@ answered (Err e) h = absurd (let f : false ≡ true = h in cc)
 
 pub returns-then-is_err-clause-decoded : goal.returns-then-is_err-clause-decoded
 returns-then-is_err-clause-decoded g c =
-    let p = refused c.decode_with_constraints-decoded.result c.if-is_err.ensures.value in
-    let h = rw p.1 at c.decode_with_constraints-decoded.ensures in
-    unread c.args.options.codec c.args.options.zero_padding (g.T.AsnType.schema c.args.constraints.now) g.T.AsnType.value c.args.octets.now _
+    let p = refused c.decode_as-decoded.result c.if-is_err.ensures.value in
+    let h = rw p.1 at c.decode_as-decoded.ensures in
+    unread c.args.options.codec c.args.options.zero_padding (g.S.DecodeAs.schema c.args.schema.now) g.S.DecodeAs.value_of c.args.octets.now _
     (begun c.args.options _ _ _ c.from_octets-decoder.ensures c.requires refl) _ p.0 p.1 h.law
 
 pub ended-requires-clause-octets : goal.ended-requires-clause-octets
@@ -29,26 +29,26 @@ ended-requires-clause-octets g c = full_octets _ _ _ c.from_octets.ensures.bits 
 
 pub returns-in-Ok-clause-decoded : goal.returns-in-Ok-clause-decoded
 returns-in-Ok-clause-decoded g c =
-    let q = answered c.decode_with_constraints-decoded.result c.if-is_err.ensures.value in
-    let h = rw q.1 at c.decode_with_constraints-decoded.ensures in
-    rw q.1 (read c.args.options.codec c.args.options.zero_padding (g.T.AsnType.schema c.args.constraints.now) g.T.AsnType.value c.args.octets.now _
+    let q = answered c.decode_as-decoded.result c.if-is_err.ensures.value in
+    let h = rw q.1 at c.decode_as-decoded.ensures in
+    rw q.1 (read c.args.options.codec c.args.options.zero_padding (g.S.DecodeAs.schema c.args.schema.now) g.S.DecodeAs.value_of c.args.octets.now _
     (begun c.args.options _ _ _ c.from_octets-decoder.ensures c.requires refl) _ _ _ (are_octets _ c.type_inv.octets) h.law
     (record { left = c.input.result.bits; total = c.len-total.result; ends = subst (λ z. Ends z c.input.result.bits c.len-total.result) c.needs_zero_padding.ensures c.in-Ok.ensures.ok; left_is = c.input.ensures.bits; total_is = c.len-total.ensures; all = c.from_octets.ensures.bits }))
 
 pub returns-clause-decoded : goal.returns-clause-decoded
 returns-clause-decoded g c =
-    let q = answered c.decode_with_constraints-decoded.result c.if-is_err.ensures.value in
-    let h = rw q.1 at c.decode_with_constraints-decoded.ensures in
-    surplus c.args.options.codec c.args.options.zero_padding (g.T.AsnType.schema c.args.constraints.now) g.T.AsnType.value c.args.octets.now _
+    let q = answered c.decode_as-decoded.result c.if-is_err.ensures.value in
+    let h = rw q.1 at c.decode_as-decoded.ensures in
+    surplus c.args.options.codec c.args.options.zero_padding (g.S.DecodeAs.schema c.args.schema.now) g.S.DecodeAs.value_of c.args.octets.now _
     (begun c.args.options _ _ _ c.from_octets-decoder.ensures c.requires refl) c.in-Err.surplus _ _ _ _ _ c.refusal.ensures c.codec.ensures h.law
     (record { left = c.input.result.bits; total = c.len-total.result; ends = subst (λ z. Ends z c.input.result.bits c.len-total.result → ⊥) c.needs_zero_padding.ensures c.in-Err.ensures.none; left_is = c.input.ensures.bits; total_is = c.len-total.ensures; all = c.from_octets.ensures.bits })
     (record { left = c.input.result.bits; total = c.len-total.result; ends = subst (λ z. IsWhy z c.input.result.bits c.len-total.result c.in-Err.surplus) c.needs_zero_padding.ensures c.in-Err.ensures.why; left_is = c.input.ensures.bits; total_is = c.len-total.ensures; all = c.from_octets.ensures.bits })
 
 pub returns-then-is_err-clause-few : goal.returns-then-is_err-clause-few
-returns-then-is_err-clause-few g c = few c.args.options.codec (g.T.AsnType.schema c.args.constraints.now) g.T.AsnType.value c.args.octets.now c.args.options.zero_padding _ (returns-then-is_err-clause-decoded g c)
+returns-then-is_err-clause-few g c = few c.args.options.codec (g.S.DecodeAs.schema c.args.schema.now) g.S.DecodeAs.value_of c.args.octets.now c.args.options.zero_padding _ (returns-then-is_err-clause-decoded g c)
 
 pub returns-in-Ok-clause-few : goal.returns-in-Ok-clause-few
-returns-in-Ok-clause-few g c = few c.args.options.codec (g.T.AsnType.schema c.args.constraints.now) g.T.AsnType.value c.args.octets.now c.args.options.zero_padding _ (returns-in-Ok-clause-decoded g c)
+returns-in-Ok-clause-few g c = few c.args.options.codec (g.S.DecodeAs.schema c.args.schema.now) g.S.DecodeAs.value_of c.args.octets.now c.args.options.zero_padding _ (returns-in-Ok-clause-decoded g c)
 
 pub returns-clause-few : goal.returns-clause-few
-returns-clause-few g c = few c.args.options.codec (g.T.AsnType.schema c.args.constraints.now) g.T.AsnType.value c.args.octets.now c.args.options.zero_padding _ (returns-clause-decoded g c)
+returns-clause-few g c = few c.args.options.codec (g.S.DecodeAs.schema c.args.schema.now) g.S.DecodeAs.value_of c.args.octets.now c.args.options.zero_padding _ (returns-clause-decoded g c)
