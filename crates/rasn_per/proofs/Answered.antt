@@ -79,6 +79,6 @@ module _ {T : Type 0} (a : Codec) (schema : ℕ → Schema) (value : T → Value
   none_behind why f e x t left l i c h none w = rw i (record {
     ok = tt;
     err = λ n. unended_front a schema octets (value x) s t begun h (subst (λ n. (rest : List ℕ) → IsRemainder n octets rest → ⊥) l none);
-    kind = named_none a false schema octets why left w;
+    kind = named_none a false schema octets why left (value x) s t begun h l none w;
     variant = c ∙ ap (λ (z : State). z.codec) h.same ∙ ap (λ (z : State). z.codec) begun;
   })

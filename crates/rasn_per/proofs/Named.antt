@@ -1,5 +1,5 @@
 -- What the kind of a refused reading says of the octets.
-use Rattle.std.proofs.Common.{◌≡◌, sym, ap, subst, ℕ, Bool, List, length, ◌⊎◌, inl, inr, Result, Err, arith}
+use Rattle.std.proofs.Common.{◌≡◌, refl, sym, ap, subst, ℕ, Bool, List, length, ◌⊎◌, inl, inr, Result, Err, arith}
 use Rattle.std.specs.Prelude.{IfErr}
 use Rattle.rasn_types.specs.Bits.{Bits, unpack}
 use Rattle.rasn_types.specs.Codecs.{variant_of}
@@ -17,9 +17,9 @@ use Rattle.per_decoding.specs.Faults.{IsOf, Fault, refusal}
 use Rattle.per_read.specs.declared.error.DecodeError.{DecodeError}
 use Rattle.per_read.specs.declared.error.DecodeErrorKind.{DecodeErrorKind}
 use Rattle.per_read.specs.declared.error.DecodeErrorKind.TheVariants.{Incomplete, ParserFail, UnexpectedExtraData, AlreadyFailed, OutOfMemory}
-use Rattle.rasn_per.specs.Kinds.{IsInFront, IsInOctetsBy, kind_of}
+use Rattle.rasn_per.specs.Kinds.{IsInFront, IsInOctetsBy, IsUnended, IsWithoutRemainder, kind_of}
 use Rattle.rasn_per.specs.Complete.{reading}
-use Rattle.rasn_per.specs.Remainders.{IsWhyNone}
+use Rattle.rasn_per.specs.Remainders.{IsRemainder, IsWhyNone}
 use Rattle.rasn_per.proofs.Decoded.{fresh, Ended, so}
 
 -- two words of a number are the number
@@ -30,15 +30,15 @@ module _ (a : Codec) (strict : Bool) (schema : ℕ → Schema) (octets : List �
   of_fresh : (k : DecodeErrorKind) → IsOf k (schema 128) (fresh a strict octets) → IsInOctetsBy (reading strict (variant_of a)) schema octets k
   of_fresh AlreadyFailed h = absurd (cc)
   of_fresh (UnexpectedExtraData n) h = inr h
-  of_fresh (Incomplete n) h = tt
-  of_fresh (ParserFail cause) h = tt
+  of_fresh (Incomplete n) h = inr h
+  of_fresh (ParserFail cause) h = inr h
   of_fresh OutOfMemory h = tt
   of_fresh _ h = h
 
   of_fresh_front : (k : DecodeErrorKind) → IsOf k (schema 128) (fresh a strict octets) → IsInFront (reading strict (variant_of a)) schema octets k
   of_fresh_front AlreadyFailed h = absurd (cc)
-  of_fresh_front (Incomplete n) h = tt
-  of_fresh_front (ParserFail cause) h = tt
+  of_fresh_front (Incomplete n) h = inr h
+  of_fresh_front (ParserFail cause) h = inr h
   of_fresh_front OutOfMemory h = tt
   of_fresh_front _ h = h
 
@@ -62,18 +62,38 @@ module _ (a : Codec) (strict : Bool) (schema : ℕ → Schema) (octets : List �
   named_front = named_so (λ k. IsInFront (reading strict (variant_of a)) schema octets k) of_fresh_front tt
 
   -- the kind where no octets are behind what was read
-  pub named_none : (why : Surplus) (left : ℕ) → IsWhyNone left octets why → IsInFront (reading strict (variant_of a)) schema octets (kind_of why)
-  named_none (Missing n) left w = tt
-  named_none NonzeroOctet left w = tt
-  named_none NonzeroSpareBits left w = absurd w
-  named_none (ExtraOctets n) left w = absurd w
+  without : (why : Surplus) (left : ℕ) (v : Value) (s t : State) → s ≡ fresh a strict octets → Spells (schema s.levels) s v t → left ≡ length t.bits
+      → ((rest : List ℕ) → IsRemainder left octets rest → ⊥) → IsWhyNone left octets why → IsWithoutRemainder (reading strict (variant_of a)) schema octets why
+  without why left v s t e h l none w = record {
+    value = v;
+    left = t.bits;
+    read = (subst (λ z. Spells (schema z.levels) z v t) e h).took;
+    is_why = subst (λ m. IsWhyNone m octets why) l w;
+    none = subst (λ m. (rest : List ℕ) → IsRemainder m octets rest → ⊥) l none;
+  }
+
+  pub named_none : (why : Surplus) (left : ℕ) (v : Value) (s t : State) → s ≡ fresh a strict octets → Spells (schema s.levels) s v t → left ≡ length t.bits
+      → ((rest : List ℕ) → IsRemainder left octets rest → ⊥) → IsWhyNone left octets why → IsInFront (reading strict (variant_of a)) schema octets (kind_of why)
+  named_none (Missing n) left v s t e h l none w = inl (Missing n, refl, without (Missing n) left v s t e h l none w)
+  named_none NonzeroOctet left v s t e h l none w = inl (NonzeroOctet, refl, without NonzeroOctet left v s t e h l none w)
+  named_none NonzeroSpareBits left v s t e h l none w = absurd w
+  named_none (ExtraOctets n) left v s t e h l none w = absurd w
+
+  is_unended : (why : Surplus) (v : Value) (s t : State) (b : Bits) → s ≡ fresh a strict octets → Spells (schema s.levels) s v t
+      → Ended a strict schema octets (λ l n. IsWhy strict l n why) t b → IsUnended (reading strict (variant_of a)) schema octets why
+  is_unended why v s t b e h d = record {
+    value = v;
+    left = t.bits;
+    read = (subst (λ z. Spells (schema z.levels) z v t) e h).took;
+    is_why = so a strict schema octets (λ l m. IsWhy strict l m why) t b d;
+  }
 
   -- the kind of a reading that doesn't end as it has to
   pub named_surplus : (surplus : Surplus) (v : Value) (s t : State) (b : Bits) → s ≡ fresh a strict octets → Spells (schema s.levels) s v t
       → Ended a strict schema octets (λ l n. IsWhy strict l n surplus) t b → IsInOctetsBy (reading strict (variant_of a)) schema octets (kind_of surplus)
-  named_surplus (Missing n) v s t b e h d = tt
-  named_surplus NonzeroOctet v s t b e h d = tt
-  named_surplus NonzeroSpareBits v s t b e h d = tt
+  named_surplus (Missing n) v s t b e h d = inl (Missing n, refl, is_unended (Missing n) v s t b e h d)
+  named_surplus NonzeroOctet v s t b e h d = inl (NonzeroOctet, refl, is_unended NonzeroOctet v s t b e h d)
+  named_surplus NonzeroSpareBits v s t b e h d = inl (NonzeroSpareBits, refl, is_unended NonzeroSpareBits v s t b e h d)
   named_surplus (ExtraOctets n) v s t b e h d = inl (record {
     value = v;
     left = t.bits;
