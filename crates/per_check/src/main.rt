@@ -27,7 +27,7 @@ fn main(rt: HostRuntime) -> ExitCode {
             &mut rt.stdout(),
             &mut faults,
         ),
-        Err(fault) => fault.report(&mut faults),
+        Err(fault) => fault.report(&mut faults).0,
     };
     ExitCode::from(status)
 }

@@ -1,12 +1,16 @@
 -- What each form prints, and how it ends, by the words that ask for it.
-use Rattle.std.proofs.Common.{◌≡◌, sym, subst, ℕ, List, Option, Result, Ok, Err, OnOk, IfErr}
+use Rattle.std.proofs.Common.{◌≡◌, inr, sym, subst, ℕ, List, Option, Result, Ok, Err, OnOk, IfErr}
 use Rattle.per_lines.specs.declared.arguments.Form.{Form}
 use Rattle.per_lines.specs.declared.arguments.Form.TheVariants.{OneLine, Lines, Zero, As}
 use Rattle.per_lines.specs.declared.arguments.Arguments.{Arguments}
 use Rattle.per_lines.specs.declared.fault.Fault.{Fault}
 use Rattle.per_lines.specs.declared.fault.Fault.TheVariants.{WrongArguments, CannotRead, BadHexadecimal, Decode, Encode, CannotWrite, OutOfMemory}
 use Rattle.per_lines.specs.Words.{words_of}
-use Rattle.per_lines.specs.Answers.{Prints, PrintsIn, Ends, EndsIn}
+use Rattle.per_lines.specs.Answers.{Prints, PrintsIn, Ends, EndsAnswer, EndsIn, IsAnswer}
+use Rattle.per_lines.specs.Faults.{io_fault}
+use Rattle.per_lines.specs.Printing.{BreaksAnswer}
+use Rattle.std.specs.declared.io.ErrorKind.{ErrorKind}
+use Rattle.std.specs.declared.io.ErrorKind.TheVariants as Kinds
 use Rattle.per_lines.proofs.WordLaws.{asks}
 
 pub prints_in : {X : Type 0} (words : List (List ℕ)) (a : Arguments) (form : Form) (input before after : Option (List ℕ)) (r : Result X Fault) →
@@ -41,3 +45,9 @@ pub ends_in : {X : Type 0} (words : List (List ℕ)) (a : Arguments) (form : For
     words ≡ words_of a → a.form ≡ form → IfErr r (EndsIn form a input before after) → IfErr r (Ends words input before after)
 ends_in words a form input before after (Ok _) e f x = tt
 ends_in words a form input before after (Err fault) e f x = ends words a form input before after fault e f x
+
+-- writing the answer failed
+pub ends_written : (a : Arguments) (k : ErrorKind) (input before after : Option (List ℕ)) →
+    BreaksAnswer (IsAnswer a) input before after → EndsAnswer a input before after (io_fault k CannotWrite)
+ends_written a Kinds.OutOfMemory input before after x = inr x
+ends_written a _ input before after x = x

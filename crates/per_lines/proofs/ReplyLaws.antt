@@ -1,6 +1,8 @@
 -- The replies to the lines of an input, one by one.
 use Rattle.std.proofs.Common.{◌≡◌, refl, sym, ap, subst, ◌∙◌, ℕ, Bool, true, false, List, [], ◌∷◌, ◌++◌, Option, Some, None, IfSome, append_assoc, append-nil}
-use Rattle.std.specs.Prelude.{◌≢◌, IsSomeAnd, IfOk, Result, Ok, Err}
+use Rattle.std.specs.Prelude.{◌≢◌, IsSomeAnd, IfOk, IfErr, Result, Ok, Err}
+use Rattle.std.specs.declared.io.ErrorKind.{ErrorKind}
+use Rattle.std.specs.declared.io.ErrorKind.TheVariants as Kinds
 use Rattle.std.specs.Io.BufRead.{drop_through}
 use Rattle.std.specs.Io.KnownBytes.{Appends, Keeps, IsAtEnd, prepend_known}
 use Rattle.std.specs.Io.Buffered.{reader_inner, reader_buffer, reader_capacity, reader_remaining}
@@ -9,7 +11,8 @@ use Rattle.per_lines.specs.declared.fault.Fault.{Fault}
 use Rattle.per_lines.specs.declared.fault.Fault.TheVariants.{WrongArguments, CannotRead, BadHexadecimal, Decode, Encode, CannotWrite, OutOfMemory}
 use Rattle.per_lines.specs.Lines.{lines_of, TakesLine}
 use Rattle.per_lines.proofs.LineLaws.{lines-cons}
-use Rattle.per_lines.specs.Printing.{AreReplies, PrintsReplies, PrintsNext, HasReplied, TakesTurns, EndsTurn, EndsReplies}
+use Rattle.per_lines.specs.Faults.{AppendsFront, io_fault}
+use Rattle.per_lines.specs.Printing.{AreReplies, BreaksReplies, PrintsReplies, PrintsNext, HasReplied, TakesTurns, EndsTurn, EndsReplies}
 
 -- one reply more
 replies-more : (P : List ℕ → List ℕ → Type 0) (lines : List (List ℕ)) (octets line text : List ℕ) →
@@ -17,6 +20,11 @@ replies-more : (P : List ℕ → List ℕ → Type 0) (lines : List (List ℕ)) 
 replies-more P [] octets line text e r = (text, [], r, refl, rw e (sym (append-nil text)))
 replies-more P (first ∷ lines) octets line text (t, rest, r0, more, e) r =
     (t, rest ++ text, r0, replies-more P lines rest line text more r, ap (λ z. z ++ text) e ∙ append_assoc t rest text)
+
+-- known octets are as they were
+pub keeps-same : (known : Option (List ℕ)) → Keeps known known
+keeps-same None = tt
+keeps-same (Some xs) = refl
 
 appends-none : (known : Option (List ℕ)) → Appends known known []
 appends-none None = tt
@@ -190,6 +198,75 @@ pub turns-if-ok : (P : List ℕ → List ℕ → Type 0) (taken : Result Bool Fa
 turns-if-ok P (Ok more) input rest before after start kept e x y = turns-through P more input rest before after kept (subst (λ z. TakesTurns P more input rest z (Some kept)) e x) y
 turns-if-ok P (Err fault) input rest before after start kept e x y = tt
 
+-- a whole is a front of itself
+front_whole : (before after : Option (List ℕ)) (octets : List ℕ) → Appends before after octets → AppendsFront before after octets
+front_whole before after octets x = (octets, [], sym (append-nil octets), x)
+
+-- a front of what is a front
+front_through : (kept : List ℕ) (before after : Option (List ℕ)) (texts : List ℕ) →
+    AppendsFront (Some []) (Some kept) texts → AppendsFront before after kept → AppendsFront before after texts
+front_through kept before after texts (front, rest, split, appended) (first, others, parts, printed) =
+    (first, others ++ rest, split ∙ ap (λ z. z ++ rest) (sym appended ∙ parts) ∙ append_assoc first others rest, printed)
+
+-- a front behind what was printed
+front_then : (before now after : Option (List ℕ)) (texts more : List ℕ) →
+    Appends before now texts → AppendsFront now after more → AppendsFront before after (texts ++ more)
+front_then before now after texts more x (front, rest, split, appended) =
+    (texts ++ front, rest, ap (λ z. texts ++ z) split ∙ sym (append_assoc texts front rest), appends-more before now after texts front x appended)
+
+breaks_through : (P : List ℕ → List ℕ → Type 0) (input before after : Option (List ℕ)) (kept : List ℕ) →
+    BreaksReplies P input (Some []) (Some kept) → AppendsFront before after kept → BreaksReplies P input before after
+breaks_through P input before after kept x y = record {
+  lines = x.lines;
+  last = x.last;
+  texts = x.texts;
+  first = x.first;
+  are_replies = x.are_replies;
+  printed = front_through kept before after x.texts x.printed y;
+}
+
+-- replies that were kept, of which a front was printed
+breaks_printed : (P : List ℕ → List ℕ → Type 0) (input before after : Option (List ℕ)) (last : List (List ℕ)) (kept : List ℕ) →
+    PrintsReplies P input last (Some []) (Some kept) → AppendsFront before after kept → BreaksReplies P input before after
+breaks_printed P input before after last kept x y = record {
+  lines = x.lines;
+  last = last;
+  texts = x.texts;
+  first = x.first;
+  are_replies = x.are_replies;
+  printed = front_through kept before after x.texts (front_whole (Some []) (Some kept) x.texts x.printed) y;
+}
+
+breaks_ended : (P : List ℕ → List ℕ → Type 0) (input before after : Option (List ℕ)) (kept : List ℕ) (fault : Fault) →
+    EndsReplies P input (Some []) (Some kept) fault → AppendsFront before after kept → BreaksReplies P input before after
+breaks_ended P input before after kept WrongArguments x y = elim x [ ]
+breaks_ended P input before after kept BadHexadecimal x y = elim x [ ]
+breaks_ended P input before after kept (Decode _) x y = elim x [ ]
+breaks_ended P input before after kept (Encode _) x y = elim x [ ]
+breaks_ended P input before after kept CannotRead x y = breaks_printed P input before after x.0 kept x.1 y
+breaks_ended P input before after kept CannotWrite x y = breaks_through P input before after kept x y
+breaks_ended P input before after kept OutOfMemory x y = breaks_through P input before after kept x y
+
+-- of the replies that some turns kept, a front was printed
+pub breaks_turns : (P : List ℕ → List ℕ → Type 0) (taken : Result Bool Fault) (input rest before after start : Option (List ℕ)) (kept : List ℕ) →
+    start ≡ Some [] → IfOk taken (λ more. TakesTurns P more input rest start (Some kept)) → IfErr taken (EndsReplies P input start (Some kept)) →
+    AppendsFront before after kept → BreaksReplies P input before after
+breaks_turns P taken input rest before after start kept e x z y = go taken
+    (subst (λ s. IfOk taken (λ more. TakesTurns P more input rest s (Some kept))) e x)
+    (subst (λ s. IfErr taken (EndsReplies P input s (Some kept))) e z)
+  where
+    go : (r : Result Bool Fault) → IfOk r (λ more. TakesTurns P more input rest (Some []) (Some kept)) → IfErr r (EndsReplies P input (Some []) (Some kept))
+        → BreaksReplies P input before after
+    go (Ok true) (x, some) z = breaks_printed P input before after (left_lines rest) kept (replied-some P input rest (Some []) (Some kept) (Some kept) x (keeps-same (Some kept))) y
+    go (Ok false) x z = breaks_printed P input before after [] kept x y
+    go (Err fault) x z = breaks_ended P input before after kept fault z y
+
+-- writing failed
+pub ends_written : (P : List ℕ → List ℕ → Type 0) (k : ErrorKind) (input before after : Option (List ℕ)) →
+    BreaksReplies P input before after → EndsReplies P input before after (io_fault k CannotWrite)
+ends_written P Kinds.OutOfMemory input before after x = x
+ends_written P _ input before after x = x
+
 pub ends_through : (P : List ℕ → List ℕ → Type 0) (input before after : Option (List ℕ)) (kept : List ℕ) (fault : Fault) →
     EndsReplies P input (Some []) (Some kept) fault → Appends before after kept → EndsReplies P input before after fault
 ends_through P input before after kept WrongArguments x y = elim x [ ]
@@ -197,8 +274,8 @@ ends_through P input before after kept BadHexadecimal x y = elim x [ ]
 ends_through P input before after kept (Decode _) x y = elim x [ ]
 ends_through P input before after kept (Encode _) x y = elim x [ ]
 ends_through P input before after kept CannotRead x y = (x.0, prints-through P input before after x.0 kept x.1 y)
-ends_through P input before after kept CannotWrite x y = tt
-ends_through P input before after kept OutOfMemory x y = tt
+ends_through P input before after kept CannotWrite x y = breaks_through P input before after kept x (front_whole before after kept y)
+ends_through P input before after kept OutOfMemory x y = breaks_through P input before after kept x (front_whole before after kept y)
 
 -- the last turns
 pub prints-then : (P : List ℕ → List ℕ → Type 0) (input rest before now after : Option (List ℕ)) (last : List (List ℕ)) →
@@ -211,6 +288,28 @@ prints-then P input rest before now after last x y = record {
   printed = appends-more before now after x.texts y.texts x.printed y.printed;
 }
 
+breaks_then : (P : List ℕ → List ℕ → Type 0) (input rest before now after : Option (List ℕ)) →
+    HasReplied P input rest before now → BreaksReplies P rest now after → BreaksReplies P input before after
+breaks_then P input rest before now after x y = record {
+  lines = x.lines ++ y.lines;
+  last = y.last;
+  texts = x.texts ++ y.texts;
+  first = last-then input rest x.lines y.lines y.last x.first y.first;
+  are_replies = replies-then P x.lines y.lines x.texts y.texts x.are_replies y.are_replies;
+  printed = front_then before now after x.texts y.texts x.printed y.printed;
+}
+
+breaks_kept : (P : List ℕ → List ℕ → Type 0) (input rest before now after : Option (List ℕ)) →
+    HasReplied P input rest before now → Keeps now after → BreaksReplies P input before after
+breaks_kept P input rest before now after x k = record {
+  lines = x.lines;
+  last = left_lines rest;
+  texts = x.texts;
+  first = first-some input rest x.lines x.first;
+  are_replies = x.are_replies;
+  printed = front_whole before after x.texts (appends-kept before now after x.texts x.printed k);
+}
+
 -- turns that fail end the replies
 pub ends_then : (P : List ℕ → List ℕ → Type 0) (input rest before now after : Option (List ℕ)) (fault : Fault) →
     HasReplied P input rest before now → EndsReplies P rest now after fault → EndsReplies P input before after fault
@@ -219,8 +318,8 @@ ends_then P input rest before now after BadHexadecimal x y = elim y [ ]
 ends_then P input rest before now after (Decode _) x y = elim y [ ]
 ends_then P input rest before now after (Encode _) x y = elim y [ ]
 ends_then P input rest before now after CannotRead x y = (y.0, prints-then P input rest before now after y.0 x y.1)
-ends_then P input rest before now after CannotWrite x y = tt
-ends_then P input rest before now after OutOfMemory x y = tt
+ends_then P input rest before now after CannotWrite x y = breaks_then P input rest before now after x y
+ends_then P input rest before now after OutOfMemory x y = breaks_then P input rest before now after x y
 
 -- a turn that fails ends the replies
 pub ends_turn : (P : List ℕ → List ℕ → Type 0) (input rest before now after : Option (List ℕ)) (fault : Fault) →
@@ -230,13 +329,13 @@ ends_turn P input rest before now after BadHexadecimal x k = elim k [ ]
 ends_turn P input rest before now after (Decode _) x k = elim k [ ]
 ends_turn P input rest before now after (Encode _) x k = elim k [ ]
 ends_turn P input rest before now after CannotRead x k = (left_lines rest, replied-some P input rest before now after x k)
-ends_turn P input rest before now after CannotWrite x k = tt
-ends_turn P input rest before now after OutOfMemory x k = tt
+ends_turn P input rest before now after CannotWrite x k = elim k [ ]
+ends_turn P input rest before now after OutOfMemory x k = breaks_kept P input rest before now after x k
 
--- known octets are as they were
-pub keeps-same : (known : Option (List ℕ)) → Keeps known known
-keeps-same None = tt
-keeps-same (Some xs) = refl
+-- where nothing could be read
+pub ends_unread : (P : List ℕ → List ℕ → Type 0) (k : ErrorKind) (input before : Option (List ℕ)) → EndsReplies P input before before (io_fault k CannotRead)
+ends_unread P Kinds.OutOfMemory input before = ends_turn P input input before before before OutOfMemory (replied-none P input before) (keeps-same before)
+ends_unread P _ input before = ends_turn P input input before before before CannotRead (replied-none P input before) (keeps-same before)
 
 prepend_none : (known : Option (List ℕ)) → prepend_known [] known ≡ known
 prepend_none None = refl

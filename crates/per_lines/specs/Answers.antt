@@ -12,7 +12,7 @@ use Rattle.per_lines.specs.declared.fault.Fault.TheVariants.{CannotWrite, OutOfM
 use Rattle.per_lines.specs.Words.{words_of}
 use Rattle.per_lines.specs.Faults.{text_of}
 use Rattle.per_lines.specs.Lines.{IsLineOf}
-use Rattle.per_lines.specs.Printing.{PrintsAnswer, PrintsReplies, EndsReplies}
+use Rattle.per_lines.specs.Printing.{BreaksAnswer, PrintsAnswer, PrintsReplies, EndsReplies}
 use Rattle.per_lines.specs.Recoding.{Converts, IsUnconverted}
 
 -- the words ask for nothing that the program can do
@@ -37,10 +37,6 @@ pub record Answers (a : Arguments) (line text : List ℕ) : Type 0 where
 pub record IsAnswer (a : Arguments) (line text : List ℕ) : Type 0 where
   pub answers : Answers a line text
   pub only : (other : List ℕ) → Answers a line other → other ≡ text
-
--- an input's line has an answer
-abbrev pub HasAnswer : Arguments → Option (List ℕ) → Type 0
-HasAnswer a input = (line text : List ℕ) × IsLineOf input line × Answers a line text
 
 -- the octets of a line are refused, or what they are written as
 pub record AreRefused (a : Arguments) (line : List ℕ) (fault : Fault) : Type 0 where
@@ -75,13 +71,13 @@ pub record Prints (words : List (List ℕ)) (input before after : Option (List �
   pub ask : AskFor words arguments
   pub prints : PrintsIn arguments.form arguments input before after
 
--- Why an input's one line is not answered, and what the output got by then. Reading may fail at any input, and memory
--- may run out.
+-- Why an input's one line is not answered, and what the output got by then: nothing, or a front of the answer where
+-- writing failed, also for want of memory. Reading may fail at any input, and memory may run out.
 abbrev pub EndsAnswer : Arguments → Option (List ℕ) → Option (List ℕ) → Option (List ℕ) → Fault → Type 0
 EndsAnswer a input before after WrongArguments = ⊥
 EndsAnswer a input before after CannotRead = Keeps before after
-EndsAnswer a input before after CannotWrite = HasAnswer a input
-EndsAnswer a input before after OutOfMemory = Keeps before after ⊎ HasAnswer a input
+EndsAnswer a input before after CannotWrite = BreaksAnswer (IsAnswer a) input before after
+EndsAnswer a input before after OutOfMemory = Keeps before after ⊎ BreaksAnswer (IsAnswer a) input before after
 EndsAnswer a input before after fault = ((line : List ℕ) × IsLineOf input line × IsUnanswered a line fault)
     × Keeps before after
 

@@ -1,5 +1,5 @@
 -- What the program says of a fault, and the status that it ends with.
-use Rattle.std.specs.Prelude.{ℕ, ◌≡◌, List, ◌++◌, Option, codes}
+use Rattle.std.specs.Prelude.{ℕ, ◌≡◌, List, ◌++◌, Option, Result, OnOk, codes}
 use Rattle.std.specs.Io.KnownBytes.{Appends}
 use Rattle.per_read.specs.Names.{name_of as decode_name}
 use Rattle.per_write.specs.Names.{name_of as encode_name}
@@ -24,6 +24,12 @@ text_of OutOfMemory = codes "OutOfMemory"
 -- a writer got these octets, and nothing else; where writing failed, a front of them
 abbrev pub AppendsFront : Option (List ℕ) → Option (List ℕ) → List ℕ → Type 0
 AppendsFront before after octets = (front rest : List ℕ) × (octets ≡ front ++ rest) × Appends before after front
+
+-- a writer got these octets where writing answered Ok, else a front of them, and nothing else
+pub record IsWritten {E : Type 0} (result : Result (Unit {0}) E) (before after : Option (List ℕ)) (octets : List ℕ)
+    : Type 0 where
+  pub whole : OnOk result (Appends before after octets)
+  pub front : AppendsFront before after octets
 
 -- 1: octets or a value are refused, or memory ran out; 2: the program can't do its work
 abbrev pub status_of : Fault → ℕ

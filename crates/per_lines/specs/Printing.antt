@@ -1,8 +1,9 @@
 -- What an output gets for the lines of an input, by a relation of lines and texts: the answers or the replies to them.
-use Rattle.std.specs.Prelude.{ℕ, ◌≡◌, ◌≢◌, Bool, true, false, ⊤, List, [], ◌∷◌, ◌++◌, Option, IfSome, IsSomeAnd}
+use Rattle.std.specs.Prelude.{ℕ, ◌≡◌, ◌≢◌, Bool, true, false, List, [], ◌∷◌, ◌++◌, Option, IfSome, IsSomeAnd}
 use Rattle.std.specs.Io.KnownBytes.{Appends, Keeps, IsAtEnd}
 use Rattle.per_lines.specs.declared.fault.Fault.{Fault}
 use Rattle.per_lines.specs.declared.fault.Fault.TheVariants.{CannotRead, CannotWrite, OutOfMemory}
+use Rattle.per_lines.specs.Faults.{AppendsFront}
 use Rattle.per_lines.specs.Lines.{IsLineOf, lines_of, TakesLine}
 
 -- an output got the answer to the line of an input, and nothing else
@@ -12,6 +13,14 @@ pub record PrintsAnswer (IsAnswer : List ℕ → List ℕ → Type 0) (input bef
   pub is_line : IsLineOf input line
   pub is_answer : IsAnswer line text
   pub printed : Appends before after text
+
+-- writing failed: an output got a front of the answer to the line of an input, and nothing else
+pub record BreaksAnswer (IsAnswer : List ℕ → List ℕ → Type 0) (input before after : Option (List ℕ)) : Type 0 where
+  pub line : List ℕ
+  pub text : List ℕ
+  pub is_line : IsLineOf input line
+  pub is_answer : IsAnswer line text
+  pub printed : AppendsFront before after text
 
 -- the octets are the replies to some lines, one behind another
 abbrev pub AreReplies : (List ℕ → List ℕ → Type 0) → List (List ℕ) → List ℕ → Type 0
@@ -28,13 +37,22 @@ pub record PrintsReplies (IsReply : List ℕ → List ℕ → Type 0) (input : O
   pub are_replies : AreReplies IsReply lines texts
   pub printed : Appends before after texts
 
+-- an output got a front of the replies to the first lines of an input, and nothing else
+pub record BreaksReplies (IsReply : List ℕ → List ℕ → Type 0) (input before after : Option (List ℕ)) : Type 0 where
+  pub lines : List (List ℕ)
+  pub last : List (List ℕ)
+  pub texts : List ℕ
+  pub first : IfSome input (λ octets. lines_of octets ≡ lines ++ last)
+  pub are_replies : AreReplies IsReply lines texts
+  pub printed : AppendsFront before after texts
+
 -- Why not all lines of an input get their replies, and what the output got by then: no line ends the others' turns.
 abbrev pub EndsReplies : (List ℕ → List ℕ → Type 0) → Option (List ℕ) → Option (List ℕ) → Option (List ℕ) → Fault
     → Type 0
 EndsReplies IsReply input before after CannotRead =
     (last : List (List ℕ)) × PrintsReplies IsReply input last before after
-EndsReplies IsReply input before after CannotWrite = ⊤
-EndsReplies IsReply input before after OutOfMemory = ⊤
+EndsReplies IsReply input before after CannotWrite = BreaksReplies IsReply input before after
+EndsReplies IsReply input before after OutOfMemory = BreaksReplies IsReply input before after
 EndsReplies IsReply input before after _ = ⊥
 
 -- the next line of an input was taken, and its reply printed
@@ -70,6 +88,5 @@ TakesTurns IsReply false input rest before after = PrintsReplies IsReply input [
 -- why a turn fails, and what the output got by then
 abbrev pub EndsTurn : Option (List ℕ) → Option (List ℕ) → Fault → Type 0
 EndsTurn before after CannotRead = Keeps before after
-EndsTurn before after CannotWrite = ⊤
-EndsTurn before after OutOfMemory = ⊤
+EndsTurn before after OutOfMemory = Keeps before after
 EndsTurn before after _ = ⊥

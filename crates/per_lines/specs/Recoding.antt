@@ -4,6 +4,8 @@ use Rattle.rasn_below.specs.Values.{utc, Value}
 use Rattle.rasn_below.specs.Types.{visible, from_to, unbounded, between, Size, any_size, Schema, always}
 use Rattle.rasn_below.specs.Types.{list_at, lower_bound, upper_bound, sequence_at, alternatives_at}
 use Rattle.rasn_below.specs.Types.{set_of_at, date_at, set_at}
+use Rattle.rasn_schema.specs.AtDepths.{AtDepths}
+use Rattle.rasn_schema.specs.Normal.{normal}
 use Rattle.per_core.specs.Rows.{Codec, variant_of, Variant}
 use Rattle.per_samples_a.specs.Absents.{one_default}
 use Rattle.per_samples_a.specs.Fours.{four}
@@ -33,6 +35,8 @@ use Rattle.per_samples_sets.specs.Connects.{connect}
 use Rattle.per_samples_sets.specs.Sets.{set, set_choice, set_optional}
 use Rattle.per_samples_sets.specs.Dnests.{dnest}
 use Rattle.rasn_per.specs.Kinds.{IsInOctetsBy}
+use Rattle.per_write.specs.Faults.{IsInValue}
+use Rattle.per_write.specs.declared.error.EncodeErrorKind.{EncodeErrorKind}
 use Rattle.per_write.specs.declared.error.EncodeErrorKind.TheVariants as Encoding
 use Rattle.per_read.specs.declared.error.DecodeErrorKind.TheVariants as Decoding
 use Rattle.per_lines.specs.declared.arguments.TypeName.{TypeName}
@@ -146,19 +150,21 @@ pub record Recodes (a : Settings) (schema : ℕ → Schema) (octets canonical : 
   pub is_read : AreReadBy a schema value octets
   pub is_written : AreBytes a.variant schema levels value canonical
 
--- octets are read as one value, which has no canonical octets
-pub record IsUnwritable (a : Settings) (schema : ℕ → Schema) (octets : List ℕ) : Type 0 where
+-- octets are read as one value, which has no canonical octets, and in which the fault stands that a kind names
+pub record IsUnwritable (a : Settings) (schema : ℕ → Schema) (octets : List ℕ) (kind : EncodeErrorKind)
+    : Type 0 where
   pub value : Value
   pub levels : ℕ
   pub is_read : AreReadBy a schema value octets
   pub is_unwritten : HasNoBytes a.variant schema levels value
+  pub is_faulty : AtDepths schema levels (λ s. IsInValue kind s (normal s value))
 
 -- Why octets are refused: they are read as no value, and what the kind says is in them; or as one without canonical
--- octets; or memory ran out.
+-- octets, and what the kind says is in it; or memory ran out.
 abbrev pub IsRefusal : Settings → (ℕ → Schema) → List ℕ → Fault → Type 0
 IsRefusal a schema octets (Faults.Decode kind) =
     (kind ≢ Decoding.OutOfMemory → AreUnreadBy a schema octets) × IsInOctetsBy a schema octets kind
-IsRefusal a schema octets (Faults.Encode kind) = kind ≢ Encoding.OutOfMemory → IsUnwritable a schema octets
+IsRefusal a schema octets (Faults.Encode kind) = kind ≢ Encoding.OutOfMemory → IsUnwritable a schema octets kind
 IsRefusal a schema octets _ = ⊥
 
 -- Octets are read by a type and written; with `zero` their padding and spare bits are zero. Behind `as`, what was

@@ -2,7 +2,7 @@
 
 ghost use Rattle.std.specs.Prelude.{◌≡◌, ◌∷◌, [], ◌++◌};
 ghost use Rattle.std.specs.IoError.{error_kind};
-ghost use Rattle.per_lines.specs.Faults.{text_of, status_of, io_fault, hexadecimal_fault, AppendsFront};
+ghost use Rattle.per_lines.specs.Faults.{text_of, status_of, io_fault, hexadecimal_fault, IsWritten};
 ghost use Rattle.per_lines.specs.declared.fault.Fault.TheVariants.{OutOfMemory};
 ghost use Rattle.per_lines.specs.declared.fault.Fault.TheVariants.{Encode as encode_fault, Decode as decode_fault};
 
@@ -71,14 +71,14 @@ impl Fault {
         }
     }
 
-    /// Says the fault on a line of `faults`, and nothing else. Answers the status that the program ends with, also
-    /// where that line can't be written, or a front of it alone.
-    pub fn report<F: Write>(self, faults: &mut F) -> u8
-        ensures status { result ≡ status_of self }
-        ensures told { AppendsFront (F.contents faults.old) (F.contents faults.new) (text_of self ++ 10 ∷ []) }
+    /// Says the fault on a line of `faults`, and nothing else. Answers the status that the program ends with, and
+    /// whether that line was written; where it wasn't, a front of it was.
+    pub fn report<F: Write>(self, faults: &mut F) -> (u8, io::Result<()>)
+        ensures status { result.0 ≡ status_of self }
+        ensures told { IsWritten result.1 (F.contents faults.old) (F.contents faults.new) (text_of self ++ 10 ∷ []) }
     {
-        let _ = write_line(self.text(), faults);
-        self.status()
+        let told = write_line(self.text(), faults);
+        (self.status(), told)
     }
 }
 

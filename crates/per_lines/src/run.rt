@@ -4,7 +4,7 @@ ghost use Rattle.std.specs.Prelude.{◌≡◌, ◌≢◌, ◌≤◌, ◌++◌, �
 ghost use Rattle.std.specs.Io.KnownBytes.{Keeps};
 ghost use Rattle.per_lines.specs.Answers.{Prints, IsAnswer, Ends, EndsAnswer, AreUnknown};
 ghost use Rattle.per_lines.specs.Printing.{PrintsAnswer};
-ghost use Rattle.per_lines.specs.Faults.{status_of, text_of, AppendsFront};
+ghost use Rattle.per_lines.specs.Faults.{status_of, text_of, AppendsFront, IsWritten};
 ghost use Rattle.per_lines.specs.Words.{words};
 ghost use Rattle.per_lines.specs.declared.fault.Fault.{Fault as the_fault};
 ghost use Rattle.per_lines.specs.declared.fault.Fault.TheVariants.{WrongArguments};
@@ -16,6 +16,7 @@ use crate::line::read_line;
 use crate::output::write;
 use crate::replies::reply_to_lines;
 use std::alloc::Global;
+use std::io;
 use std::io::{BufRead, Write};
 
 /// Reads a line of hexadecimal from `input`, and writes the canonical encoding of the value that its octets spell to
@@ -52,8 +53,37 @@ pub fn run<R: BufRead, W: Write, F: Write>(
     ensures usage { AreUnknown (words arguments.now) →
         (result ≡ 2) × Keeps (R.remaining input.old) (R.remaining input.new) }
 {
+    let (status, _) = work(alloc, arguments, input, output, faults);
+    status
+}
+
+/// The work of `run`: the status, and whether the line of a fault was written. Where there is no fault, that is Ok.
+pub fn work<R: BufRead, W: Write, F: Write>(
+    alloc: Global,
+    arguments: &[String],
+    input: &mut R,
+    output: &mut W,
+    faults: &mut F,
+) -> (u8, io::Result<()>)
+    ensures status { result.0 ≤ 2 }
+
+    // Status 0: what was asked for is printed, and nothing is told on `faults`.
+    ensures printed { result.0 ≡ 0 →
+        Prints (words arguments.now) (R.remaining input.old) (W.contents output.old) (W.contents output.new) }
+    ensures silent { result.0 ≡ 0 → Keeps (F.contents faults.old) (F.contents faults.new) }
+
+    // Another status is that of a fault that stands. Its line is all that `faults` gets: the whole line where writing
+    // it answered Ok.
+    ensures faulty { result.0 ≢ 0 → (fault : the_fault) × (result.0 ≡ status_of fault)
+        × Ends (words arguments.now) (R.remaining input.old) (W.contents output.old) (W.contents output.new) fault
+        × IsWritten result.1 (F.contents faults.old) (F.contents faults.new) (text_of fault ++ 10 ∷ []) }
+
+    // Wrong arguments are found before anything is read.
+    ensures usage { AreUnknown (words arguments.now) →
+        (result.0 ≡ 2) × Keeps (R.remaining input.old) (R.remaining input.new) }
+{
     match print(alloc, arguments, input, output) {
-        Ok(()) => 0,
+        Ok(()) => (0, Ok(())),
         Err(fault) => fault.report(faults),
     }
 }
