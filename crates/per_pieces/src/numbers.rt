@@ -151,8 +151,9 @@ fn behind_count(octets: u128, number: u128) -> u128
     requires { octets ≤ 6 }
     ensures { result ≡ octets * 2 ^ (8 * octets) + number % 2 ^ (8 * octets) }
 {
-    let weight: u128 = 1 << (8 * octets) as u32;
-    octets * weight + (number & (weight - 1))
+    let weight: u64 = 1 << (8 * octets) as u32;
+    let low = (number & u128::from(weight - 1)) as u64;
+    u128::from(octets as u64 * weight + low)
 }
 
 /// How many octets are the fewest for a number without sign (X.691 11.3.6), from 1 to 16.
