@@ -1,7 +1,7 @@
 -- Items under a size constraint, as they are written and refused.
-use Rattle.std.specs.Prelude.{option_map, slice_range}
+use Rattle.std.specs.Prelude.{option_map, slice_range, IfErr}
 use Rattle.std.specs.Option.{unwrap_or}
-use Rattle.std.proofs.Common.{◌≡◌, refl, sym, ap, ap₂, ◌∙◌, subst, ℕ, ◌+◌, ◌-◌, ◌^◌, ◌<◌, ◌≤◌, Bool, true, false, ◌&&◌, cond, ltb, leb, lt-ltb, leb-true, ltb-true, List, [], ◌∷◌, length, drop, drop-drop, take_all, length-take, length-drop, arith, Option, Some, None, pos}
+use Rattle.std.proofs.Common.{◌≡◌, refl, sym, ap, ap₂, ◌∙◌, subst, ℕ, ◌+◌, ◌-◌, ◌^◌, ◌<◌, ◌≤◌, Bool, true, false, ◌&&◌, cond, ltb, leb, lt-ltb, le-leb, leb-true, ltb-true, List, [], ◌∷◌, length, drop, drop-drop, take_all, length-take, length-drop, arith, Option, Some, None, Result, Ok, Err, pos}
 use Rattle.std.proofs.lemmas.Bool.{le-ltb}
 use Rattle.std.proofs.Math.Bool.{and-true}
 use Rattle.rasn_types.specs.Codecs.{variant_of}
@@ -18,8 +18,8 @@ use Rattle.per_core.specs.Writers.{Writer, just, ◌▹◌, one_by_one, padding,
 use Rattle.per_write.specs.declared.error.EncodeError.{EncodeError}
 use Rattle.per_write.specs.declared.error.EncodeErrorKind.{EncodeErrorKind}
 use Rattle.per_write.specs.declared.error.EncodeErrorKind.TheVariants.{SizeConstraintNotSatisfied}
-use Rattle.per_write.specs.Faults.{IsError}
-use Rattle.per_write.specs.Items.{RefusesCounted, wrong_count}
+use Rattle.per_write.specs.Faults.{IsError, IsMemory}
+use Rattle.per_write.specs.Items.{IsOnlySize, RefusesCounted, no_memory, wrong_count}
 use Rattle.per_pieces.specs.Fragments.{one_fragment}
 use Rattle.per_write.specs.State.{State, StateAppends}
 use Rattle.per_core.proofs.ConstrainedLengths.{IsConstrained, IsFree}
@@ -160,6 +160,28 @@ wrote_without_length writers kind x y least most l u n f b e h v d i k w =
     let t = ltb 0 n && is_aligned kind l u in
     wrote_bounded writers kind x x y least most l u n t b e h refl
     (wrote_same x x (just []) _ (without_length (variant_of x.codec) l u n t v d i k) (wrote_none x f)) w
+
+-- X.691 17.6, 17.7: items whose count is the only one
+allows_only : (n k : ℕ) → n < 65536 → n ≡ k → allows (record { least = Some n; most = Some n }) k ≡ true
+allows_only n k few e =
+    subst (λ (m : ℕ). allows (record { least = Some n; most = Some n }) m ≡ true) e
+    (ap₂ (λ (p q : Bool). p && (p && q)) (le-leb n n (omega arith)) (lt-ltb n (2 ^ 64) (omega (arith, few))))
+
+pub wrote_only_count : (x y : State) (size : Option (Extensible (Bounded ℕ))) (kind : ItemKind) (items : List Writer) (n : ℕ) → x.failed ≡ false → variant_of x.codec ≡ unaligned
+    → IsOnlySize size n → n ≡ length items → StateAppends x (one_by_one items) y → StateAppends x (counted (variant_of x.codec) (size_in size) (is_marked size) kind items) y
+wrote_only_count x y size kind items n f v only e w =
+    let a = variant_of x.codec in
+    let all : slice_range items 0 n ≡ items = take_all (n - 0) items (omega (arith, e)) in
+    let within = wrote_without_length (λ (b : Variant). items) kind x y (Some n) (Some n) n n n f (record { lower = refl; upper = refl; few = only.few }) e
+    (allows_only n (length items) only.few e) v refl (omega arith) (omega arith) (subst (λ (ws : List Writer). StateAppends x (one_by_one ws) y) (sym all) w) in
+    subst (λ (m : Bool). StateAppends x (counted a (size_in size) m kind items) y) (sym only.unmarked)
+    (subst (λ (z : Size). StateAppends x (counted_in a z kind items) y) (sym only.alone) within)
+
+-- want of memory refuses counted items
+pub refused_for_memory : (size : Size) (mark : Bool) (items : List Writer) (x : State) (r : Result (Unit {0}) EncodeError)
+    → IfErr r (λ e. IsMemory e x) → IfErr r (λ e. RefusesCounted size mark (λ k. ⊥) items e x)
+refused_for_memory size mark items x (Ok u) h = tt
+refused_for_memory size mark items x (Err e) h = no_memory h
 
 -- items whose count no bounds constrain
 pub wrote_free : (items : List Writer) (kind : ItemKind) (x y : State) (least most : Option ℕ) → IsFree least most → allows (record { least = least; most = most }) (length items) ≡ true

@@ -1,5 +1,5 @@
 -- Items that are counted and written one after another, and why they are refused (ITU-T X.691, 11.9).
-use Rattle.std.specs.Prelude.{ℕ, ◌≡◌, ◌⊎◌, Bool, true, false, ◌||◌, List, ◌∷◌, length, slice_range, Option, None}
+use Rattle.std.specs.Prelude.{ℕ, ◌≡◌, ◌<◌, ◌⊎◌, Bool, true, false, ◌||◌, List, ◌∷◌, length, slice_range, Option, Some, None}
 use Rattle.std.specs.Prelude.{Result}
 use Rattle.rasn_types.specs.Codecs.{variant_of}
 use Rattle.rasn_types.specs.Variants.{Variant}
@@ -70,6 +70,12 @@ unconstrained_items items a = counted_in a any_size items.kind (items.writers a)
 abbrev pub AllowsItems : Option ℕ → Option ℕ → CountedItems → Type 0
 AllowsItems lower upper items = (a : Variant) → allows (record { least = lower; most = upper })
     (length (items.writers a)) ≡ true
+
+-- X.691 17.6, 17.7: a size constraint that is one count alone, below 65536
+pub record IsOnlySize (size : Option (Extensible (Bounded ℕ))) (count : ℕ) : Type 0 where
+  pub unmarked : is_marked size ≡ false
+  pub alone : size_in size ≡ record { least = Some count; most = Some count }
+  pub few : count < 65536
 
 -- A call that writes items in some form: an error says that memory ran out, or that an item is refused.
 abbrev pub PutsItems : CountedItems → (CountedItems → Variant → Writer) → State → Result (Unit {0}) EncodeError → State

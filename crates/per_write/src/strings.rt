@@ -1,6 +1,6 @@
 //! Strings (X.691 16, 17 and 30).
 
-ghost use Rattle.std.specs.Prelude.{◌≡◌, false};
+ghost use Rattle.std.specs.Prelude.{◌≡◌, IsTrue, false};
 ghost use Rattle.std.specs.Option.{unwrap_or};
 ghost use Rattle.rasn_types.specs.Values.{bits, characters, octets};
 ghost use Rattle.rasn_traits.specs.Calls.{Writes};
@@ -8,6 +8,7 @@ ghost use Rattle.rasn_constraints.specs.Constraints.{size_in};
 ghost use Rattle.rasn_schema.specs.Forms.{bit_schema, character_schema, named_bit_schema, octet_schema};
 ghost use Rattle.rasn_schema.specs.Normal.{normal};
 ghost use Rattle.rasn_schema.specs.Schemas.{Schema};
+ghost use Rattle.per_write.specs.Items.{IsOnlySize};
 ghost use Rattle.per_write.specs.Rules.{encoder_rules};
 
 use crate::Writer;
@@ -18,10 +19,12 @@ use rasn_schema::schema::Constraints;
 use rasn_schema::strings::alphabet_under;
 use rasn_strings::strings::StaticPermittedAlphabet;
 use rasn_types::bit_string::BitString;
+use rasn_types::types::Codec;
 use std::alloc::Allocator;
 
 impl<A: Allocator + Clone> Writer<A> {
     /// Writes an OCTET STRING under constraints (X.691 17).
+    #[inline(always)]
     pub fn put_octet_string(
         &mut self,
         constraints: &Constraints,
@@ -30,7 +33,11 @@ impl<A: Allocator + Clone> Writer<A> {
         requires { self.old.failed ≡ false }
         ensures { Writes encoder_rules (octet_schema constraints.now) (octets value.now) self.old result self.new }
     {
-        self.put_counted(constraints.size(), &Octets(value))
+        let size = constraints.size();
+        if self.codec == Codec::Uper && is_only_size(size, value.len()) {
+            return self.put_bare_octets(value);
+        }
+        self.put_counted(size, &Octets(value))
     }
 
     /// Writes a BIT STRING under constraints (X.691 16).
@@ -86,4 +93,19 @@ fn least_count(size: Option<Extensible<Bounded<usize>>>) -> usize
 {
     let stated = size.unwrap_or(Extensible::new(Bounded::None));
     stated.constraint.start_and_end().0.unwrap_or(0)
+}
+
+/// Whether a size is this count alone, and below 65536: no bits of the unaligned variant say then how many there are
+/// (X.691 17.6, 17.7). Where the constraints are a constant, so is the answer, but for the count.
+#[inline(always)]
+fn is_only_size(size: Option<Extensible<Bounded<usize>>>, count: usize) -> bool
+    ensures { IsTrue result → IsOnlySize size count }
+{
+    let Some(size) = size else {
+        return false;
+    };
+    let (Some(lower), Some(upper)) = size.constraint.start_and_end() else {
+        return false;
+    };
+    !size.extensible && lower == count && upper == count && count < 65536
 }
