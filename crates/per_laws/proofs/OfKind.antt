@@ -14,7 +14,7 @@ use Rattle.per_core.specs.Counts.{ItemKind, list_items, octet_items, bit_items, 
 use Rattle.per_core.specs.Spellings.{Settings, Spelling}
 use Rattle.per_core.specs.Within.{Each}
 use Rattle.per_core.specs.Writers.{after}
-use Rattle.per_core.proofs.Bags.{any_in_bag}
+use Rattle.rasn_schema.proofs.Bags.{any_in_bag}
 use Rattle.per_core.proofs.FewLengths.{then_length}
 use Rattle.per_core.proofs.HeldIn.{HeldIn, SlotHeld, SlotsHeld, lengthy_held, open_held, fields_held, each_map}
 use Rattle.per_core.proofs.LengthForms.{and_right, or_left, or_right}
