@@ -1,6 +1,6 @@
 -- Numbers in few octets, which are read as one field (X.691 11.3, 11.4).
 use Rattle.std.proofs.Common.{◌≡◌, ◌∙◌, ◌<◌, ◌≤◌, ◌*◌, ◌-◌, ◌^◌, sym, ap, subst, arith, pow_mono, pow-suc, to_z, of_z, ◌-ℤ◌, ◌%◌, ℕ, suc, Bool, true, false, inl, List, [], ◌∷◌, ◌++◌, length, take, drop, length-take, length-drop, length-append, append_assoc, ◌+◌, ◌/◌, ◌⊎◌, ap₂, refl, inr, replicate, min, take_all, mod-eq_of_lt, Option, pos, negsuc}
-use Rattle.std.specs.Int.{w128}
+use Rattle.std.specs.Int.{w64, w128}
 use Rattle.std.proofs.lemmas.Int.{ints, to_z-of_z, to_z_pos}
 use Rattle.std.specs.Prelude.{Result, Ok, Err, IsErrAnd}
 use Rattle.std.proofs.lemmas.Bool.{cases_lt, lt-ltb}
@@ -247,6 +247,25 @@ negative_is {f} {os} h half e few some l =
     ap (λ z. to_z w128 (of_z w128 (negsuc 0 -ℤ z))) (to_z_pos w128 k (omega (arith, few, some)))
     ∙ ap (λ z. to_z w128 (of_z w128 z)) (let i : negsuc 0 -ℤ pos k ≡ negsuc k = omega (arith, ints) in i)
     ∙ to_z-of_z w128 (negsuc k) (record { sfits = omega (arith, few, some) })
+    ∙ ap (λ (m : ℕ). negsuc (m - 1 - (f.number - m))) e
+    ∙ signed_negative h (omega (arith, e, l))
+  where
+    k : ℕ
+    k = half - 1 - (f.number - half)
+
+-- the same in a word
+pub half_word_is : {f : FewOctets} {os : List ℕ} → AreOctetsOf os f → f.count ≤ 6
+    → (1 * 2 ^ (8 * f.count - 1) % 2 ^ 64 ≡ 2 ^ (8 * f.count - 1)) × (2 ^ (8 * f.count - 1) ≤ 2 ^ 47)
+half_word_is {f} h few =
+    let m : 2 ^ (8 * f.count - 1) ≤ 2 ^ 47 = pow_mono {i = 8 * f.count - 1} {j = 47} (omega (arith, few)) in
+    (omega (arith, m), m)
+
+pub negative_word_is : {f : FewOctets} {os : List ℕ} → AreOctetsOf os f → (half : ℕ) → half ≡ 2 ^ (8 * f.count - 1) → half ≤ 2 ^ 47 → 0 < half → half ≤ f.number
+    → to_z w64 (of_z w64 (negsuc 0 -ℤ to_z w64 (half - 1 - (f.number - half)))) ≡ signed os
+negative_word_is {f} {os} h half e few some l =
+    ap (λ z. to_z w64 (of_z w64 (negsuc 0 -ℤ z))) (to_z_pos w64 k (omega (arith, few, some)))
+    ∙ ap (λ z. to_z w64 (of_z w64 z)) (let i : negsuc 0 -ℤ pos k ≡ negsuc k = omega (arith, ints) in i)
+    ∙ to_z-of_z w64 (negsuc k) (record { sfits = omega (arith, few, some) })
     ∙ ap (λ (m : ℕ). negsuc (m - 1 - (f.number - m))) e
     ∙ signed_negative h (omega (arith, e, l))
   where

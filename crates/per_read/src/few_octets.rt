@@ -1,6 +1,6 @@
 //! Numbers in few octets, which are read as one field and take no memory (X.691 11.3, 11.4).
 
-ghost use Rattle.std.specs.Prelude.{◌≡◌, ◌↔◌, ◌++◌, ℕ, List, None, IsTrue, take, replicate, false};
+ghost use Rattle.std.specs.Prelude.{◌≡◌, ◌≤◌, ◌↔◌, ◌++◌, ℕ, List, None, IsTrue, take, replicate, false};
 ghost use Rattle.rasn_types.specs.Bits.{number_of};
 ghost use Rattle.rasn_types.specs.Octets.{signed};
 ghost use Rattle.per_core.specs.Took.{place};
@@ -30,11 +30,30 @@ impl FewOctets {
         requires { (octets : List ℕ) × AreOctetsOf octets self.now }
         ensures { (octets : List ℕ) → AreOctetsOf octets self.now → result ≡ signed octets }
     {
+        if self.count <= 6 {
+            return i128::from(self.signed_word());
+        }
         let half = 1 << (8 * self.count as u32 - 1);
         if self.number < half {
             self.number as i128
         } else {
             -1 - (half - 1 - (self.number - half)) as i128
+        }
+    }
+
+    /// The number that up to 6 octets mean in two's complement, by words.
+    #[inline(always)]
+    fn signed_word(&self) -> i64
+        requires octets { (octets : List ℕ) × AreOctetsOf octets self.now }
+        requires few { self.now.count ≤ 6 }
+        ensures { (octets : List ℕ) → AreOctetsOf octets self.now → result ≡ signed octets }
+    {
+        let number = self.number as u64;
+        let half = 1 << (8 * self.count as u32 - 1);
+        if number < half {
+            number as i64
+        } else {
+            -1 - (half - 1 - (number - half)) as i64
         }
     }
 }
