@@ -6,7 +6,7 @@ import os
 import re
 from dataclasses import dataclass, field
 
-from definitions import Definition, Module, Place, clauses_of, is_of_specs, module_of, origin_of, path_of
+from antt import Definition, Module, Place, clauses_of, is_of_specs, module_of, origin_of, path_of
 from repository import TOP, Failure, folder_of
 
 CALLS = ["crates/rasn_per/src/uper.rt", "crates/rasn_per/src/aper.rt"]
