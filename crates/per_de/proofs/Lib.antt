@@ -11,3 +11,4 @@ pub mod Spans
 pub mod Steps
 pub mod MomentCalls
 pub mod Lending
+pub mod AtPlaces

@@ -75,6 +75,7 @@ use std::borrow::CowSlice;
 use std::marker::Model;
 use std::mem;
 
+pub mod counted;
 pub mod elements;
 pub mod open_lists;
 mod source;

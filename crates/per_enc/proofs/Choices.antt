@@ -26,7 +26,7 @@ use Rattle.per_write_types.specs.Choices.{ClosesChoiceOf, ClosesBehind, OutsideC
 use Rattle.per_write.specs.Choices.{FillsIndexOrNot, IsFilled, OpensIndex, index_padding, index_width}
 use Rattle.per_write.specs.declared.error.EncodeError.{EncodeError}
 use Rattle.per_write.specs.declared.error.EncodeErrorKind.{EncodeErrorKind}
-use Rattle.per_write.specs.declared.error.EncodeErrorKind.TheVariants.{SizeConstraintNotSatisfied, ValueConstraintNotSatisfied, AlphabetConstraintNotSatisfied, IntegerTypeConversionFailed, VariantNotInChoice, RealNotSupported, TooManyAdditions, Below, AlreadyFailed, OutOfMemory, OutOfTurn}
+use Rattle.per_write.specs.declared.error.EncodeErrorKind.TheVariants.{SizeConstraintNotSatisfied, ValueConstraintNotSatisfied, AlphabetConstraintNotSatisfied, IntegerTypeConversionFailed, VariantNotInChoice, RealNotSupported, TooManyAdditions, Below, AlreadyFailed, OutOfMemory, OutOfTurn, WrongKind}
 use Rattle.per_write.specs.Faults.{IsMemory, in_alternative, RefusesValue, Stands}
 use Rattle.per_write.specs.Rules.{encoder_rules}
 use Rattle.per_write.specs.State.{Puts, Scope, State, Presents, StateAppends, empty_scope, view}
@@ -42,7 +42,7 @@ unfolding canon
 length-members a no_parts = refl
 length-members a (part t p s ps) = ap suc (length-members a ps)
 
-chosen_at : (a : Variant) (ps : Parts) (k : ℕ) (s : Schema) (v : Value) → alternative_at ps k ≡ Some s → (p : ℕ) → chosen (members a ps) k v p ≡ canon a s v p
+pub chosen_at : (a : Variant) (ps : Parts) (k : ℕ) (s : Schema) (v : Value) → alternative_at ps k ≡ Some s → (p : ℕ) → chosen (members a ps) k v p ≡ canon a s v p
 unfolding canon
 chosen_at a no_parts k s v e p = absurd cc
 chosen_at a (part t q c ps) zero s v e p = let i : c ≡ s = cc in ap (λ z. canon a z v p) i
@@ -62,13 +62,13 @@ from_start g p h = let e : after p [] ≡ p = omega arith in ap (λ (q : ℕ). j
     alone (Some b) = refl
 
 -- X.691 23.5 to 23.7: a root alternative: its extension bit, its index and its value
-root_form : (a : Variant) (ps : Parts) (marker : Bool) (qs : Parts) (k : ℕ) (v : Value) (p : ℕ) →
+pub root_form : (a : Variant) (ps : Parts) (marker : Bool) (qs : Parts) (k : ℕ) (v : Value) (p : ℕ) →
     (extension_bit marker false ▹ (constrained_whole a (length (members a ps)) k ▹ chosen (members a ps) k v)) p ≡ canon a (choice_schema ps marker qs) (alternative root k v) p
 unfolding canon choice_writer
 root_form a ps marker qs k v p = refl
 
 -- X.691 23.5, 23.8: an added alternative: its extension bit, its index and an open type
-added_form : (a : Variant) (ps : Parts) (marker : Bool) (qs : Parts) (k : ℕ) (v : Value) (p : ℕ) →
+pub added_form : (a : Variant) (ps : Parts) (marker : Bool) (qs : Parts) (k : ℕ) (v : Value) (p : ℕ) →
     (extension_bit marker true ▹ (small a k ▹ open_bits a (chosen (members a qs) k v 0))) p ≡ canon a (choice_schema ps marker qs) (alternative added k v) p
 unfolding canon choice_writer
 added_form a ps marker qs k v p = refl
@@ -87,6 +87,7 @@ stands_in_alternative TooManyAdditions x m ps marker qs d k s v f h t = absurd t
 stands_in_alternative Below x m ps marker qs d k s v f h t = in_alternative h t
 stands_in_alternative OutOfMemory x m ps marker qs d k s v f h t = absurd t
 stands_in_alternative OutOfTurn x m ps marker qs d k s v f h t = in_alternative h t
+stands_in_alternative WrongKind x m ps marker qs d k s v f h t = in_alternative h t
 
 -- a choice whose alternative has no encoding has none
 none_written : (a : Variant) (ps : Parts) (marker : Bool) (qs : Parts) (d : Side) (k : ℕ) (s : Schema) (v : Value) → alternative_in (choice_schema ps marker qs) d k ≡ Some s → ((q : ℕ) → canon a s v q ≡ None)
@@ -102,7 +103,7 @@ none_written a ps marker qs added k s v h n p =
     ∙ none_behind (extension_bit marker true p) (small a k ▹ body) p
     (λ q. none_behind (small a k q) body q (λ r. ap (λ (o : Option Bits). open_bits a o r) (chosen_at a qs k s v h 0 ∙ n 0) ∙ no_contents a r))
 
-refuses_choice : (e : EncodeError) (x i : State) (ps : Parts) (marker : Bool) (qs : Parts) (d : Side) (k : ℕ) (s : Schema) (v : Value) → i.failed ≡ false → i.codec ≡ x.codec
+pub refuses_choice : (e : EncodeError) (x i : State) (ps : Parts) (marker : Bool) (qs : Parts) (d : Side) (k : ℕ) (s : Schema) (v : Value) → i.failed ≡ false → i.codec ≡ x.codec
     → alternative_in (choice_schema ps marker qs) d k ≡ Some s → RefusesValue e i s v → RefusesValue e x (choice_schema ps marker qs) (alternative d k v)
 refuses_choice e x i ps marker qs d k s v f c a r = record {
   none = λ g p. none_written (variant_of x.codec) ps marker qs d k s v a (λ q. ap (λ (b : Codec). canon (variant_of b) s v q) (sym c) ∙ r.none f q) p;
@@ -251,7 +252,7 @@ placed_at root k = Root k
 placed_at added k = Added k
 
 -- what was written without a place is the alternative, from each position within an octet
-contents : (x i j : State) (o : OutsideChoice) (s : Schema) (v : Value) → OpensUnplaced x o i → Presents i s v j → (q : ℕ) → q < 8 → view j q ≡ canon (variant_of x.codec) s v q
+pub contents : (x i j : State) (o : OutsideChoice) (s : Schema) (v : Value) → OpensUnplaced x o i → Presents i s v j → (q : ℕ) → q < 8 → view j q ≡ canon (variant_of x.codec) s v q
 contents x i j o s v h w q l =
     let u : Presents (record x { pieces = unplaced; scope = empty_scope true }) s v j = subst (λ (z : State). Presents z s v j) h.same w in
     u.appended.written q (λ e. absurd (let t : false ≡ true = e in cc)) ∙ from_start (canon (variant_of x.codec) s v) q l

@@ -16,7 +16,7 @@ use Rattle.per_pieces.specs.Pieces.{unplaced}
 use Rattle.per_write.specs.Components.{Encoding}
 use Rattle.per_write.specs.declared.error.EncodeError.{EncodeError}
 use Rattle.per_write.specs.declared.error.EncodeErrorKind.{EncodeErrorKind}
-use Rattle.per_write.specs.declared.error.EncodeErrorKind.TheVariants.{AlphabetConstraintNotSatisfied, AlreadyFailed, Below, IntegerTypeConversionFailed, OutOfMemory, OutOfTurn, RealNotSupported, SizeConstraintNotSatisfied, TooManyAdditions, ValueConstraintNotSatisfied, VariantNotInChoice}
+use Rattle.per_write.specs.declared.error.EncodeErrorKind.TheVariants.{AlphabetConstraintNotSatisfied, AlreadyFailed, Below, IntegerTypeConversionFailed, OutOfMemory, OutOfTurn, RealNotSupported, SizeConstraintNotSatisfied, TooManyAdditions, ValueConstraintNotSatisfied, VariantNotInChoice, WrongKind}
 use Rattle.per_write.specs.Faults.{in_contents, IsMemory, RefusesValue, Stands}
 use Rattle.per_write.specs.Rules.{encoder_rules}
 use Rattle.per_write.specs.State.{empty_scope, Presents, Puts, State, view}
@@ -47,6 +47,7 @@ stands_in_contents TooManyAdditions x i s v f t = absurd t
 stands_in_contents Below x i s v f t = in_contents t
 stands_in_contents OutOfMemory x i s v f t = absurd t
 stands_in_contents OutOfTurn x i s v f t = in_contents t
+stands_in_contents WrongKind x i s v f t = in_contents t
 
 refuses_contents : (e : EncodeError) (x i : State) (s : Schema) (v : Value) → i.failed ≡ false → i.codec ≡ x.codec → RefusesValue e i s v → RefusesValue e x (Schema.containing s) v
 refuses_contents e x i s v f c r = record {

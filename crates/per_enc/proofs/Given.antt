@@ -98,7 +98,7 @@ group_closed ps marker qs x i j y o v has result e h w c = go (is_vacant (extend
     go true n = rw n (left_out x i j y o (extended ps marker qs) v result h w (subst (λ (b : Bool). ClosesOrNot b o j result y) (there ∙ ap not n) c))
 
 -- nothing was written where a tree is cut off
-none_cut : (i j : State) (v : Value) → Presents i Schema.cut v j → ⊥
+pub none_cut : (i j : State) (v : Value) → Presents i Schema.cut v j → ⊥
 unfolding canon
 none_cut i j v w = let n : Some (placed_bits j.pieces.list 0) ≡ None = w.appended.written 0 (λ t. refl) in absurd cc
 

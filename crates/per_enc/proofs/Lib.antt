@@ -12,4 +12,6 @@ pub mod SetParts
 pub mod SetsClosed
 pub mod Noting
 pub mod Around
+pub mod AtPlaces
+pub mod Counting
 pub mod SetCalls

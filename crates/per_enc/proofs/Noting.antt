@@ -10,7 +10,7 @@ use Rattle.per_core.specs.Canon.{canon}
 use Rattle.per_write.specs.Components.{Encoding}
 use Rattle.per_write.specs.declared.error.EncodeError.{EncodeError}
 use Rattle.per_write.specs.declared.error.EncodeErrorKind.{EncodeErrorKind}
-use Rattle.per_write.specs.declared.error.EncodeErrorKind.TheVariants.{SizeConstraintNotSatisfied, ValueConstraintNotSatisfied, AlphabetConstraintNotSatisfied, IntegerTypeConversionFailed, VariantNotInChoice, RealNotSupported, TooManyAdditions, Below, AlreadyFailed, OutOfMemory, OutOfTurn}
+use Rattle.per_write.specs.declared.error.EncodeErrorKind.TheVariants.{SizeConstraintNotSatisfied, ValueConstraintNotSatisfied, AlphabetConstraintNotSatisfied, IntegerTypeConversionFailed, VariantNotInChoice, RealNotSupported, TooManyAdditions, Below, AlreadyFailed, OutOfMemory, OutOfTurn, WrongKind}
 use Rattle.per_write.specs.Faults.{IsAlready, RefusesValue, Stands}
 use Rattle.per_write.specs.Rules.{encoder_rules}
 use Rattle.per_write.specs.State.{Presents as PresentsIn, State}
@@ -47,6 +47,7 @@ stands_alike TooManyAdditions x y s v f h = h
 stands_alike Below x y s v f h = h
 stands_alike OutOfMemory x y s v f h = h
 stands_alike OutOfTurn x y s v f h = h
+stands_alike WrongKind x y s v f h = h
 
 -- a value is refused alike
 pub refuses_alike : (e : EncodeError) (x y : State) (s : Schema) (v : Value) → x.failed ≡ y.failed → x.codec ≡ y.codec → RefusesValue e x s v → RefusesValue e y s v

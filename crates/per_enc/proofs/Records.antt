@@ -19,7 +19,7 @@ use Rattle.per_pieces.specs.Pieces.{Piece, bit, Pieces, MayBegin, bit_count, pla
 use Rattle.per_pieces.proofs.Placed.{set_seam, settle_plain}
 use Rattle.per_write.specs.declared.error.EncodeError.{EncodeError}
 use Rattle.per_write.specs.declared.error.EncodeErrorKind.{EncodeErrorKind}
-use Rattle.per_write.specs.declared.error.EncodeErrorKind.TheVariants.{SizeConstraintNotSatisfied, ValueConstraintNotSatisfied, AlphabetConstraintNotSatisfied, IntegerTypeConversionFailed, VariantNotInChoice, RealNotSupported, TooManyAdditions, Below, AlreadyFailed, OutOfMemory, OutOfTurn}
+use Rattle.per_write.specs.declared.error.EncodeErrorKind.TheVariants.{SizeConstraintNotSatisfied, ValueConstraintNotSatisfied, AlphabetConstraintNotSatisfied, IntegerTypeConversionFailed, VariantNotInChoice, RealNotSupported, TooManyAdditions, Below, AlreadyFailed, OutOfMemory, OutOfTurn, WrongKind}
 use Rattle.per_write.specs.Faults.{HasPart, in_addition, in_part, IsError, IsMemory, RefusesValue, Stands}
 use Rattle.per_write.specs.Records.{AreGiven, ClosedBehind, ExtendedBehind, IsUngiven, ClosesOrNot, OpensOrNot, Opens as OpensRecord, to_be_given}
 use Rattle.per_write.specs.Rules.{encoder_rules}
@@ -62,6 +62,7 @@ stands_in (SizeConstraintNotSatisfied told) x m s v ps marker qs rs xs f (inl h)
 stands_in AlphabetConstraintNotSatisfied x m s v ps marker qs rs xs f (inl h) k = in_part xs h k
 stands_in RealNotSupported x m s v ps marker qs rs xs f (inl h) k = in_part xs h k
 stands_in OutOfTurn x m s v ps marker qs rs xs f (inl h) k = in_part xs h k
+stands_in WrongKind x m s v ps marker qs rs xs f (inl h) k = in_part xs h k
 stands_in Below x m s v ps marker qs rs xs f (inl h) k = in_part xs h k
 stands_in (ValueConstraintNotSatisfied told) x m s v ps marker qs rs xs f (inr h) k = in_addition rs h k
 stands_in IntegerTypeConversionFailed x m s v ps marker qs rs xs f (inr h) k = in_addition rs h k
@@ -69,6 +70,7 @@ stands_in (SizeConstraintNotSatisfied told) x m s v ps marker qs rs xs f (inr h)
 stands_in AlphabetConstraintNotSatisfied x m s v ps marker qs rs xs f (inr h) k = in_addition rs h k
 stands_in RealNotSupported x m s v ps marker qs rs xs f (inr h) k = in_addition rs h k
 stands_in OutOfTurn x m s v ps marker qs rs xs f (inr h) k = in_addition rs h k
+stands_in WrongKind x m s v ps marker qs rs xs f (inr h) k = in_addition rs h k
 stands_in Below x m s v ps marker qs rs xs f (inr h) k = in_addition rs h k
 stands_in AlreadyFailed x m s v ps marker qs rs xs f h k = absurd cc
 stands_in VariantNotInChoice x m s v ps marker qs rs xs f h k = absurd k

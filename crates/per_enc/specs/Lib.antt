@@ -1,4 +1,5 @@
 pub mod Choices
+pub mod Placed
 pub mod Laws
 pub mod Records
 pub mod Rules

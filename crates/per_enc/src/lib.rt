@@ -39,6 +39,8 @@ use rasn_types::types::{Codec, Identifier, Tag};
 use std::alloc::Allocator;
 use std::marker::Model;
 
+pub mod counted;
+
 /// How an encoder writes: the variant in use.
 #[derive(Clone, Copy, Debug)]
 pub struct EncoderOptions {

@@ -3,6 +3,8 @@ use Rattle.std.specs.Prelude.{◌≡◌, ◌<◌, ◌≤◌, ◌^◌, ℕ, Bool,
 use Rattle.rasn_types.specs.Bits.{Bits}
 use Rattle.rasn_types.specs.Values.{Value, item, Side, root, added}
 use Rattle.rasn_types.specs.Variants.{aligned}
+use Rattle.rasn_schema.specs.declared.items.Place.{Place}
+use Rattle.rasn_schema.specs.declared.items.Place.TheVariants.{Root, Added}
 use Rattle.per_core.specs.Basic.{As, ExtensionBit, Item, constrained_form}
 use Rattle.per_core.specs.Spellings.{Settings, Spelling, Then, When}
 use Rattle.per_core.specs.Took.{Took}
@@ -50,6 +52,11 @@ IsOfItem a r e ext s (IntegerOverflow width) =
     (width ≡ 64) × ((extended : Bool) × (i : ℕ) × (2 ^ 64 ≤ i) × IsPlace a (count_of r e extended) ext extended i s)
 IsOfItem a r e ext s UnexpectedEmptyInput = (t : Bits) × Took (Then (ExtensionBit ext true) (empty_form a)) s t
 IsOfItem a r e ext s k = IsTested k
+
+-- the item at a place
+abbrev pub placed_item : Place → Value
+placed_item (Root i) = item root i
+placed_item (Added i) = item added i
 
 -- an item stands at a place that was read
 pub record IsThere {E : Type 0} (value : E → Value) (count : ℕ) (extended : Bool) (place : Option ℕ)

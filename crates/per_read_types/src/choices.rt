@@ -25,7 +25,7 @@ pub fn take_choice_index(
         reader.old result reader.new }
 {
     let extended = take_extension_bit(reader, has_marker(addeds))?;
-    let count = alternative_count(roots, addeds, extended);
+    let count = place_count(roots, addeds, extended);
     let place = take_place(reader, count, extended)?;
     place_at_index(place, count, extended)
 }
@@ -52,15 +52,15 @@ pub fn take_root_index(
     place_at_index(Some(place), roots, false).ok()
 }
 
-/// Whether a CHOICE has an extension marker.
-fn has_marker(addeds: Option<usize>) -> bool
+/// Whether a CHOICE, or an ENUMERATED, has an extension marker.
+pub(crate) fn has_marker(addeds: Option<usize>) -> bool
     ensures { result ≡ is_extensible addeds }
 {
     addeds.is_some()
 }
 
-/// How many alternatives a list has, that before the extension marker or that behind it.
-fn alternative_count(roots: usize, addeds: Option<usize>, extended: bool) -> usize
+/// How many alternatives, or items, a list has, that before the extension marker or that behind it.
+pub(crate) fn place_count(roots: usize, addeds: Option<usize>, extended: bool) -> usize
     ensures { result ≡ count_of roots (addeds_of addeds) extended }
 {
     if extended { addeds.unwrap_or(0) } else { roots }

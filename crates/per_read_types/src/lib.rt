@@ -7,4 +7,5 @@ pub mod dates;
 pub mod enumerated;
 pub mod identifiers;
 pub mod integers;
+pub mod items;
 pub mod times;

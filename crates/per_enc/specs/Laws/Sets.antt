@@ -15,7 +15,7 @@ use Rattle.per_write.specs.declared.error.EncodeErrorKind.TheVariants.{ValueCons
 use Rattle.per_write.specs.declared.error.EncodeErrorKind.TheVariants.{AlphabetConstraintNotSatisfied}
 use Rattle.per_write.specs.declared.error.EncodeErrorKind.TheVariants.{IntegerTypeConversionFailed, VariantNotInChoice}
 use Rattle.per_write.specs.declared.error.EncodeErrorKind.TheVariants.{RealNotSupported, TooManyAdditions, Below}
-use Rattle.per_write.specs.declared.error.EncodeErrorKind.TheVariants.{AlreadyFailed, OutOfMemory, OutOfTurn}
+use Rattle.per_write.specs.declared.error.EncodeErrorKind.TheVariants.{AlreadyFailed, OutOfMemory, OutOfTurn, WrongKind}
 use Rattle.per_write.specs.Faults.{in_set, RefusesValue, Stands}
 use Rattle.per_enc.specs.Rules.{encoding_rules, noting}
 use Rattle.per_write.specs.State.{Presents, State, StateAppends}
@@ -36,6 +36,7 @@ stands_in_set Below x ps marker qs rs xs h = in_set rs xs h
 stands_in_set AlreadyFailed x ps marker qs rs xs h = h
 stands_in_set OutOfMemory x ps marker qs rs xs h = h
 stands_in_set OutOfTurn x ps marker qs rs xs h = in_set rs xs h
+stands_in_set WrongKind x ps marker qs rs xs h = in_set rs xs h
 
 -- a SET is refused where the SEQUENCE is
 pub refused_set : (ps : Parts) (marker : Bool) (qs : Parts) (x : State) (rs xs : List (Option Value)) (e : EncodeError)

@@ -1,12 +1,14 @@
 -- No fault stands in an addition group that holds nothing (ITU-T X.691, 19.9).
-use Rattle.std.specs.Prelude.{◌≡◌, ℕ, Bool, true, false, ◌&&◌, not, List, [], ◌∷◌, Option, Some, ℤ, refl}
-use Rattle.std.proofs.Common.{◌∙◌, ap, sym, subst}
-use Rattle.rasn_types.specs.Values.{Value, same}
+use Rattle.std.specs.Prelude.{◌≡◌, ℕ, Bool, true, false, ◌&&◌, not, List, [], ◌∷◌, Option, Some, None, ℤ, refl}
+use Rattle.std.proofs.Common.{◌∙◌, ap, ap₂, sym, subst}
+use Rattle.rasn_types.specs.Values.{Value, Slots, absent, fields, no_slots, same, slots, there}
 use Rattle.rasn_types.proofs.Values.{slots-as_slots}
 use Rattle.rasn_schema.specs.Absent.{no_value}
 use Rattle.rasn_schema.specs.Lawful.{is_group_schema}
 use Rattle.rasn_schema.specs.Normal.{are_idle, is_idle, is_vacant}
 use Rattle.rasn_schema.specs.Schemas.{Schema, Parts, no_parts, part, Presence, required, optional, group, default}
+use Rattle.rasn_schema.specs.Schemas.{by_tag, listed}
+use Rattle.rasn_traits.specs.Counted.{all_may_be, may_be}
 use Rattle.per_core.specs.Canon.{shown}
 use Rattle.per_errors.specs.Bounds.{value_of, lower_of, upper_of}
 use Rattle.per_write.specs.declared.error.EncodeErrorKind.{EncodeErrorKind}
@@ -15,10 +17,10 @@ use Rattle.per_write.specs.declared.error.EncodeErrorKind.TheVariants.{ValueCons
 use Rattle.per_write.specs.declared.error.EncodeErrorKind.TheVariants.{AlphabetConstraintNotSatisfied}
 use Rattle.per_write.specs.declared.error.EncodeErrorKind.TheVariants.{IntegerTypeConversionFailed, VariantNotInChoice}
 use Rattle.per_write.specs.declared.error.EncodeErrorKind.TheVariants.{RealNotSupported, TooManyAdditions, Below}
-use Rattle.per_write.specs.declared.error.EncodeErrorKind.TheVariants.{AlreadyFailed, OutOfMemory, OutOfTurn}
+use Rattle.per_write.specs.declared.error.EncodeErrorKind.TheVariants.{AlreadyFailed, OutOfMemory, OutOfTurn, WrongKind}
 use Rattle.per_write.specs.Faults.{HasPart, part_here, part_behind, StandsIn, at_once, in_part, in_addition, in_element}
 use Rattle.per_write.specs.Faults.{in_member, in_alternative, in_contents, in_set, IsAbsent, IsForeign}
-use Rattle.per_write.specs.Faults.{IsOutOfBounds, IsOutOfSize}
+use Rattle.per_write.specs.Faults.{IsOther, IsOutOfBounds, IsOutOfSize}
 use Rattle.per_write.specs.Faults.{IsPastBounds, IsReal, IsUnlawful, Stands}
 use Rattle.per_write.specs.State.{State}
 
@@ -103,6 +105,51 @@ no_absent : (s : Schema) (v : Value) → is_group_schema s ≡ true → is_vacan
 unfolding is_vacant
 no_absent s v g i h = let t : is_vacant s no_value ≡ true = subst (λ w. is_vacant s w ≡ true) h i in absurd cc
 
+-- an idle part may be as it is
+idle_may_be : (q : Presence) (r : Option Value) → is_idle q r ≡ true → may_be q r ≡ true
+unfolding is_idle
+idle_may_be required None h = absurd cc
+idle_may_be required (Some v) h = refl
+idle_may_be optional None h = refl
+idle_may_be optional (Some v) h = refl
+idle_may_be group None h = refl
+idle_may_be group (Some v) h = refl
+idle_may_be (default d) None h = refl
+idle_may_be (default d) (Some v) h = refl
+
+both_true : (b c : Bool) → (b && c) ≡ true → (b ≡ true) × (c ≡ true)
+both_true true c h = (refl, h)
+both_true false c h = absurd cc
+
+idle_may_all_be : (ps : Parts) (rs : List (Option Value)) → are_idle ps rs ≡ true → all_may_be ps rs ≡ true
+unfolding are_idle
+idle_may_all_be no_parts [] h = refl
+idle_may_all_be no_parts (r ∷ rs) h = absurd cc
+idle_may_all_be (part t q s ps) [] h = absurd cc
+idle_may_all_be (part t q s ps) (r ∷ rs) h =
+    let k = both_true (is_idle q r) (are_idle ps rs) h in
+    ap (λ (b : Bool). b && all_may_be ps rs) (idle_may_be q r k.0) ∙ idle_may_all_be ps rs k.1
+
+-- a record without parts, where a tree is cut off
+none_idle : (r : Slots) → are_idle no_parts (slots r) ≡ true → r ≡ no_slots
+unfolding are_idle
+none_idle no_slots h = refl
+none_idle (absent r) h = absurd cc
+none_idle (there v r) h = absurd cc
+
+no_other : (s : Schema) (v : Value) → is_group_schema s ≡ true → is_vacant s v ≡ true → IsOther s v → ⊥
+unfolding is_vacant
+no_other (Schema.sequence listed ps m qs) (fields r x) g i h =
+    let k = both_true (are_idle ps (slots r)) (are_idle qs (slots x)) i in
+    absurd (let e : (true && true) ≡ false = ap₂ (λ (b c : Bool). b && c) (sym (idle_may_all_be ps (slots r) k.0)) (sym (idle_may_all_be qs (slots x) k.1)) ∙ h in cc)
+no_other (Schema.sequence listed ps m qs) _ g i h = absurd cc
+no_other (Schema.sequence by_tag ps m qs) v g i h = absurd cc
+no_other Schema.cut (fields r x) g i h =
+    let k = both_true (are_idle no_parts (slots r)) (are_idle no_parts (slots x)) i in
+    absurd (let e : IsOther Schema.cut (fields no_slots no_slots) = subst (λ z. IsOther Schema.cut (fields no_slots z)) (none_idle x k.1) (subst (λ z. IsOther Schema.cut (fields z x)) (none_idle r k.0) h) in cc)
+no_other Schema.cut _ g i h = absurd cc
+no_other _ v g i h = absurd cc
+
 pub none_in_vacant : (kind : EncodeErrorKind) (x : State) (s : Schema) (v : Value) → x.failed ≡ false
     → is_group_schema s ≡ true → is_vacant s v ≡ true → Stands kind x s v → ⊥
 none_in_vacant (SizeConstraintNotSatisfied told) x s v f g i h =
@@ -124,3 +171,4 @@ none_in_vacant Below x s v f g i h = none_stands IsUnlawful
 none_in_vacant AlreadyFailed x s v f g i h = absurd cc
 none_in_vacant OutOfMemory x s v f g i h = h
 none_in_vacant OutOfTurn x s v f g i h = none_stands IsAbsent no_absent s v g i h
+none_in_vacant WrongKind x s v f g i h = none_stands IsOther no_other s v g i h

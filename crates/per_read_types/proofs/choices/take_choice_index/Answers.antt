@@ -24,7 +24,7 @@ returns-in_err-place c =
     let bit = rw c.has_marker.ensures at c.in_ok-extended.ensures in
     let h = c.in_err-place.ensures in
     passes_on _ _ c.from_residual-in_err-place.ensures.1 (h.kept ∙ bit.kept)
-    (place_faulty (settings_of c.args.reader.now) r e ext c.in_ok-extended.extended bit.ok _ (rw (c.alternative_count-count.ensures, bit.kept) at h.err))
+    (place_faulty (settings_of c.args.reader.now) r e ext c.in_ok-extended.extended bit.ok _ (rw (c.place_count-count.ensures, bit.kept) at h.err))
 
 pub returns : goal.returns
 returns c =
@@ -34,10 +34,10 @@ returns c =
     let ext = is_extensible c.args.addeds in
     let bit = rw c.has_marker.ensures at c.in_ok-extended.ensures in
     let h = c.in_ok-place.ensures in
-    let few : count_of r e c.in_ok-extended.extended < 2 ^ 64 = omega (arith, c.alternative_count-count.ensures) in
-    let place = rw (c.alternative_count-count.ensures, bit.kept) at h.ok in
-    let known = rw c.alternative_count-count.ensures at c.place_at_index.ensures.ok in
-    let missing = rw c.alternative_count-count.ensures at c.place_at_index.ensures.err in
+    let few : count_of r e c.in_ok-extended.extended < 2 ^ 64 = omega (arith, c.place_count-count.ensures) in
+    let place = rw (c.place_count-count.ensures, bit.kept) at h.ok in
+    let known = rw c.place_count-count.ensures at c.place_at_index.ensures.ok in
+    let missing = rw c.place_count-count.ensures at c.place_at_index.ensures.err in
     record {
       ok = IfOk-weaker _ _ _ (λ x i. index_there a r e ext c.in_ok-extended.extended bit.ok c.in_ok-place.place (index_of x) few place i) known;
       err = IfErr-weaker _ _ _ (λ k i. index_missing a r e ext c.in_ok-extended.extended bit.ok c.in_ok-place.place k _ few place i) missing;

@@ -1,0 +1,104 @@
+//! The decoder of types that are data: records by counts, items and alternatives by counts and places.
+
+ghost use Rattle.rasn_schema.specs.Enumerations.{addeds_of, is_extensible, items_of};
+ghost use Rattle.rasn_traits.specs.Calls.{Reads, freely_read};
+ghost use Rattle.rasn_traits.specs.Counted.{item_at};
+ghost use Rattle.per_decoding.specs.Rules.{decoder_rules};
+ghost use Rattle.per_de.specs.Steps.{TakesIndex};
+
+use crate::source::Extension;
+use crate::{Alternative, Decoder, Scope};
+use per_read::error::DecodeError;
+use per_read_types::choices::{take_choice_index, take_root_index};
+use per_read_types::items::{take_item, take_short_item};
+use rasn_schema::items::{ItemCounts, Place};
+use rasn_traits::counted::CountedDecoder;
+use rasn_types::types::Tag;
+
+impl<'input> CountedDecoder for Decoder<'input> {
+    fn decode_item(&mut self, _tag: Tag, items: ItemCounts) -> Result<Place, DecodeError> {
+        self.check_unfailed()?;
+        let mut reader = self.reader();
+        let taken = take_short_item(&mut reader, items.roots, items.addeds);
+        let left = reader.bits().len();
+        let Some(place) = taken else {
+            return self.read_item(items);
+        };
+        self.advance(left);
+        Ok(place)
+    }
+
+    fn open_record(
+        &mut self,
+        _tag: Tag,
+        presence_bits: usize,
+        additions: Option<usize>,
+    ) -> Result<Scope, DecodeError> {
+        self.check_unfailed()?;
+        let levels = self.level_inside()?;
+        let extends = self.take_extension_bit(additions.is_some())?;
+        let presences = self.take_presences(presence_bits as u128)?;
+        Ok(self.enter(Scope {
+            presences,
+            extension: Extension::of_bit(extends),
+            expected: additions.unwrap_or(0),
+            levels,
+        }))
+    }
+
+    fn open_alternative(
+        &mut self,
+        _tag: Tag,
+        alternatives: ItemCounts,
+    ) -> Result<(Place, Alternative<'input>), DecodeError> {
+        self.check_unfailed()?;
+        let levels = self.level_inside()?;
+        let place = self.take_place(alternatives)?;
+        let scope = self.enter(Scope::without_record(levels));
+        let contents = Decoder::open_alternative(self, place)?;
+        Ok((place, Alternative { scope, contents }))
+    }
+}
+
+impl<'input> Decoder<'input> {
+    /// Reads an item of an ENUMERATED in whichever form it is written (X.691 14), and answers where it stands.
+    #[inline(never)]
+    fn read_item(&mut self, items: ItemCounts) -> Result<Place, DecodeError>
+        ensures { Reads (freely_read decoder_rules) (items_of items) item_at self.old result self.new }
+    {
+        self.check_unfailed()?;
+        let mut reader = self.reader();
+        let taken = take_item(&mut reader, items.roots, items.addeds);
+        let left = reader.bits().len();
+        self.answer(taken, left)
+    }
+
+    /// Takes the index of a CHOICE of so many alternatives (X.691 23.5 to 23.8), and answers the place of its
+    /// alternative.
+    #[inline(always)]
+    fn take_place(&mut self, alternatives: ItemCounts) -> Result<Place, DecodeError>
+        ensures { TakesIndex alternatives.roots (addeds_of alternatives.addeds) (is_extensible alternatives.addeds)
+            self.old result self.new }
+    {
+        let mut reader = self.reader();
+        let taken = take_root_index(&mut reader, alternatives.roots, alternatives.addeds);
+        let left = reader.bits().len();
+        let Some(place) = taken else {
+            return self.take_any_place(alternatives);
+        };
+        self.advance(left);
+        Ok(place)
+    }
+
+    /// Takes the index of a CHOICE in whichever form it is written.
+    #[inline(never)]
+    fn take_any_place(&mut self, alternatives: ItemCounts) -> Result<Place, DecodeError>
+        ensures { TakesIndex alternatives.roots (addeds_of alternatives.addeds) (is_extensible alternatives.addeds)
+            self.old result self.new }
+    {
+        let mut reader = self.reader();
+        let taken = take_choice_index(&mut reader, alternatives.roots, alternatives.addeds);
+        let left = reader.bits().len();
+        self.answer(taken, left)
+    }
+}

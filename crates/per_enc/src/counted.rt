@@ -1,0 +1,88 @@
+//! The encoder of types that are data: records by counts, items and alternatives by counts and places.
+
+use crate::Encoder;
+use per_write::error::EncodeError;
+use per_write::{EnclosingSet, OutsideAddition, Scope};
+use per_write_types::choices::OutsideChoice;
+use per_write_types::placed::{close_placed, open_placed, put_item};
+use rasn_schema::items::{ItemCounts, Place};
+use rasn_traits::counted::CountedEncoder;
+use rasn_types::types::{Identifier, Tag};
+use std::alloc::Allocator;
+
+impl<A: Allocator + Clone> CountedEncoder for Encoder<A> {
+    ghost use Rattle.per_enc.specs.Placed.{OpensPlaced};
+
+    type Placed = (OutsideChoice<A>, EnclosingSet<A>);
+
+    ghost opens_placed = { OpensPlaced };
+
+    #[inline(always)]
+    fn encode_item(
+        &mut self,
+        _tag: Tag,
+        items: ItemCounts,
+        place: Place,
+        _identifier: Identifier,
+    ) -> Result<(), EncodeError> {
+        self.begin_value()?;
+        put_item(&mut self.writer, items, place)
+    }
+
+    fn open_record(
+        &mut self,
+        _tag: Tag,
+        presence_bits: usize,
+        additions: Option<usize>,
+        _identifier: Identifier,
+    ) -> Result<(Scope<A>, EnclosingSet<A>), EncodeError> {
+        let set = self.begin_outer_value()?;
+        let scope = self.writer.open_record(presence_bits, additions)?;
+        Ok((scope, set))
+    }
+
+    fn close_record(&mut self, outside: (Scope<A>, EnclosingSet<A>)) -> Result<(), EncodeError> {
+        self.writer.check_unfailed()?;
+        let (scope, set) = outside;
+        self.set = set;
+        self.writer.close_record(scope)
+    }
+
+    fn open_alternative(
+        &mut self,
+        _tag: Tag,
+        alternatives: ItemCounts,
+        place: Place,
+        _identifier: Identifier,
+    ) -> Result<(OutsideChoice<A>, EnclosingSet<A>), EncodeError> {
+        let set = self.begin_outer_value()?;
+        let choice = open_placed(&mut self.writer, alternatives, place)?;
+        Ok((choice, set))
+    }
+
+    fn close_alternative(
+        &mut self,
+        outside: (OutsideChoice<A>, EnclosingSet<A>),
+    ) -> Result<(), EncodeError> {
+        self.writer.check_unfailed()?;
+        let (choice, set) = outside;
+        self.set = set;
+        close_placed(&mut self.writer, choice)
+    }
+
+    fn close_group_of(
+        &mut self,
+        addition: (OutsideAddition<A>, EnclosingSet<A>),
+        has_required: bool,
+    ) -> Result<(), EncodeError> {
+        self.writer.check_unfailed()?;
+        let (open_type, set) = addition;
+        self.set = set;
+        self.writer.close_group(open_type, has_required)
+    }
+
+    fn refuse_other(&mut self) -> Result<(), EncodeError> {
+        self.writer.check_unfailed()?;
+        self.writer.refuse_other()
+    }
+}
