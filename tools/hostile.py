@@ -18,6 +18,7 @@ OF_THE_CALL = {
     "TooManyAdditions",
     "TypeNotExtensible",
     "VariantNotInChoice",
+    "WrongKind",
 }
 
 

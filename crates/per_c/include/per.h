@@ -78,7 +78,8 @@ enum per_refusal {
     PER_JSON_NO_JSON = 36, /* It has a REAL, or a time or a character that no text holds. */
     PER_JSON_VARIANT_NOT_IN_CHOICE = 37, /* A tag is none of an alternative's. */
     PER_JSON_ALREADY_FAILED = 38, /* The encoder had refused before. */
-    PER_JSON_OUT_OF_TURN = 39 /* A part was presented out of turn. */
+    PER_JSON_OUT_OF_TURN = 39, /* A part was presented out of turn. */
+    PER_ENCODE_WRONG_KIND = 40 /* A value is of another kind than its type. */
 };
 
 /** The types, as docs/TYPES.md describes them. A later version may add types behind these, and changes none. */

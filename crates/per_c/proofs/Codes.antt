@@ -53,6 +53,7 @@ encode_is_short Encoding.TooManyAdditions = refl
 encode_is_short Encoding.Below = refl
 encode_is_short Encoding.AlreadyFailed = refl
 encode_is_short Encoding.OutOfTurn = refl
+encode_is_short Encoding.WrongKind = refl
 encode_is_short Encoding.OutOfMemory = refl
 
 pub encode_short : (k : EncodeErrorKind) → length (encode_name k) < 32

@@ -63,6 +63,7 @@ encode_code Encoding.TooManyAdditions = 32
 encode_code Encoding.Below = 33
 encode_code Encoding.AlreadyFailed = 34
 encode_code Encoding.OutOfTurn = 35
+encode_code Encoding.WrongKind = 40
 
 -- where JSON's encoder does
 abbrev pub json_code : EncodeError → ℕ
@@ -83,7 +84,7 @@ code_of (Encode kind) = encode_code kind
 code_of (Json e) = json_code e
 
 abbrev pub last_code : ℕ
-last_code = 39
+last_code = 40
 
 -- its name, as the program prints a kind's
 abbrev pub name_of : Refusal → List ℕ

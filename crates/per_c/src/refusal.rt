@@ -54,6 +54,7 @@ impl Refusal {
             37 => Some(Refusal::Json(JsonError::VariantNotInChoice)),
             38 => Some(Refusal::Json(JsonError::AlreadyFailed)),
             39 => Some(Refusal::Json(JsonError::OutOfTurn)),
+            40 => Some(Refusal::Encode(EncodeErrorKind::WrongKind)),
             _ => None,
         }
     }
@@ -147,6 +148,7 @@ fn encode_kind(code: u32) -> EncodeErrorKind
         33 => EncodeErrorKind::Below,
         34 => EncodeErrorKind::AlreadyFailed,
         35 => EncodeErrorKind::OutOfTurn,
+        40 => EncodeErrorKind::WrongKind,
         _ => EncodeErrorKind::OutOfMemory,
     }
 }
@@ -199,6 +201,7 @@ fn encode_code(kind: &EncodeErrorKind) -> u32
         EncodeErrorKind::Below => 33,
         EncodeErrorKind::AlreadyFailed => 34,
         EncodeErrorKind::OutOfTurn => 35,
+        EncodeErrorKind::WrongKind => 40,
     }
 }
 

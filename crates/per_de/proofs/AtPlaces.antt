@@ -50,8 +50,8 @@ tags_counted (part t p s ps) = let e = tags_counted ps in omega arith
 
 -- a place that an index tells is one of those there
 pub stands : (a : Settings) (c : ItemCounts) (p : Place) {s m : Bits} → Took (index_form a c.roots (addeds_of c.addeds) (is_extensible c.addeds) (index_of p)) s m → stands_in c p ≡ true
-stands a c (Root i) h = lt-ltb i c.roots (index_below a c.roots (addeds_of c.addeds) (is_extensible c.addeds) _ i h)
-stands a c (Added i) h = lt-ltb i (addeds_of c.addeds) (index_below a c.roots (addeds_of c.addeds) (is_extensible c.addeds) _ i h)
+stands a c (Root i) h = lt-ltb i c.roots (index_below a c.roots (addeds_of c.addeds) (is_extensible c.addeds) root i h)
+stands a c (Added i) h = lt-ltb i (addeds_of c.addeds) (index_below a c.roots (addeds_of c.addeds) (is_extensible c.addeds) added i h)
 
 at_place : (p : Place) (P : Side → ℕ → Type 0) → P (index_of p).0 (index_of p).1 → P (side_of p) (index_in p)
 at_place (Root i) P h = h
@@ -61,8 +61,8 @@ at_place (Added i) P h = h
 module _ (c : ItemCounts) (s x : State) (start : x ≡ s) where
   pub index_refused : (choice : Schema) → IsChoiceOf c choice → (err : DecodeError) (t : State) → TakesIndex c.roots (addeds_of c.addeds) (is_extensible c.addeds) x (Err err) t → Refuses (Spells choice) (Fault choice) err s
   index_refused (Schema.choice ps qs marker) k err t h =
-      subst (λ (b : Bool). Refuses (Spells (choice_schema ps b qs)) (Fault (choice_schema ps b qs)) err s) (sym k.1.1)
-      (refused_index ps (is_extensible c.addeds) qs c.roots (addeds_of c.addeds) (sym k.0 ∙ tags_counted ps) (sym k.1.0 ∙ tags_counted qs) s x start err t h)
+      subst (λ (b : Bool). Refuses (Spells (choice_schema ps b qs)) (Fault (choice_schema ps b qs)) err s) (sym k.2)
+      (refused_index ps (is_extensible c.addeds) qs c.roots (addeds_of c.addeds) (sym k.0 ∙ tags_counted ps) (sym k.1 ∙ tags_counted qs) s x start err t h)
   index_refused _ k err t h = absurd k
 
   module _ (p : Place) (m : ℕ) (t u : State) (inside : OutsideRecord) (o : Scope) (live : s.failed ≡ false) (deeper : s.levels ≡ suc m) (none : inside ≡ no_record m)
@@ -70,8 +70,8 @@ module _ (c : ItemCounts) (s x : State) (start : x ≡ s) where
     pub contents_refused : (choice : Schema) → IsChoiceOf c choice → (err : DecodeError) (i : State) → (index_of p).0 ≡ added → RefusedAs (Stopped (NoneIn (Octets (settings_of u)) u.bits)) u err i
         → (err ≡ refusal OutOfMemory s) ⊎ Refuses (Spells choice) (Fault choice) err s
     contents_refused (Schema.choice ps qs marker) k err i side h =
-        subst (λ (b : Bool). (err ≡ refusal OutOfMemory s) ⊎ Refuses (Spells (choice_schema ps b qs)) (Fault (choice_schema ps b qs)) err s) (sym k.1.1)
-        (refused_contents ps (is_extensible c.addeds) qs c.roots (addeds_of c.addeds) (sym k.0 ∙ tags_counted ps) (sym k.1.0 ∙ tags_counted qs) s x start
+        subst (λ (b : Bool). (err ≡ refusal OutOfMemory s) ⊎ Refuses (Spells (choice_schema ps b qs)) (Fault (choice_schema ps b qs)) err s) (sym k.2)
+        (refused_contents ps (is_extensible c.addeds) qs c.roots (addeds_of c.addeds) (sym k.0 ∙ tags_counted ps) (sym k.1 ∙ tags_counted qs) s x start
         (index_of p).0 (index_of p).1 m t u inside o live deeper none index enters err i side h)
     contents_refused _ k err i side h = absurd k
 
@@ -79,8 +79,8 @@ module _ (c : ItemCounts) (s x : State) (start : x ≡ s) where
         → OpensChoice choice (side_of p) (index_in p) s (outside_choice_of i.source (record { scope = o; contents = held })) i
     choice_opened (Schema.choice ps qs marker) k i held f =
         at_place p (λ d n. OpensChoice (choice_schema ps marker qs) d n s (outside_choice_of i.source (record { scope = o; contents = held })) i)
-        (subst (λ (b : Bool). OpensChoice (choice_schema ps b qs) (index_of p).0 (index_of p).1 s (outside_choice_of i.source (record { scope = o; contents = held })) i) (sym k.1.1)
-        (opens_choice ps (is_extensible c.addeds) qs c.roots (addeds_of c.addeds) (sym k.0 ∙ tags_counted ps) (sym k.1.0 ∙ tags_counted qs) s x start
+        (subst (λ (b : Bool). OpensChoice (choice_schema ps b qs) (index_of p).0 (index_of p).1 s (outside_choice_of i.source (record { scope = o; contents = held })) i) (sym k.2)
+        (opens_choice ps (is_extensible c.addeds) qs c.roots (addeds_of c.addeds) (sym k.0 ∙ tags_counted ps) (sym k.1 ∙ tags_counted qs) s x start
         (index_of p).0 (index_of p).1 m t u inside o live deeper none index enters i held f))
     choice_opened _ k i held f = absurd k
 

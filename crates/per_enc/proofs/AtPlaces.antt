@@ -71,7 +71,7 @@ root_choice a c ps marker qs k s v h e p =
     let index = constrained_whole a (length (members a ps)) k in
     let body = chosen (members a ps) k v in
     let same : length (members a ps) ≡ c.roots = members_counted a ps ∙ h.0 in
-    ap₂ (λ (b : Bool) (n : ℕ). ((extension_bit b false ▹ constrained_whole a n k) ▹ canon a s v) p) (sym h.1.1) (sym same)
+    ap₂ (λ (b : Bool) (n : ℕ). ((extension_bit b false ▹ constrained_whole a n k) ▹ canon a s v) p) (sym h.2) (sym same)
     ∙ then_same (bit ▹ index) (bit ▹ index) (canon a s v) body (λ q. refl) (λ q. sym (chosen_at a ps k s v e q)) p
     ∙ sym (then_assoc bit index body p)
     ∙ root_form a ps marker qs k v p
@@ -81,7 +81,7 @@ added_choice : (a : Variant) (c : ItemCounts) (ps : Parts) (marker : Bool) (qs :
     → (p : ℕ) → (placed_front a c (Added k) ▹ open_bits a value) p ≡ canon a (choice_schema ps marker qs) (alternative added k v) p
 added_choice a c ps marker qs k s v value h e f p =
     let bit = extension_bit marker true in
-    ap₂ (λ (b : Bool) (o : Option Bits). ((extension_bit b true ▹ small a k) ▹ open_bits a o) p) (sym h.1.1) (f ∙ sym (chosen_at a qs k s v e 0))
+    ap₂ (λ (b : Bool) (o : Option Bits). ((extension_bit b true ▹ small a k) ▹ open_bits a o) p) (sym h.2) (f ∙ sym (chosen_at a qs k s v e 0))
     ∙ sym (then_assoc bit (small a k) (open_bits a (chosen (members a qs) k v 0)) p)
     ∙ added_form a ps marker qs k v p
 

@@ -53,11 +53,7 @@ pub fn take_short_item(
 }
 
 /// The place of the item that stands at an index of a list of `count`, where one does.
-fn place_in(
-    place: Option<usize>,
-    count: usize,
-    extended: bool,
-) -> Result<Place, DecodeErrorKind>
+fn place_in(place: Option<usize>, count: usize, extended: bool) -> Result<Place, DecodeErrorKind>
     ensures ok { IfOk result (λ x. IsThere placed_item count extended place x) }
     ensures err { IfErr result (IsMissing count extended place) }
 {

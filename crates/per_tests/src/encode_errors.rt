@@ -46,6 +46,10 @@ const ROWS: &[(EncodeErrorKind, &str)] = &[
         EncodeErrorKind::OutOfTurn,
         "OutOfTurn: a part was presented out of turn (Uper)",
     ),
+    (
+        EncodeErrorKind::WrongKind,
+        "WrongKind: a value is of another kind than its type (Uper)",
+    ),
 ];
 
 /// An error in the UNALIGNED variant.

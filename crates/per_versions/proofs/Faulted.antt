@@ -17,7 +17,7 @@ use Rattle.per_laws.proofs.Levelled.{levelled_type_unfolds}
 use Rattle.per_write.specs.Faults.{IsInValue}
 use Rattle.per_write.specs.declared.error.EncodeError.{EncodeError}
 use Rattle.per_write.specs.declared.error.EncodeErrorKind.{EncodeErrorKind}
-use Rattle.per_write.specs.declared.error.EncodeErrorKind.TheVariants.{SizeConstraintNotSatisfied, ValueConstraintNotSatisfied, AlphabetConstraintNotSatisfied, IntegerTypeConversionFailed, VariantNotInChoice, RealNotSupported, TooManyAdditions, Below, AlreadyFailed, OutOfMemory, OutOfTurn}
+use Rattle.per_write.specs.declared.error.EncodeErrorKind.TheVariants.{SizeConstraintNotSatisfied, ValueConstraintNotSatisfied, AlphabetConstraintNotSatisfied, IntegerTypeConversionFailed, VariantNotInChoice, RealNotSupported, TooManyAdditions, Below, AlreadyFailed, OutOfMemory, OutOfTurn, WrongKind}
 use Rattle.per_versions.specs.Kept.{KeepsToI128}
 use Rattle.per_versions.proofs.Faultless.{one_fault, no_fault, read_whole}
 use Rattle.per_versions.proofs.Read.{IsRead}
@@ -38,6 +38,7 @@ out_of_memory Below h = absurd (h (λ e. cc))
 out_of_memory AlreadyFailed h = absurd (h (λ e. cc))
 out_of_memory OutOfMemory h = refl
 out_of_memory OutOfTurn h = absurd (h (λ e. cc))
+out_of_memory WrongKind h = absurd (h (λ e. cc))
 
 module _ (T : ℕ → Schema) (g : Levelled T) (l : IsLawfulType T) (a : Settings) (v : Value) (os : List ℕ) (r : read a T v os) where
   -- a tree that is deep enough for an encoder and for the value

@@ -22,11 +22,12 @@ use Rattle.per_core.specs.Spellings.{Settings}
 use Rattle.per_core.proofs.Counting.{length-map'}
 use Rattle.per_core.proofs.LengthForms.{and_left, and_right}
 use Rattle.per_core.specs.Within.{Each}
-use Rattle.per_write.specs.Faults.{IsInValue, Outside, OutsideSize, IsPast, has_bound, HasForeign, IsOutOfBounds, IsPastBounds, IsOutOfSize, IsForeign, IsUnlawful, IsReal, IsAbsent, StandsIn, at_once, in_part, in_addition, in_set, in_contents, in_element, in_member, in_alternative}
+use Rattle.per_write.specs.Faults.{IsInValue, Outside, OutsideSize, IsPast, has_bound, HasForeign, IsOutOfBounds, IsPastBounds, IsOutOfSize, IsForeign, IsUnlawful, IsReal, IsAbsent, IsOther, StandsIn, at_once, in_part, in_addition, in_set, in_contents, in_element, in_member, in_alternative}
 use Rattle.per_write.specs.declared.error.EncodeErrorKind.{EncodeErrorKind}
-use Rattle.per_write.specs.declared.error.EncodeErrorKind.TheVariants.{SizeConstraintNotSatisfied, ValueConstraintNotSatisfied, AlphabetConstraintNotSatisfied, IntegerTypeConversionFailed, VariantNotInChoice, RealNotSupported, TooManyAdditions, Below, AlreadyFailed, OutOfMemory, OutOfTurn}
+use Rattle.per_write.specs.declared.error.EncodeErrorKind.TheVariants.{SizeConstraintNotSatisfied, ValueConstraintNotSatisfied, AlphabetConstraintNotSatisfied, IntegerTypeConversionFailed, VariantNotInChoice, RealNotSupported, TooManyAdditions, Below, AlreadyFailed, OutOfMemory, OutOfTurn, WrongKind}
 use Rattle.per_versions.specs.Kept.{starts_in_i128, ends_in_i128, are_in_i128, keeps_numbers, keeps_to_i128}
 use Rattle.per_versions.proofs.Read.{IsGood, IsRead, in_root, in_additions, set_good, set_read, contained_good, contained_read, element_read, member_read, alternative_read}
+use Rattle.per_versions.proofs.OfKinds.{not_other}
 use Rattle.per_versions.proofs.Spelled.{Somewhere, lengthy_spelled}
 
 no : {b : Bool} → b ≡ false → b ≡ true → ⊥
@@ -263,6 +264,7 @@ module _ (a : Settings) (u : Bool) (s : Schema) (w : Value) (r : IsRead a u s w)
   one_fault AlreadyFailed g f = absurd f
   one_fault OutOfMemory g f = absurd f
   one_fault OutOfTurn g f = absurd (any_schema IsAbsent (not_absent a u) g f)
+  one_fault WrongKind g f = absurd (any_schema IsOther (not_other a u) g f)
 
   -- and none where the schema keeps to an i128
   pub no_fault : (kind : EncodeErrorKind) → IsLawful s → keeps_to_i128 s ≡ true → IsInValue kind s w → ⊥

@@ -9,6 +9,7 @@ pub mod Relayed
 pub mod Returned
 pub mod Families
 pub mod Faultless
+pub mod OfKinds
 pub mod Ordered
 pub mod Read
 pub mod Spelled

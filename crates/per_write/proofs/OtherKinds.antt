@@ -108,7 +108,7 @@ put_may_be (suc (suc n)) t p s no_parts r (x ∷ y ∷ ys) = nothing_fails (may_
 put_may_be (suc n) t p s (part u q c qs) r [] = ap (λ b. may_be q r && b) (put_none n t p s qs) ∙ nothing_fails (may_be q r) ∙ sym (nothing_fails (may_be p r))
 put_may_be (suc n) t p s (part u q c qs) r (x ∷ xs) = ap (λ b. may_be q x && b) (put_may_be n t p s qs r xs) ∙ turned (may_be q x) (may_be p r) (all_may_be qs xs)
 
-may_be_ordered : (ps : Parts) (rs : List (Option Value)) → all_may_be (canonised ps) (canonised_slots ps rs) ≡ all_may_be ps rs
+pub may_be_ordered : (ps : Parts) (rs : List (Option Value)) → all_may_be (canonised ps) (canonised_slots ps rs) ≡ all_may_be ps rs
 may_be_ordered no_parts [] = refl
 may_be_ordered no_parts (r ∷ rs) = refl
 may_be_ordered (part t p s ps) [] = put_none (how_many_less (smallest t) (tags ps)) t p s (canonised ps)

@@ -1,5 +1,5 @@
 -- No fault stands in an addition group that holds nothing (ITU-T X.691, 19.9).
-use Rattle.std.specs.Prelude.{◌≡◌, ℕ, Bool, true, false, ◌&&◌, not, List, [], ◌∷◌, Option, Some, ℤ, refl}
+use Rattle.std.specs.Prelude.{◌≡◌, ℕ, Bool, true, false, ◌&&◌, not, List, [], ◌∷◌, Option, Some, None, ℤ, refl}
 use Rattle.std.proofs.Common.{◌∙◌, ap, ap₂, sym, subst}
 use Rattle.rasn_types.specs.Values.{Value, Slots, absent, fields, no_slots, same, slots, there}
 use Rattle.rasn_types.proofs.Values.{slots-as_slots}
