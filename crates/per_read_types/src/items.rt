@@ -5,7 +5,8 @@ ghost use Rattle.rasn_schema.specs.Enumerations.{addeds_of, is_extensible};
 ghost use Rattle.per_read.specs.Kinds.{NoneIn};
 ghost use Rattle.per_read.specs.State.{settings_of};
 ghost use Rattle.per_read.specs.Takes.{Takes, telling};
-ghost use Rattle.per_read_types.specs.Enumerations.{IsMissing, IsOfItem, IsThere, item_form, placed_item, root_in_field};
+ghost use Rattle.per_read_types.specs.Enumerations.{IsMissing, IsOfItem, IsThere, item_form, placed_item};
+ghost use Rattle.per_read_types.specs.Enumerations.{root_in_field};
 
 use crate::choices::{has_marker, place_count};
 use crate::enumerated::{take_extension_bit, take_place, take_short_place};

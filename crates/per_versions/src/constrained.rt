@@ -1,5 +1,5 @@
-//! What the laws of `versions` and of `chains` say of `decode`, of `decode_with_constraints`: each type is written and read
-//! under constraints in place of its own.
+//! What the laws of `versions` and of `chains` say of `decode`, of `decode_with_constraints`: each type is written and
+//! read under constraints in place of its own.
 
 ghost use Rattle.std.specs.Prelude.{Bool, List, Result, Ok, ℕ};
 ghost use Rattle.rasn_types.specs.Codecs.{variant_of};

@@ -1,5 +1,5 @@
-//! ENUMERATED and CHOICE by how many items and alternatives there are, and by the place of one (X.691 14, 23). The place
-//! of an alternative is known where the CHOICE is opened, so one of the root is written in place.
+//! ENUMERATED and CHOICE by how many items and alternatives there are, and by the place of one (X.691 14, 23). The
+//! place of an alternative is known where the CHOICE is opened, so one of the root is written in place.
 
 ghost use Rattle.std.specs.Prelude.{◌≡◌, true, false};
 ghost use Rattle.rasn_schema.specs.Enumerations.{items_of};

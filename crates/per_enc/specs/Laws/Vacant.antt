@@ -141,12 +141,16 @@ no_other : (s : Schema) (v : Value) → is_group_schema s ≡ true → is_vacant
 unfolding is_vacant
 no_other (Schema.sequence listed ps m qs) (fields r x) g i h =
     let k = both_true (are_idle ps (slots r)) (are_idle qs (slots x)) i in
-    absurd (let e : (true && true) ≡ false = ap₂ (λ (b c : Bool). b && c) (sym (idle_may_all_be ps (slots r) k.0)) (sym (idle_may_all_be qs (slots x) k.1)) ∙ h in cc)
+    let a = sym (idle_may_all_be ps (slots r) k.0) in
+    let b = sym (idle_may_all_be qs (slots x) k.1) in
+    absurd (let e : (true && true) ≡ false = ap₂ (λ (c d : Bool). c && d) a b ∙ h in cc)
 no_other (Schema.sequence listed ps m qs) _ g i h = absurd cc
 no_other (Schema.sequence by_tag ps m qs) v g i h = absurd cc
 no_other Schema.cut (fields r x) g i h =
     let k = both_true (are_idle no_parts (slots r)) (are_idle no_parts (slots x)) i in
-    absurd (let e : IsOther Schema.cut (fields no_slots no_slots) = subst (λ z. IsOther Schema.cut (fields no_slots z)) (none_idle x k.1) (subst (λ z. IsOther Schema.cut (fields z x)) (none_idle r k.0) h) in cc)
+    let a = subst (λ z. IsOther Schema.cut (fields z x)) (none_idle r k.0) h in
+    let b = subst (λ z. IsOther Schema.cut (fields no_slots z)) (none_idle x k.1) a in
+    absurd (let e : IsOther Schema.cut (fields no_slots no_slots) = b in cc)
 no_other Schema.cut _ g i h = absurd cc
 no_other _ v g i h = absurd cc
 
