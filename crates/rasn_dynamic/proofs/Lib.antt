@@ -1,0 +1,5 @@
+pub mod Elements
+pub mod Levelled
+pub mod Places
+pub mod Reading
+pub mod Trees

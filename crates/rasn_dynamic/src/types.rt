@@ -1,0 +1,107 @@
+//! A table of types: what each type is, with the places in the table of the types that stand in it.
+
+ghost use Rattle.std.specs.Prelude.{◌≡◌, option_map, slice_get};
+ghost use Rattle.std.specs.Prelude.{ℕ};
+ghost use Rattle.rasn_schema.specs.Levels.{Levelled};
+ghost use Rattle.rasn_dynamic.specs.Types.{counts_of, schema_at};
+
+use rasn_schema::items::ItemCounts;
+use rasn_schema::schema::Constraints;
+
+/// A type in which no other type stands.
+#[derive(Drop)]
+pub enum Simple {
+    /// BOOLEAN (X.691 12).
+    Boolean,
+    /// NULL (X.691 18).
+    Null,
+    /// INTEGER (X.691 13).
+    Integer(Constraints),
+    /// ENUMERATED (X.691 14), by its items.
+    Enumerated(Items),
+    /// OCTET STRING (X.691 17).
+    OctetString(Constraints),
+    /// BIT STRING (X.691 16).
+    BitString(Constraints),
+    /// BIT STRING whose bits have names (X.680 22.7).
+    NamedBits(Constraints),
+    /// An open type whose type isn't told (X.691 11.2).
+    Open,
+}
+
+/// The items of an ENUMERATED by their names (X.680 20).
+#[derive(Drop)]
+pub struct Items {
+    /// Those before the extension marker.
+    pub roots: Vec<String>,
+    /// Those after it, where there is one.
+    pub addeds: Option<Vec<String>>,
+}
+
+/// What a type is.
+#[derive(Drop)]
+pub enum Kind {
+    /// A type in which no other type stands.
+    Simple(Simple),
+    /// SEQUENCE OF (X.691 20): the place of its elements' type, and its constraints.
+    List(usize, Constraints),
+}
+
+/// A table of types.
+#[derive(Drop)]
+pub struct Types {
+    /// What each type is. Types name one another by their places here.
+    pub kinds: Vec<Kind>,
+    /// The names of types, and the places of these.
+    pub names: Vec<Name>,
+}
+
+/// The name of a type.
+#[derive(Drop)]
+pub struct Name {
+    /// The name.
+    pub name: String,
+    /// The place of the type.
+    pub place: usize,
+}
+
+impl Types {
+    /// The place of the type with a name: the first, where there are more.
+    pub fn place(&self, name: &str) -> Option<usize> {
+        self.names
+            .iter()
+            .find(|entry| entry.name.as_str() == name)
+            .map(|entry| entry.place)
+    }
+}
+
+impl Items {
+    /// How many items there are before the extension marker, and how many behind it.
+    pub fn counts(&self) -> ItemCounts
+        ensures { result ≡ counts_of self.now }
+    {
+        let addeds = match &self.addeds {
+            Some(names) => Some(names.len()),
+            None => None,
+        };
+        ItemCounts {
+            roots: self.roots.len(),
+            addeds,
+        }
+    }
+}
+
+/// The schemas of each place of a table are each the next one to its number of levels: a list takes one.
+/// This is a law, and nothing runs.
+pub fn are_levelled(types: &Types)
+    ensures { (place : ℕ) → Levelled (schema_at types.now.kinds.items place) }
+{
+    let _ = types;
+}
+
+/// What stands at a place of a table.
+pub(crate) fn kind_at(kinds: &[Kind], place: usize) -> Option<&Kind>
+    ensures { option_map (λ k. k.now) result ≡ slice_get kinds.now place }
+{
+    kinds.get(place)
+}
