@@ -2,25 +2,26 @@
 use Rattle.std.proofs.Common.{◌≡◌, refl, sym, ap, ap₂, ◌∙◌, ℕ, zero, suc, ◌≤◌, ◌⊎◌, inl, inr, Bool, true, false, Result, Ok, Err, List, [], ◌∷◌, Option, Some, None}
 use Rattle.std.specs.Prelude.{◌&&◌, slice_get}
 use Rattle.rasn_types.specs.Values
-use Rattle.rasn_types.specs.Values.{Value as Content}
+use Rattle.rasn_types.specs.Values.{Value as Content, slots}
 use Rattle.rasn_constraints.specs.Bounds.{Size}
 use Rattle.rasn_constraints.specs.declared.constraints.Constraints.{Constraints}
 use Rattle.rasn_schema.specs.Forms.{always, is_size_marked, size_of}
 use Rattle.rasn_schema.specs.Lists.{list_at}
 use Rattle.rasn_schema.specs.Normal.{normal}
+use Rattle.rasn_schema.specs.Records.{no_additions, record_at}
 use Rattle.rasn_schema.specs.Schemas
-use Rattle.rasn_schema.specs.Schemas.{Schema}
+use Rattle.rasn_schema.specs.Schemas.{listed, Parts, Schema}
 use Rattle.rasn_traits.specs.Calls.{Encodes, EncoderRules, without_memory, Written}
 use Rattle.rasn_schema.specs.Enumerations.{items_of}
 use Rattle.rasn_schema.specs.declared.items.ItemCounts.{ItemCounts}
 use Rattle.rasn_schema.specs.declared.items.Place.{Place}
 use Rattle.rasn_schema.specs.declared.items.Place.TheVariants.{Root, Added}
-use Rattle.rasn_traits.specs.Counted.{is_of_kind, item_at, stands_in, WritesOther}
+use Rattle.rasn_traits.specs.Counted.{all_may_be, is_of_kind, item_at, stands_in, WritesOther}
 use Rattle.rasn_dynamic.specs.declared.types.Kind.{Kind}
-use Rattle.rasn_dynamic.specs.declared.types.Kind.TheVariants.{Simple as SimpleKind, List as ListKind}
+use Rattle.rasn_dynamic.specs.declared.types.Kind.TheVariants.{Simple as SimpleKind, List as ListKind, Record}
 use Rattle.rasn_dynamic.specs.declared.types.Simple.{Simple}
-use Rattle.rasn_dynamic.specs.Types.{at_place, kind_in, schema_at, simple_schema}
-use Rattle.rasn_dynamic.specs.Values.{NotElements}
+use Rattle.rasn_dynamic.specs.Types.{at_place, kind_in, parts_at, schema_at, simple_schema}
+use Rattle.rasn_dynamic.specs.Values.{NotElements, NotFields}
 
 -- what a kind is to a number of levels, by the schemas of a table
 abbrev pub kind_at : List Kind → Kind → ℕ → Schema
@@ -40,6 +41,10 @@ simple_there ts i k e (suc n) = place_there ts i (SimpleKind k) e (suc n)
 pub list_there : (ts : List Kind) (i j : ℕ) (c : Constraints) → slice_get ts i ≡ Some (ListKind j c) → (n : ℕ) → schema_at ts i n ≡ list_at (schema_at ts j) (size_of c) (is_size_marked c) n
 list_there ts i j c e zero = place_there ts i (ListKind j c) e zero
 list_there ts i j c e (suc n) = place_there ts i (ListKind j c) e (suc n)
+
+pub record_there : (ts : List Kind) (i : ℕ) (v : _) → slice_get ts i ≡ Some (Record v) → (n : ℕ) → schema_at ts i n ≡ record_at listed (parts_at ts v.items) false no_additions n
+record_there ts i v e zero = place_there ts i (Record v) e zero
+record_there ts i v e (suc n) = place_there ts i (Record v) e (suc n)
 
 pub none_there : (ts : List Kind) (i : ℕ) → slice_get ts i ≡ None → (n : ℕ) → schema_at ts i n ≡ Schemas.real
 unfolding schema_at
@@ -84,6 +89,30 @@ no_list F z m v e (suc n) = go v (e (F n) z m)
     go : (w : Content) → is_of_kind (Schemas.list (F n) z m) w ≡ false → is_of_kind (Schemas.list (F n) z m) (normal (Schemas.list (F n) z m) w) ≡ false
     go (Values.elements vs) f = absurd (cc)
     go w f = f
+
+-- parts that any components fit
+abbrev parts_for : List (Option Content) → Parts
+parts_for [] = Schemas.no_parts
+parts_for (o ∷ os) = Schemas.part (Schemas.leaf (record { class = 0; number = 0 })) Schemas.optional Schemas.null (parts_for os)
+
+fitting : (os : List (Option Content)) → all_may_be (parts_for os) os ≡ true
+fitting [] = refl
+fitting (None ∷ os) = fitting os
+fitting (Some v ∷ os) = fitting os
+
+no_fields : (rs xs : Values.Slots) (m : Bool) → ((ps qs : Parts) → is_of_kind (Schemas.sequence listed ps m qs) (Values.fields rs xs) ≡ false) → ⊥
+no_fields rs xs m f =
+    let e : true ≡ false = sym (ap₂ (λ a b. a && b) (fitting (slots rs)) (fitting (slots xs))) ∙ f (parts_for (slots rs)) (parts_for (slots xs)) in
+    absurd (cc)
+
+pub no_record : (P Q : ℕ → Parts) (m : Bool) (v : Content) → NotFields v → (n : ℕ) → is_of_kind (record_at listed P m Q n) (normal (record_at listed P m Q n) v) ≡ false
+unfolding normal
+no_record P Q m v e zero = refl
+no_record P Q m v e (suc n) = record_other (P n) (Q n) m v (λ ps qs. e listed ps qs m)
+  where
+    record_other : (ps qs : Parts) (m : Bool) (w : Content) → ((us vs : Parts) → is_of_kind (Schemas.sequence listed us m vs) w ≡ false) → is_of_kind (Schemas.sequence listed ps m qs) (normal (Schemas.sequence listed ps m qs) w) ≡ false
+    record_other ps qs m (Values.fields rs xs) f = absurd (no_fields rs xs m f)
+    record_other ps qs m w f = f ps qs
 
 -- what isn't named bits
 pub no_named : (z : Size) (m : Bool) (v : Content) → is_of_kind (Schemas.bit_string z m true) v ≡ false → is_of_kind (Schemas.bit_string z m true) (normal (Schemas.bit_string z m true) v) ≡ false

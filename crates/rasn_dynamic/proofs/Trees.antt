@@ -121,11 +121,11 @@ pub not_bag : (v : Value) → Unbag v
 not_bag = ind-Value Unbag (λ x y is. unbag_roll x)
 
 abbrev Unfields : Value → Type 0
-Unfields v = ((y z : _) → v ≡ TheViews.Fields y z → ⊥) → NotFields (value_of v)
+Unfields v = ((y : _) → v ≡ TheViews.Fields y → ⊥) → NotFields (value_of v)
 
 unfields_roll : (x : Value-F Value) → Unfields (roll-Value x)
 unfolding bag_of
-unfields_roll (Fields y z) h = absurd (h y z (rolls-Fields y z))
+unfields_roll (Fields y) h = absurd (h y (rolls-Fields y))
 unfields_roll x h = subst NotFields (sym (ap there (roll_slot x))) (λ o ps qs mark. refl)
 
 pub not_fields : (v : Value) → Unfields v
@@ -157,17 +157,17 @@ elements_value v x e = ap value_of e ∙ ap there (roll_slot (Elements x)) ∙ a
 pub elements_levels : (v : Value) (x : _) → v ≡ roll-Value (Elements x) → levels_of v ≡ suc (deepest levels_of x.items)
 elements_levels v x e = ap levels_of e ∙ roll_levels (Elements x) ∙ ap suc (deepest_there x.items)
 
-pub fields_value : (v : Value) (x y : _) → v ≡ roll-Value (Fields x y) → value_of v ≡ record_value (map slot_of x.items) (map slot_of y.items)
-fields_value v x y e = ap value_of e ∙ ap there (roll_slot (Fields x y))
+pub fields_value : (v : Value) (x : _) → v ≡ roll-Value (Fields x) → value_of v ≡ record_value (map slot_of x.items) []
+fields_value v x e = ap value_of e ∙ ap there (roll_slot (Fields x))
 
-pub fields_levels : (v : Value) (x y : _) → v ≡ roll-Value (Fields x y) → levels_of v ≡ suc (max (deepest levels_of x.items) (deepest levels_of y.items))
-fields_levels v x y e = ap levels_of e ∙ roll_levels (Fields x y) ∙ ap₂ (λ a b. suc (max a b)) (deepest_there x.items) (deepest_there y.items)
+pub fields_levels : (v : Value) (x : _) → v ≡ roll-Value (Fields x) → levels_of v ≡ suc (deepest levels_of x.items)
+fields_levels v x e = ap levels_of e ∙ roll_levels (Fields x) ∙ ap suc (deepest_there x.items)
 
 pub absent_slot : slot_of TheVariants.Absent ≡ None
 absent_slot = ap slot_of (sym rolls-Absent) ∙ roll_slot Absent
 
-pub fields_slot : (x y : _) → slot_of (TheViews.Fields x y) ≡ Some (record_value (map slot_of x.items) (map slot_of y.items))
-fields_slot x y = ap slot_of (sym (rolls-Fields x y)) ∙ roll_slot (Fields x y)
+pub fields_slot : (x : _) → slot_of (TheViews.Fields x) ≡ Some (record_value (map slot_of x.items) [])
+fields_slot x = ap slot_of (sym (rolls-Fields x)) ∙ roll_slot (Fields x)
 
 pub elements_slot : (x : _) → slot_of (TheViews.Elements x) ≡ Some (list_value (map value_of x.items))
 elements_slot x = ap slot_of (sym (rolls-Elements x)) ∙ roll_slot (Elements x) ∙ ap (λ vs. Some (list_value vs)) (all_there x.items)

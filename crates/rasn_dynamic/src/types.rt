@@ -1,12 +1,13 @@
 //! A table of types: what each type is, with the places in the table of the types that stand in it.
 
 ghost use Rattle.std.specs.Prelude.{◌≡◌, option_map, slice_get};
-ghost use Rattle.std.specs.Prelude.{ℕ};
+ghost use Rattle.std.specs.Prelude.{ℕ, count_by};
 ghost use Rattle.rasn_schema.specs.Levels.{Levelled};
-ghost use Rattle.rasn_dynamic.specs.Types.{counts_of, schema_at};
+ghost use Rattle.rasn_dynamic.specs.Types.{counts_of, is_not_required, schema_at};
 
 use rasn_schema::items::ItemCounts;
 use rasn_schema::schema::Constraints;
+use rasn_types::types::Tag;
 
 /// A type in which no other type stands.
 #[derive(Drop)]
@@ -38,6 +39,28 @@ pub struct Items {
     pub addeds: Option<Vec<String>>,
 }
 
+/// Whether a component has to be there (X.680 25.6).
+#[derive(Drop)]
+pub enum Presence {
+    /// It has to be.
+    Required,
+    /// It may be absent.
+    Optional,
+}
+
+/// A component of a record.
+#[derive(Drop)]
+pub struct Component {
+    /// Its name.
+    pub name: String,
+    /// Its tag: of an untagged CHOICE the smallest of its root alternatives (X.691 21.1).
+    pub tag: Tag,
+    /// Whether it has to be there.
+    pub presence: Presence,
+    /// The place of its type.
+    pub of: usize,
+}
+
 /// What a type is.
 #[derive(Drop)]
 pub enum Kind {
@@ -45,6 +68,8 @@ pub enum Kind {
     Simple(Simple),
     /// SEQUENCE OF (X.691 20): the place of its elements' type, and its constraints.
     List(usize, Constraints),
+    /// SEQUENCE (X.691 19) without an extension marker.
+    Record(Vec<Component>),
 }
 
 /// A table of types.
@@ -91,7 +116,17 @@ impl Items {
     }
 }
 
-/// The schemas of each place of a table are each the next one to its number of levels: a list takes one.
+/// How many components have a presence bit (X.691 19.2).
+pub(crate) fn presence_bit_count(components: &[Component]) -> usize
+    ensures { result ≡ count_by (λ c. is_not_required c.presence) components.now }
+{
+    components
+        .iter()
+        .filter(|component| !matches!(component.presence, Presence::Required))
+        .count()
+}
+
+/// The schemas of each place of a table are each the next one to its number of levels: a list and a record take one.
 /// This is a law, and nothing runs.
 pub fn are_levelled(types: &Types)
     ensures { (place : ℕ) → Levelled (schema_at types.now.kinds.items place) }

@@ -28,8 +28,8 @@ pub enum Value {
     Elements(Vec<Value>),
     /// Of SET OF.
     Bag(Vec<Value>),
-    /// Of SEQUENCE and SET: its root components, and its additions.
-    Fields(Vec<Value>, Vec<Value>),
+    /// Of SEQUENCE: its root components.
+    Fields(Vec<Value>),
     /// Of CHOICE: where its alternative stands, and the value of this.
     Alternative(Place, Box<Value>),
 }
