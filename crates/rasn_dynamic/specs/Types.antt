@@ -1,5 +1,6 @@
 -- The schemas of a table of types: of each place, to each number of levels.
-use Rattle.std.specs.Prelude.{ℕ, zero, suc, Bool, true, false, List, [], ◌∷◌, length, Option, Some, None, option_map, slice_get}
+use Rattle.std.specs.Prelude.{ℕ, zero, suc, Bool, true, false, List, [], ◌∷◌, length, Option, Some, None}
+use Rattle.std.specs.Prelude.{option_map, slice_get}
 use Rattle.rasn_constraints.specs.Bounds.{unbounded}
 use Rattle.rasn_schema.specs.Enumerations.{items_of}
 use Rattle.rasn_schema.specs.Fields.{tag_of}
@@ -12,7 +13,8 @@ use Rattle.rasn_dynamic.specs.declared.types.Items.{Items}
 use Rattle.rasn_dynamic.specs.declared.types.Presence.{Presence}
 use Rattle.rasn_dynamic.specs.declared.types.Presence.TheVariants.{Required, Optional}
 use Rattle.rasn_dynamic.specs.declared.types.Simple.{Simple}
-use Rattle.rasn_dynamic.specs.declared.types.Simple.TheVariants.{BitString, Boolean, Enumerated, Integer, NamedBits, Null, OctetString, Open}
+use Rattle.rasn_dynamic.specs.declared.types.Simple.TheVariants.{BitString, Boolean, Enumerated, Integer, NamedBits}
+use Rattle.rasn_dynamic.specs.declared.types.Simple.TheVariants.{Null, OctetString, Open}
 use Rattle.rasn_dynamic.specs.declared.types.Kind.{Kind}
 use Rattle.rasn_dynamic.specs.declared.types.Kind.TheVariants.{Simple as SimpleKind, List as ListKind, Record}
 

@@ -1,5 +1,6 @@
 -- What the calls owe that write components of a table of types.
-use Rattle.std.specs.Prelude.{◌≡◌, ℕ, Bool, true, false, ◌&&◌, List, [], ◌∷◌, Option, Some, None, option_map, Result, OnErr}
+use Rattle.std.specs.Prelude.{◌≡◌, ℕ, Bool, true, false, ◌&&◌, List, [], ◌∷◌, Option, Some, None, Result, OnErr}
+use Rattle.std.specs.Prelude.{option_map}
 use Rattle.rasn_types.specs.Values.{Value}
 use Rattle.rasn_schema.specs.Normal.{normal}
 use Rattle.rasn_schema.specs.Schemas

@@ -13,7 +13,7 @@ ghost use Rattle.rasn_dynamic.specs.Types.{parts_at, presence_of, schema_at};
 ghost use Rattle.rasn_dynamic.specs.Values.{slot_of, value_of};
 
 use crate::read_simple::{decode_nothing, decode_simple};
-use crate::types::{kind_at, presence_bit_count, Component, Kind, Presence};
+use crate::types::{Component, Kind, Presence, kind_at, presence_bit_count};
 use crate::values::Value;
 use rasn_schema::schema::Constraints;
 use rasn_traits::counted::CountedDecoder;

@@ -70,10 +70,7 @@ fn decode_integer<D: CountedDecoder>(
 }
 
 /// Reads an item of an ENUMERATED.
-fn decode_enumerated<D: CountedDecoder>(
-    decoder: &mut D,
-    items: &Items,
-) -> Result<Value, D::Error>
+fn decode_enumerated<D: CountedDecoder>(decoder: &mut D, items: &Items) -> Result<Value, D::Error>
     ensures { ReadsValue D.rules (items_of (counts_of items.now)) decoder.old result decoder.new }
 {
     let place = decoder.decode_item(Tag::ENUMERATED, items.counts())?;

@@ -1,7 +1,6 @@
 //! A table of types: what each type is, with the places in the table of the types that stand in it.
 
-ghost use Rattle.std.specs.Prelude.{◌≡◌, option_map, slice_get};
-ghost use Rattle.std.specs.Prelude.{ℕ, count_by};
+ghost use Rattle.std.specs.Prelude.{◌≡◌, ℕ, count_by, option_map, slice_get};
 ghost use Rattle.rasn_schema.specs.Levels.{Levelled};
 ghost use Rattle.rasn_dynamic.specs.Types.{counts_of, is_not_required, schema_at};
 

@@ -11,7 +11,7 @@ ghost use Rattle.rasn_dynamic.specs.Types.{parts_at, presence_of, schema_at};
 ghost use Rattle.rasn_dynamic.specs.Values.{levels_of, slot_of, value_of};
 ghost use Rattle.rasn_dynamic.specs.Writes.{fit, may_stand, WritesOne};
 
-use crate::types::{kind_at, presence_bit_count, Component, Kind, Presence};
+use crate::types::{Component, Kind, Presence, kind_at, presence_bit_count};
 use crate::values::Value;
 use crate::write_simple::encode_simple;
 use rasn_schema::schema::Constraints;
