@@ -1,0 +1,4 @@
+pub mod Reads
+pub mod Types
+pub mod Values
+pub mod Writes

@@ -1,0 +1,33 @@
+-- What the calls owe that write components of a table of types.
+use Rattle.std.specs.Prelude.{◌≡◌, ℕ, Bool, true, false, ◌&&◌, List, [], ◌∷◌, Option, Some, None, Result, OnErr}
+use Rattle.std.specs.Prelude.{option_map}
+use Rattle.rasn_types.specs.Values.{Value}
+use Rattle.rasn_schema.specs.Normal.{normal}
+use Rattle.rasn_schema.specs.Schemas
+use Rattle.rasn_schema.specs.Schemas.{Schema}
+use Rattle.rasn_traits.specs.Calls.{AtDepths, EncoderRules}
+use Rattle.rasn_traits.specs.Scopes.{WrittenPart}
+use Rattle.rasn_dynamic.specs.declared.types.Component.{Component}
+use Rattle.rasn_dynamic.specs.declared.types.Presence.{Presence}
+use Rattle.rasn_dynamic.specs.declared.types.Presence.TheVariants.{Required, Optional}
+
+-- whether a component may be absent, or there, as it is
+abbrev pub may_stand : Presence → Option Value → Bool
+may_stand Required None = false
+may_stand Required (Some v) = true
+may_stand Optional s = true
+
+-- whether what stands for components is as many, and there where it has to be
+abbrev pub fit : List Component → List (Option Value) → Bool
+fit [] [] = true
+fit [] (s ∷ ss) = false
+fit (c ∷ cs) [] = false
+fit (c ∷ cs) (s ∷ ss) = may_stand c.presence s && fit cs ss
+
+-- A call that writes one component, at each depth that holds it: an error leaves the encoder failed, and the variant
+-- stays.
+pub record WritesOne {E X : Type 0} (rules : EncoderRules E X) (p : Schemas.Presence) (schema : ℕ → Schema) (k : ℕ)
+    (slot : Option Value) (x : X) (result : Result (Unit {0}) E) (y : X) : Type 0 where
+  pub law : AtDepths schema k (λ s. WrittenPart rules p s (option_map (normal s) slot) x result y)
+  pub fails : OnErr result (rules.failed y ≡ true)
+  pub kept : rules.codec y ≡ rules.codec x
