@@ -82,7 +82,7 @@ bool_answers s (Ok b) t live h = record {
   behaves = record { again = λ f. absurd cc; fails = tt; kept = ap (λ z. z.codec) h.1 };
 }
 bool_answers s (Err e) t live h = record {
-  law = inr (refuses Schemas.boolean s (Incomplete (count_of 1)) e h.1 tt (no_truth (settings_of s) (none_left h.0)));
+  law = inr (refuses Schemas.boolean s (Incomplete (count_of 1)) e h.1 (omega arith) (no_truth (settings_of s) (none_left h.0)));
   behaves = record { again = λ f. absurd cc; fails = ap (λ z. z.failed) h.2; kept = ap (λ z. z.codec) h.2 };
 }
 
@@ -102,7 +102,7 @@ whole_read : (a : Settings) (bounds : Bounds) (mark : Bool) (range : Bounds) (v 
 unfolding basic_in
 whole_read a bounds mark range v s t h = (h.spelled.of, record { front = h.front; joins = h.joins; spelled = h.spelled.spelled })
 
-pub faulty_whole : (a : Settings) (bounds : Bounds) (mark : Bool) (range : Bounds) (s : Bits) (k : DecodeErrorKind) → Faulty (IsOfNumber a bounds mark s) (NoneIn (IsNumberOf a bounds mark range) s) k
+pub faulty_whole : (a : Settings) (bounds : Bounds) (mark : Bool) (range : Bounds) (s : Bits) (k : DecodeErrorKind) → Faulty (IsOfNumber a bounds mark range s) (NoneIn (IsNumberOf a bounds mark range) s) k
     → Faulty (IsAt a (Schemas.number bounds mark range) s) (NoneIn (basic a (Schemas.number bounds mark range)) s) k
 faulty_whole a bounds mark range s k = faulty_map k (λ h. h) (λ none v t b. let q = whole_read a bounds mark range v s t b in none q.0 t q.1)
 

@@ -68,7 +68,7 @@ module _ (flag : Bool) (count : ℕ) (s t u : State) (m : ℕ) (b : Bool) (deepe
   no_front parts additions marker e v f i h =
       let c = extended (parts m) marker (additions m) in
       inr (subst (λ l. Refuses (Spells (record_at listed parts marker additions l)) (Fault (record_at listed parts marker additions l)) e s) (sym deeper)
-      (refuses c s (Incomplete (count_of (count - length u.bits))) e (h.1 ∙ ap (λ z. refusal (Incomplete (count_of (count - length u.bits))) z) behind_bit) tt
+      (refuses c s (Incomplete (count_of (count - length u.bits))) e (h.1 ∙ ap (λ z. refusal (Incomplete (count_of (count - length u.bits))) z) behind_bit) (omega (arith, h.0))
       (λ w y d. let q = took_record (settings_of s) (parts m) marker (additions m) w s.bits y d in
       let g = took_agree (bit_agree marker b q.extends) (subst (λ (z : Bool). Took (ExtensionBit z b) s.bits u.bits) f bit_took) q.bit in
       let r = then_took (record { front = q.root.front; joins = q.root.joins; spelled = q.root.spelled.spelled }) in

@@ -77,7 +77,7 @@ pub extension_taken : (marker : Bool) (s t : State) (result : Result Bool Decode
 extension_taken marker s t (Ok b) m a = (subst (λ (z : Bool). Took (ExtensionBit z b) s.bits t.bits) (sym m) a.0, a.1)
 extension_taken marker s t (Err e) m a =
     subst (λ (z : Bool). RefusedAs (λ k. IsTested k × NoneIn (ExtensionBit z) s.bits) s e t) (sym m)
-    (record { kind = Incomplete (count_of 1); is = a.1; because = (tt, none_left a.0); failed = ap (λ z. z.failed) a.2; codec = ap (λ z. z.codec) a.2 })
+    (record { kind = Incomplete (count_of 1); is = a.1; because = (omega arith, none_left a.0); failed = ap (λ z. z.failed) a.2; codec = ap (λ z. z.codec) a.2 })
 
 -- the index of a choice
 pub index_taken : (r e e' : ℕ) (ext ext' : Bool) (s : State) {x y : Taking} {left : ℕ} (t : State) {taken : Result Place DecodeErrorKind} (result : Result Place DecodeError) → e ≡ e' → ext ≡ ext' → x ≡ reader_of s

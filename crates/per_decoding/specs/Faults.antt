@@ -50,7 +50,7 @@ IsOfReal k = ⊥
 abbrev pub IsAt : Settings → Schema → Bits → DecodeErrorKind → Type 0
 IsAt a Schema.boolean s k = IsShort k
 IsAt a Schema.null s k = ⊥
-IsAt a (Schema.number bounds mark range) s k = IsOfNumber a bounds mark s k
+IsAt a (Schema.number bounds mark range) s k = IsOfNumber a bounds mark range s k
 IsAt a (Schema.items r e ext) s k = IsOfItem a r e ext s k
 IsAt a (Schema.choice ps adds ext) s k = IsOfIndex a (length (tags_of ps)) (length (tags_of adds)) ext s k
 IsAt a (Schema.octet_string size mark) s k = IsOfItems a size mark Octet s k

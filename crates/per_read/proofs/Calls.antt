@@ -80,7 +80,7 @@ errs (Err e) k h = ap Err h
 
 -- too few bits, which tests show
 pub of_short : (k : DecodeErrorKind) → IsShort k → IsTested k
-of_short (Incomplete missing) h = tt
+of_short (Incomplete missing) h = h
 of_short _ h = absurd h
 
 -- fields that aren't there

@@ -9,11 +9,11 @@ use Rattle.per_read.specs.declared.error.DecodeErrorKind.{DecodeErrorKind}
 use Rattle.per_read.specs.declared.error.DecodeErrorKind.TheVariants.{UnexpectedEmptyInput, ValueConstraintNotSatisfied, IntegerOverflow, OutOfMemory}
 
 -- a kind that tests show may come with numbers and octets
-pub tested_number : (a : Settings) (bounds : Bounds) (mark : Bool) (s : Bits) (k : DecodeErrorKind) → IsTested k → IsOfNumber a bounds mark s k
-tested_number a bounds mark s UnexpectedEmptyInput h = absurd h
-tested_number a bounds mark s (ValueConstraintNotSatisfied told) h = absurd h
-tested_number a bounds mark s (IntegerOverflow width) h = absurd h
-tested_number a bounds mark s _ h = h
+pub tested_number : (a : Settings) (bounds : Bounds) (mark : Bool) (range : Bounds) (s : Bits) (k : DecodeErrorKind) → IsTested k → IsOfNumber a bounds mark range s k
+tested_number a bounds mark range s UnexpectedEmptyInput h = absurd h
+tested_number a bounds mark range s (ValueConstraintNotSatisfied told) h = absurd h
+tested_number a bounds mark range s (IntegerOverflow width) h = absurd h
+tested_number a bounds mark range s _ h = h
 
 pub tested_octets : (a : Settings) (s : Bits) (k : DecodeErrorKind) → IsTested k → IsOfOctets a s k
 tested_octets a s UnexpectedEmptyInput h = absurd h

@@ -6,6 +6,7 @@ use Rattle.rasn_constraints.specs.Bounds.{Bounds, unbounded, holds}
 use Rattle.per_core.specs.Spellings.{Settings}
 use Rattle.per_core.specs.Basic.{Octets, IsNumberOf}
 use Rattle.per_core.specs.Took.{Took}
+use Rattle.per_read.specs.Numbers.{IsUnheld}
 use Rattle.per_core.proofs.LengthForms.{same_octets}
 use Rattle.per_core.proofs.Took.{took_agree, took_map}
 
@@ -26,6 +27,16 @@ pub octets_number : (a : Settings) (range : Bounds) (z : ℤ) (os : List ℕ) (s
     → Took (IsNumberOf a unbounded false range z) s t
 octets_number a range z os s t h some means fits = took_map
     (λ p b i. record { in_range = fits; spelled = record { within = refl; spelled = record { octets = os; some = some; means = means; spelled = i } } }) h
+
+-- octets of a number that is none of a range
+pub unheld_octets : (a : Settings) (range : Bounds) (os : List ℕ) {s t : Bits} → Took (Octets a os) s t → 0 < length os → (Took (IsNumberOf a unbounded false range (signed os)) s t → ⊥)
+    → IsUnheld a unbounded false range s
+unheld_octets a range os {t = t} h some none = record {
+  number = signed os;
+  rest = t;
+  took = took_map (λ p b i. (refl, record { octets = os; some = some; means = refl; spelled = i })) h;
+  none = none;
+}
 
 pub none_there : (a : Settings) (s : Bits) (os : List ℕ) (u : Bits) → Took (Octets a os) s u → os ≡ [] → Took (Octets a []) s u
 none_there a s os u b e = subst (λ z. Took (Octets a z) s u) e b

@@ -1,26 +1,30 @@
 -- Refusals by their kinds.
-use Rattle.std.specs.Prelude.{◌≡◌, ◌⊎◌}
+use Rattle.std.specs.Prelude.{◌≡◌, ◌⊎◌, ◌<◌}
 use Rattle.rasn_types.specs.Bits.{Bits}
 use Rattle.per_core.specs.Spellings.{Spelling}
 use Rattle.per_core.specs.Took.{Took}
+use Rattle.per_errors.specs.Counts.{number_of}
 use Rattle.per_read.specs.declared.error.DecodeErrorKind.{DecodeErrorKind}
 use Rattle.per_read.specs.declared.error.DecodeErrorKind.TheVariants.{Incomplete, ParserFail, ExceedsMaxLength}
 use Rattle.per_read.specs.declared.error.DecodeErrorKind.TheVariants.{OutOfMemory}
+use Rattle.per_read.specs.declared.error.ParserFailCause.TheVariants.{NonzeroEmptyValue}
 
 -- nothing stands in some form at the front of bits
 abbrev pub NoneIn : {X : Type 0} → (X → Spelling) → Bits → Type 0
 NoneIn {X} form s = (x : X) (t : Bits) → Took (form x) s t → ⊥
 
--- Kinds of which nothing is stated: that they come where they should is tested.
+-- Kinds of which little is stated: a field that isn't there lacks a bit at least, and of a value of no bits nothing is
+-- said but at the end of an encoding. That they come where they should is tested.
 abbrev pub IsTested : DecodeErrorKind → Type 0
-IsTested (Incomplete missing) = Unit {0}
+IsTested (Incomplete missing) = 0 < number_of missing
+IsTested (ParserFail NonzeroEmptyValue) = ⊥
 IsTested (ParserFail cause) = Unit {0}
 IsTested ExceedsMaxLength = Unit {0}
 IsTested _ = ⊥
 
--- Too few bits are left. That the number missing is right is tested.
+-- Too few bits are left: one at least is missing. That the number missing is right is tested.
 abbrev pub IsShort : DecodeErrorKind → Type 0
-IsShort (Incomplete missing) = Unit {0}
+IsShort (Incomplete missing) = 0 < number_of missing
 IsShort _ = ⊥
 
 -- want of memory, or a kind of which P holds, where a fact does

@@ -6,7 +6,8 @@ use Rattle.rasn_types.specs.Bits.{Bits, width}
 use Rattle.rasn_types.specs.Variants.{aligned}
 use Rattle.rasn_constraints.specs.Bounds.{above, holds, fits_i128, Bounds, unbounded}
 use Rattle.per_core.specs.Spellings.{Settings, Spelling, Then, When, never, AnyPadding, Field}
-use Rattle.per_core.specs.Basic.{IsSemiConstrainedWhole, IsUnconstrainedWhole, Octets, Marked, constrained_form}
+use Rattle.per_core.specs.Basic.{IsNumberOf, IsSemiConstrainedWhole, IsUnconstrainedWhole, Octets, Marked}
+use Rattle.per_core.specs.Basic.{constrained_form}
 use Rattle.per_core.specs.Took.{Took}
 use Rattle.per_errors.specs.Bounds.{lower_of, upper_of, value_of}
 use Rattle.per_read.specs.Kinds.{IsTested}
@@ -94,10 +95,22 @@ IsOfForm a None high s k = IsOfOctets a s k
 IsOfForm a (Some l) None s k = IsOfOctets a s k
 IsOfForm a (Some l) (Some u) s k = IsTested k
 
--- What a kind says of a number under bounds. That one which its type doesn't hold is named so is tested.
-abbrev pub IsOfNumber : Settings → Bounds → Bool → Bits → DecodeErrorKind → Type 0
-IsOfNumber a bounds mark s UnexpectedEmptyInput = IsEmpty a bounds mark s
-IsOfNumber a bounds mark s (ValueConstraintNotSatisfied told) =
+-- a number within bounds, as they have it written
+abbrev pub within_bounds : Settings → Bounds → ℤ → Spelling
+within_bounds a bounds z = When (holds bounds z ≡ true) (under_bounds a bounds.low bounds.high z)
+
+-- X.691 13: a number stands within its bounds, or behind an extension bit 1, and is no number of its type's range, or
+-- under bounds none that an i128 holds
+pub record IsUnheld (a : Settings) (bounds : Bounds) (mark : Bool) (range : Bounds) (s : Bits) : Type 0 where
+  pub number : ℤ
+  pub rest : Bits
+  pub took : Took (Marked mark (within_bounds a bounds) (IsUnconstrainedWhole a) number) s rest
+  pub none : Took (IsNumberOf a bounds mark range number) s rest → ⊥
+
+-- What a kind says of a number of a type's range under bounds. Which width an overflow names is tested.
+abbrev pub IsOfNumber : Settings → Bounds → Bool → Bounds → Bits → DecodeErrorKind → Type 0
+IsOfNumber a bounds mark range s UnexpectedEmptyInput = IsEmpty a bounds mark s
+IsOfNumber a bounds mark range s (ValueConstraintNotSatisfied told) =
     IsOutside a bounds mark (value_of told) (lower_of told) (upper_of told) s
-IsOfNumber a bounds mark s (IntegerOverflow width) = Unit {0}
-IsOfNumber a bounds mark s k = IsTested k
+IsOfNumber a bounds mark range s (IntegerOverflow width) = IsUnheld a bounds mark range s
+IsOfNumber a bounds mark range s k = IsTested k

@@ -14,11 +14,11 @@ use Rattle.per_core.specs.Spellings.{Settings, Field, Then}
 use Rattle.per_core.specs.Took.{Took}
 use Rattle.per_errors.specs.Bounds.{lower_of, upper_of, value_of}
 use Rattle.per_core.proofs.Agree.{Agree, field_agree, never_agree, then_agree, weaken}
-use Rattle.per_core.proofs.LengthForms.{and_left, bounded_agree}
+use Rattle.per_core.proofs.LengthForms.{and_left, and_right, bounded_agree}
 use Rattle.per_core.proofs.Took.{then_took, took_agree, took_map, took_then}
 use Rattle.per_core.proofs.Unique.{in_whole_agree}
 use Rattle.per_read.specs.Kinds.{Faulty, IsTested, NoneIn}
-use Rattle.per_read.specs.Numbers.{IsEmpty, IsOfNumber, IsOutside, under_bounds}
+use Rattle.per_read.specs.Numbers.{IsEmpty, IsOfNumber, IsOutside, IsUnheld, under_bounds, within_bounds}
 use Rattle.per_read.specs.declared.error.DecodeErrorKind.{DecodeErrorKind}
 use Rattle.per_read.specs.declared.error.DecodeErrorKind.TheVariants.{IntegerOverflow, InvalidDate, UnexpectedEmptyInput, ValueConstraintNotSatisfied}
 use Rattle.per_read.proofs.Fields.{field_below, when_took}
@@ -27,6 +27,7 @@ use Rattle.per_read_types.specs.Dates.{IsOfDate, no_day_in_month, no_month, numb
 use Rattle.per_read_types.specs.Years
 use Rattle.per_read_types.specs.Years.{IsOfYear}
 use Rattle.per_core.proofs.Fits.{fits_small}
+use Rattle.per_read_types.proofs.Within.{number_within}
 
 -- a number under both bounds is one of so many
 module _ (a : Settings) (l u n : ℕ) (range : Bounds) where
@@ -62,6 +63,20 @@ module _ (a : Settings) (l u n : ℕ) (range : Bounds) where
 -- no number under both bounds has no octets
 not_empty : (a : Settings) (l u : ℤ) (s : Bits) → IsEmpty a (between l u) false s → ⊥
 not_empty a l u s h = h.took.spelled
+
+-- a number between two others of 16 bits is one of a range that holds these
+not_unheld : (a : Settings) (l u : ℕ) (range : Bounds) (s : Bits) → u < 65536 → ((v : ℕ) → v ≤ u → holds range (pos v) ≡ true) → IsUnheld a (between (pos l) (pos u)) false range s → ⊥
+not_unheld a l u range s few held h = go h.number h.took h.none
+  where
+    go : (z : ℤ) → Took (within_bounds a (between (pos l) (pos u)) z) s h.rest → (Took (IsNumberOf a (between (pos l) (pos u)) false range z) s h.rest → ⊥) → ⊥
+    go (pos v) b none =
+        let w = when_took b in
+        let most = leb-true v u (and_right (le_z (pos l) (pos v)) (le_z (pos v) (pos u)) w.0) in
+        none (number_within a (between (pos l) (pos u)) range (pos v) w.1 (fits_small v (omega (arith, most, few))) w.0 (held v most))
+    go (negsuc v) b none = let w : false ≡ true = (when_took b).0 in absurd cc
+
+in_byte : (n : ℕ) → n ≤ 255 → (v : ℕ) → v ≤ n → holds (unsigned_range 8) (pos v) ≡ true
+in_byte n i v h = ap₂ (λ b c. b && c) (le-leb 0 v (omega arith)) (le-leb v 255 (omega (arith, h, i)))
 
 -- each code of a range of years is one of its years
 full16 : (v : Variant) (a : Settings) (o : ℕ) {s t : Bits} → Took (constrained_by v a 16 o) s t → o < 16
@@ -122,7 +137,6 @@ module _ (a : Settings) where
   -- too few bits for an index
   pub short_year : (s : Bits) (k : DecodeErrorKind) → IsTested k → IsOfYear a s k
   short_year s UnexpectedEmptyInput h = absurd h
-  short_year s (IntegerOverflow width) h = absurd h
   short_year s _ h = h
 
   pub no_index : {s : Bits} → NoneIn (Field 2) s → NoneIn (Year a) s
@@ -142,15 +156,15 @@ module _ (a : Settings) where
     no_year_in : {m : Bits} → NoneIn (IsNumberOf a (between (pos l) (pos u)) false unbounded) m → NoneIn (YearIn a l n) m
     no_year_in none z t b = none_of a l u n unbounded e o few (λ k h. refl) none b.spelled.past t (record { front = b.front; joins = b.joins; spelled = b.spelled.spelled })
 
-    year_kind : (s m : Bits) → ((p : ℕ) (t : Bits) → Took (constrained_form a n p) m t → p < n) → (k : DecodeErrorKind) → IsOfNumber a (between (pos l) (pos u)) false m k → IsOfYear a s k
+    year_kind : (s m : Bits) → ((p : ℕ) (t : Bits) → Took (constrained_form a n p) m t → p < n) → (k : DecodeErrorKind) → IsOfNumber a (between (pos l) (pos u)) false unbounded m k → IsOfYear a s k
     year_kind s m full UnexpectedEmptyInput h = absurd (not_empty a (pos l) (pos u) m h)
     year_kind s m full (ValueConstraintNotSatisfied told) h = absurd (not_outside a l u n (value_of told) (lower_of told) (upper_of told) m e o full h)
-    year_kind s m full (IntegerOverflow width) h = tt
+    year_kind s m full (IntegerOverflow width) h = absurd (not_unheld a l u unbounded m few (λ v i. refl) h)
     year_kind s m full _ h = h
 
   -- no year between two others stands there, for a reason
   abbrev NoYear : ℕ → ℕ → Bits → DecodeErrorKind → Type 0
-  NoYear l u m k = Faulty (IsOfNumber a (between (pos l) (pos u)) false m) (NoneIn (IsNumberOf a (between (pos l) (pos u)) false unbounded) m) k
+  NoYear l u m k = Faulty (IsOfNumber a (between (pos l) (pos u)) false unbounded m) (NoneIn (IsNumberOf a (between (pos l) (pos u)) false unbounded) m) k
 
   pub first_year : (z : ℤ) {s m t : Bits} → Took (Field 2 0) s m → Took (IsNumberOf a (between (pos 2005) (pos 2020)) false unbounded z) m t → Took (Year a z) s t
   first_year z b c = year_of_range 0 z b (year_took 2005 2020 16 refl (omega arith) (omega arith) z c)
@@ -176,13 +190,14 @@ module _ (a : Settings) where
   no_earlier_year {s} {m} k b =
       faulty_map k (year_kind 1749 2004 256 refl (omega arith) (omega arith) s m (λ p t c. full256 a.variant a p c) k) (λ none. no_year 2 b (no_year_in 1749 2004 256 refl (omega arith) (omega arith) none))
 
-  any_kind : {s m : Bits} (k : DecodeErrorKind) → Took (Field 2 3) s m → IsOfNumber a unbounded false m k → IsOfYear a s k
+  any_kind : {s m : Bits} (k : DecodeErrorKind) → Took (Field 2 3) s m → IsOfNumber a unbounded false unbounded m k → IsOfYear a s k
   any_kind UnexpectedEmptyInput b h = record { rest = h.rest; took = took_then b h.took }
   any_kind (ValueConstraintNotSatisfied told) b h = absurd (let i : true ≡ false = h.outside in cc)
-  any_kind (IntegerOverflow width) b h = tt
+  any_kind (IntegerOverflow width) b h =
+      absurd (h.none (took_map (λ p c x. record { in_range = refl; spelled = record { within = refl; spelled = x.1 } }) h.took))
   any_kind _ b h = h
 
-  pub no_number_year : {s m : Bits} (k : DecodeErrorKind) → Took (Field 2 3) s m → Faulty (IsOfNumber a unbounded false m) (NoneIn (IsNumberOf a unbounded false unbounded) m) k
+  pub no_number_year : {s m : Bits} (k : DecodeErrorKind) → Took (Field 2 3) s m → Faulty (IsOfNumber a unbounded false unbounded m) (NoneIn (IsNumberOf a unbounded false unbounded) m) k
       → Faulty (IsOfYear a s) (NoneIn (Year a) s) k
   no_number_year k b = faulty_map k (any_kind k b) (λ none. no_year 3 b (λ z t c. none z t (took_map (λ p d x. record { in_range = refl; spelled = record { within = refl; spelled = x } }) c)))
 
@@ -224,20 +239,19 @@ module _ (a : Settings) where
   year_fault s InvalidDate h = absurd h
   year_fault s (ValueConstraintNotSatisfied told) h = absurd h
   year_fault s UnexpectedEmptyInput h = h
-  year_fault s (IntegerOverflow width) h = tt
   year_fault s _ h = h
 
-  month_kind : (y : ℤ) {s m : Bits} (k : DecodeErrorKind) → Took (Year a y) s m → IsOfNumber a (between (pos 1) (pos 12)) false m k → IsOfDate a s k
+  month_kind : (y : ℤ) {s m : Bits} (k : DecodeErrorKind) → Took (Year a y) s m → IsOfNumber a (between (pos 1) (pos 12)) false (unsigned_range 8) m k → IsOfDate a s k
   month_kind y {m = m} UnexpectedEmptyInput by h = absurd (not_empty a (pos 1) (pos 12) m h)
   month_kind y (ValueConstraintNotSatisfied told) by h = no_month y by h
-  month_kind y (IntegerOverflow width) by h = tt
+  month_kind y {m = m} (IntegerOverflow width) by h = absurd (not_unheld a 1 12 (unsigned_range 8) m (omega arith) (in_byte 12 (omega arith)) h)
   month_kind y InvalidDate by h = absurd h
   month_kind y _ by h = h
 
-  day_kind : (y : ℤ) (j : ℕ) {s m n : Bits} (k : DecodeErrorKind) → Took (Year a y) s m → Took (IsConstrainedWhole a 12 j) m n → IsOfNumber a (between (pos 1) (pos 31)) false n k → IsOfDate a s k
+  day_kind : (y : ℤ) (j : ℕ) {s m n : Bits} (k : DecodeErrorKind) → Took (Year a y) s m → Took (IsConstrainedWhole a 12 j) m n → IsOfNumber a (between (pos 1) (pos 31)) false (unsigned_range 8) n k → IsOfDate a s k
   day_kind y j {n = n} UnexpectedEmptyInput by bm h = absurd (not_empty a (pos 1) (pos 31) n h)
   day_kind y j (ValueConstraintNotSatisfied told) by bm h = no_day_in_month y j by bm h
-  day_kind y j (IntegerOverflow width) by bm h = tt
+  day_kind y j {n = n} (IntegerOverflow width) by bm h = absurd (not_unheld a 1 31 (unsigned_range 8) n (omega arith) (in_byte 31 (omega arith)) h)
   day_kind y j InvalidDate by bm h = absurd h
   day_kind y j _ by bm h = h
 
@@ -261,12 +275,12 @@ module _ (a : Settings) where
       none q.0.2 t (subst (λ (z : Bits). Took (IsConstrainedWhole a 31 q.0.2) z t) f w.2)
 
   pub month_fault : (y : ℤ) {s m : Bits} (k : DecodeErrorKind) → Took (Year a y) s m
-      → Faulty (IsOfNumber a (between (pos 1) (pos 12)) false m) (NoneIn (IsNumberOf a (between (pos 1) (pos 12)) false (unsigned_range 8)) m) k
+      → Faulty (IsOfNumber a (between (pos 1) (pos 12)) false (unsigned_range 8) m) (NoneIn (IsNumberOf a (between (pos 1) (pos 12)) false (unsigned_range 8)) m) k
       → Faulty (IsOfDate a s) (NoneIn (basic a Schema.date) s) k
   month_fault y k by = faulty_map k (month_kind y k by) (λ none. no_months y by (none_of a 1 12 12 (unsigned_range 8) refl (omega arith) (omega arith) (in_octet 12 (omega arith)) none))
 
   pub day_fault : (y mo : ℤ) {s m n : Bits} (k : DecodeErrorKind) → Took (Year a y) s m → Month mo m n
-      → Faulty (IsOfNumber a (between (pos 1) (pos 31)) false n) (NoneIn (IsNumberOf a (between (pos 1) (pos 31)) false (unsigned_range 8)) n) k
+      → Faulty (IsOfNumber a (between (pos 1) (pos 31)) false (unsigned_range 8) n) (NoneIn (IsNumberOf a (between (pos 1) (pos 31)) false (unsigned_range 8)) n) k
       → Faulty (IsOfDate a s) (NoneIn (basic a Schema.date) s) k
   day_fault y mo k by bm =
       let j = one_of a 1 12 12 (unsigned_range 8) mo refl bm in

@@ -3,13 +3,13 @@ use Rattle.std.proofs.Common.{◌≡◌, ◌∷◌, true, false, [], inr, ℤ}
 use Rattle.rasn_types.specs.Bits.{Bits}
 use Rattle.rasn_constraints.specs.Bounds.{Bounds, unbounded}
 use Rattle.per_core.specs.Spellings.{Settings, never}
-use Rattle.per_core.specs.Basic.{IsNumber, IsNumberOf}
+use Rattle.per_core.specs.Basic.{IsNumber, IsNumberOf, IsUnconstrainedWhole}
 use Rattle.per_core.specs.Took.{Took}
 use Rattle.per_core.proofs.Took.{took_map}
 use Rattle.per_read.specs.Kinds.{Faulty, NoneIn, Refused}
-use Rattle.per_read.specs.Numbers.{IsOfNumber, no_octets, under_bounds}
+use Rattle.per_read.specs.Numbers.{IsOfNumber, no_octets, under_bounds, within_bounds}
 use Rattle.per_read.specs.declared.error.DecodeErrorKind.{DecodeErrorKind}
-use Rattle.per_read.specs.declared.error.DecodeErrorKind.TheVariants.{UnexpectedEmptyInput, ValueConstraintNotSatisfied}
+use Rattle.per_read.specs.declared.error.DecodeErrorKind.TheVariants.{IntegerOverflow, UnexpectedEmptyInput, ValueConstraintNotSatisfied}
 use Rattle.per_read.proofs.Refusals.{tested_number, faulty_map}
 use Rattle.per_read.proofs.Marked.{mark_in, mark_past, in_mark, past_mark, no_mark}
 
@@ -37,7 +37,7 @@ module _ (a : Settings) (bounds range : Bounds) {s m : Bits} where
       (past_mark (IsNumber a bounds) (IsNumber a unbounded) e z t (record { front = b.front; joins = b.joins; spelled = b.spelled.spelled }))
 
   -- a fault behind the bit is one of the whole
-  root_kind : (k : DecodeErrorKind) → s ≡ false ∷ m → IsOfNumber a bounds false m k → IsOfNumber a bounds true s k
+  root_kind : (k : DecodeErrorKind) → s ≡ false ∷ m → IsOfNumber a bounds false range m k → IsOfNumber a bounds true range s k
   root_kind UnexpectedEmptyInput e h = record { rest = h.rest; took = mark_in (no_octets a) (λ b. no_octets a unbounded) e bounds h.rest h.took }
   root_kind (ValueConstraintNotSatisfied told) e h = record {
     number = h.number;
@@ -48,24 +48,36 @@ module _ (a : Settings) (bounds range : Bounds) {s m : Bits} where
     is_high = h.is_high;
     took = mark_in (under_bounds a bounds.low bounds.high) (λ z. never) e h.number h.rest h.took;
   }
+  root_kind (IntegerOverflow width) e h = record {
+    number = h.number;
+    rest = h.rest;
+    took = mark_in (within_bounds a bounds) (IsUnconstrainedWhole a) e h.number h.rest h.took;
+    none = λ b. h.none (root_back e h.number h.rest b);
+  }
   root_kind _ e h = h
 
-  past_kind : (k : DecodeErrorKind) → s ≡ true ∷ m → IsOfNumber a unbounded false m k → IsOfNumber a bounds true s k
+  past_kind : (k : DecodeErrorKind) → s ≡ true ∷ m → IsOfNumber a unbounded false range m k → IsOfNumber a bounds true range s k
   past_kind UnexpectedEmptyInput e h = record { rest = h.rest; took = mark_past (no_octets a) (λ b. no_octets a unbounded) e bounds h.rest h.took }
   past_kind (ValueConstraintNotSatisfied told) e h = let i : true ≡ false = h.outside in absurd (cc)
+  past_kind (IntegerOverflow width) e h = record {
+    number = h.number;
+    rest = h.rest;
+    took = mark_past (within_bounds a bounds) (IsUnconstrainedWhole a) e h.number h.rest (took_map (λ p c x. x.1) h.took);
+    none = λ b. h.none (past_back e h.number h.rest b);
+  }
   past_kind _ e h = h
 
-  pub faulty_root : (k : DecodeErrorKind) → s ≡ false ∷ m → Faulty (IsOfNumber a bounds false m) (NoneIn (IsNumberOf a bounds false range) m) k
-      → Faulty (IsOfNumber a bounds true s) (NoneIn (IsNumberOf a bounds true range) s) k
+  pub faulty_root : (k : DecodeErrorKind) → s ≡ false ∷ m → Faulty (IsOfNumber a bounds false range m) (NoneIn (IsNumberOf a bounds false range) m) k
+      → Faulty (IsOfNumber a bounds true range s) (NoneIn (IsNumberOf a bounds true range) s) k
   faulty_root k e = faulty_map k (root_kind k e) (λ none z t b. none z t (root_back e z t b))
 
-  pub faulty_past : (k : DecodeErrorKind) → s ≡ true ∷ m → Faulty (IsOfNumber a unbounded false m) (NoneIn (IsNumberOf a unbounded false range) m) k
-      → Faulty (IsOfNumber a bounds true s) (NoneIn (IsNumberOf a bounds true range) s) k
+  pub faulty_past : (k : DecodeErrorKind) → s ≡ true ∷ m → Faulty (IsOfNumber a unbounded false range m) (NoneIn (IsNumberOf a unbounded false range) m) k
+      → Faulty (IsOfNumber a bounds true range s) (NoneIn (IsNumberOf a bounds true range) s) k
   faulty_past k e = faulty_map k (past_kind k e) (λ none z t b. none z t (past_back e z t b))
 
 -- and where there is no bit, there is no number
-pub no_bit : (a : Settings) (bounds range : Bounds) {s : Bits} (k : DecodeErrorKind) → Refused (s ≡ []) k → Faulty (IsOfNumber a bounds true s) (NoneIn (IsNumberOf a bounds true range) s) k
+pub no_bit : (a : Settings) (bounds range : Bounds) {s : Bits} (k : DecodeErrorKind) → Refused (s ≡ []) k → Faulty (IsOfNumber a bounds true range s) (NoneIn (IsNumberOf a bounds true range) s) k
 no_bit a bounds range {s} k h = inr (
-  tested_number a bounds true s k h.0,
+  tested_number a bounds true range s k h.0,
   λ z t b. no_mark (IsNumber a bounds) (IsNumber a unbounded) h.1 z t (record { front = b.front; joins = b.joins; spelled = b.spelled.spelled }),
 )

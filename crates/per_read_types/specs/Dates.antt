@@ -10,7 +10,7 @@ use Rattle.per_errors.specs.Bounds.{lower_of, upper_of, value_of}
 use Rattle.per_read.specs.Kinds.{IsTested}
 use Rattle.per_read.specs.Numbers.{IsOutside}
 use Rattle.per_read.specs.declared.error.DecodeErrorKind.{DecodeErrorKind}
-use Rattle.per_read.specs.declared.error.DecodeErrorKind.TheVariants.{IntegerOverflow, InvalidDate}
+use Rattle.per_read.specs.declared.error.DecodeErrorKind.TheVariants.{InvalidDate}
 use Rattle.per_read.specs.declared.error.DecodeErrorKind.TheVariants.{UnexpectedEmptyInput, ValueConstraintNotSatisfied}
 
 -- X.691 32: a year, a month and a day, whether they are a day of the calendar or not; month and day are counted from 0
@@ -40,10 +40,9 @@ pub record IsEmptyYear (a : Settings) (s : Bits) : Type 0 where
   pub rest : Bits
   pub took : Took (Then (Field 2 3) (Octets a [])) s rest
 
--- What a kind says of a DATE. That no number is named as one past its type is tested.
+-- what a kind says of a DATE
 abbrev pub IsOfDate : Settings → Bits → DecodeErrorKind → Type 0
 IsOfDate a s InvalidDate = IsNoDay a s
 IsOfDate a s (ValueConstraintNotSatisfied told) = IsNoPart a (value_of told) (lower_of told) (upper_of told) s
 IsOfDate a s UnexpectedEmptyInput = IsEmptyYear a s
-IsOfDate a s (IntegerOverflow width) = Unit {0}
 IsOfDate a s k = IsTested k

@@ -50,7 +50,7 @@ AreSome b = b.low ≡ None → b.high ≡ None → ⊥
 abbrev pub TakesInteger : {I : Type 0} → Bounds → Bool → Bounds → (I → ℤ) → State → Result I DecodeErrorKind → State
     → Type 0
 TakesInteger bounds mark range number =
-    Takes (memory_or (λ a. IsOfNumber a bounds mark)) (λ a. IsNumberOf a bounds mark range) (λ P i. P (number i))
+    Takes (memory_or (λ a. IsOfNumber a bounds mark range)) (λ a. IsNumberOf a bounds mark range) (λ P i. P (number i))
 
 -- X.691 13.2.4: a number in few octets, which are read at once
 pub record InFewOctets (a : Settings) (z : ℤ) (p : ℕ) (bits : Bits) : Type 0 where

@@ -5,14 +5,13 @@ use Rattle.rasn_types.specs.Contents.{is_date}
 use Rattle.per_core.specs.Spellings.{Settings}
 use Rattle.per_read.specs.Kinds.{IsTested}
 use Rattle.per_read.specs.declared.error.DecodeErrorKind.{DecodeErrorKind}
-use Rattle.per_read.specs.declared.error.DecodeErrorKind.TheVariants.{IntegerOverflow, InvalidDate, OutOfMemory}
+use Rattle.per_read.specs.declared.error.DecodeErrorKind.TheVariants.{InvalidDate, OutOfMemory}
 use Rattle.per_read.specs.declared.error.DecodeErrorKind.TheVariants.{UnexpectedEmptyInput}
 use Rattle.per_read_types.specs.Dates.{IsEmptyYear}
 
--- What a kind says of a year. That no number is named as one past its type is tested.
+-- what a kind says of a year
 abbrev pub IsOfYear : Settings → Bits → DecodeErrorKind → Type 0
 IsOfYear a s UnexpectedEmptyInput = IsEmptyYear a s
-IsOfYear a s (IntegerOverflow width) = Unit {0}
 IsOfYear a s k = IsTested k
 
 -- no day of the calendar has this year, month and day of the month; or memory ran out

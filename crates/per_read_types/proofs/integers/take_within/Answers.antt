@@ -12,7 +12,7 @@ returns-in_err-number g c =
     let lower = starts b c.start_and_end-lower.ensures.start in
     let upper = ends b c.start_and_end-lower.ensures.end in
     let h = c.in_err-number.ensures in
-    passes_on _ _ c.from_residual.ensures.1 h.kept (faulty_map _ (form_number _ (bounds_of b) _ lower upper _) (no_number _ (bounds_of b) g.I.IntegerType.range _ lower upper) h.err)
+    passes_on _ _ c.from_residual.ensures.1 h.kept (faulty_map _ (form_number _ (bounds_of b) g.I.IntegerType.range _ lower upper _) (no_number _ (bounds_of b) g.I.IntegerType.range _ lower upper) h.err)
 
 pub returns : goal.returns
 returns g c =
