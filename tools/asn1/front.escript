@@ -1,45 +1,112 @@
 #!/usr/bin/env escript
 %% Reads ASN.1 modules by Erlang/OTP's compiler, and writes what it made of them as JSON.
 %%
-%% usage: front.escript FOLDER OUT MODULE..
+%% usage: front.escript FOLDER OUT SECONDS WORDS MODULE..
 %%
 %% FOLDER has a file MODULE.asn1 for each module that is read or imported. OUT, in it, gets one object: for each module its
 %% definitions as they were parsed (`parsed`), with the names of the types that they refer to, and as they were checked
-%% (`checked`), with parameters, constraints, object sets and tags resolved. A record of the compiler is an object whose `_`
-%% is its name; the names of its fields are read from the compiler's own code, so that no copy of its header file is kept
-%% here. Any other tuple is an object with `t`, its elements. The status is 1 where a module is refused, and 3 where there
-%% is no compiler.
+%% (`checked`), with parameters, constraints, object sets and tags resolved; `checked` is left out where asn1ct refuses the
+%% module, or where its check takes more than SECONDS or WORDS of memory. What it refuses stands on standard output, each on
+%% a line `MODULE.asn1:LINE: REASON`. A record of the compiler is an object whose `_` is its name; the names of its fields are read
+%% from the compiler's own code, so that no copy of its header file is kept here. Any other tuple is an object with `t`, its
+%% elements. The status is 3 where there is no compiler.
+%%
+%% asn1ct makes one range of a size that has several, and a list of each number of a union. Here it keeps the ranges: three
+%% functions of its check are replaced in memory. It ends behind its check (`abs`), less the listing of what it made.
 -mode(compile).
 
-main([Folder, Out | Modules]) ->
+main([Folder, Out, Seconds, Words | Names]) ->
     case code:which(asn1ct_check) of
         non_existing -> halt(3);
         _ -> ok
     end,
-    Records = records(),
+    Records = records(forms(asn1ct_check)),
+    replace(asn1ct_check, fun kept_ranges/1, [size_constraint_collapse, single_value_collapse, smart_collapse]),
+    replace(asn1ct, fun saved/1, [abs_listing]),
     ok = file:set_cwd(Folder),
-    Read = [read(list_to_atom(Module), Records) || Module <- Modules],
-    case [refused || refused <- Read] of
-        [] -> ok = file:write_file(Out, ["{", lists:join(",\n", Read), "}\n"]);
-        _ -> halt(1)
+    Parsed = [{Name, parsed(Name)} || Name <- Names],
+    Limits = {list_to_integer(Seconds), list_to_integer(Words)},
+    Checks = lists:all(fun({_, Read}) -> Read =/= refused end, Parsed),
+    Read = [read(Name, Module, Checks, Limits, Records) || {Name, Module} <- Parsed, Module =/= refused],
+    ok = file:write_file(Out, ["{", lists:join(",\n", Read), "}\n"]).
+
+read(Name, Module, Checks, Limits, Records) ->
+    Checked = case Checks andalso checked(Name, Limits) of
+        {ok, Table} -> [",\n\"checked\": {", lists:join(",\n", [[string(K), ": ", json(V, Records)] || {K, V} <- Table]), "}"];
+        _ -> ""
+    end,
+    [string(Name), ": {\"parsed\": ", json(Module, Records), Checked, "}"].
+
+%% What the compiler parses of a module, or `refused`.
+parsed(Name) ->
+    File = Name ++ ".asn1",
+    case asn1ct_tok:file(File) of
+        {error, Why} -> refuse(Name, Why);
+        Tokens ->
+            case asn1ct_parser2:parse(File, Tokens) of
+                {ok, Module} -> Module;
+                {error, Why} -> refuse(Name, Why)
+            end
     end.
 
-read(Module, Records) ->
-    File = atom_to_list(Module) ++ ".asn1",
-    case asn1ct:compile(File, [uper, noobj, {i, "."}]) of
-        ok ->
-            {ok, Parsed} = asn1ct_parser2:parse(File, asn1ct_tok:file(File)),
-            {ok, Table} = ets:file2tab(atom_to_list(Module) ++ ".asn1db"),
-            Checked = [{K, V} || {K, V} <- lists:sort(ets:tab2list(Table)), is_tuple(V), tuple_size(V) > 2],
-            [string(Module), ": {\"parsed\": ", json(Parsed, Records), ",\n\"checked\": {",
-                lists:join(",\n", [[string(K), ": ", json(V, Records)] || {K, V} <- Checked]), "}}"];
-        {error, _} ->
-            refused
+refuse(Name, Errors) when is_list(Errors) ->
+    [refuse(Name, Error) || Error <- Errors],
+    refused;
+refuse(Name, {structured_error, {_, Line}, Module, Why}) ->
+    say(Name, Line, Module:format_error(Why));
+refuse(Name, Why) ->
+    say(Name, 0, io_lib:format("~0p", [Why])).
+
+say(Name, Line, Text) ->
+    io:format("~s.asn1:~p: ~s~n", [Name, Line, Text]),
+    refused.
+
+%% What the compiler's check makes of a module, within limits of time and memory.
+checked(Name, {Seconds, Words}) ->
+    erlang:system_flag(max_heap_size, #{size => Words, kill => true, error_logger => false}),
+    {Pid, Reference} = spawn_monitor(fun() -> exit({done, asn1ct:compile(Name ++ ".asn1", [uper, abs, {i, "."}])}) end),
+    receive
+        {'DOWN', Reference, process, Pid, {done, ok}} -> table(Name);
+        {'DOWN', Reference, process, Pid, {done, _}} -> refused;
+        {'DOWN', Reference, process, Pid, killed} -> say(Name, 0, "asn1ct takes too much memory");
+        {'DOWN', Reference, process, Pid, _} -> say(Name, 0, "asn1ct ends in a fault of its own")
+    after Seconds * 1000 ->
+        exit(Pid, kill),
+        say(Name, 0, "asn1ct takes too long")
     end.
+
+table(Name) ->
+    {ok, Table} = ets:file2tab(Name ++ ".asn1db"),
+    {ok, [{K, V} || {K, V} <- lists:sort(ets:tab2list(Table)), is_tuple(V), tuple_size(V) > 2]}.
+
+forms(Module) ->
+    {ok, {_, [{abstract_code, {_, Forms}}]}} = beam_lib:chunks(code:which(Module), [abstract_code]),
+    Forms.
+
+%% Replaces functions of one argument, by the body that is made for each.
+replace(Module, Made, Names) ->
+    Forms = [replaced(Form, Made, Names) || Form <- forms(Module)],
+    {ok, Module, Code} = compile:forms(Forms, []),
+    code:unstick_mod(Module),
+    {module, Module} = code:load_binary(Module, atom_to_list(Module), Code).
+
+replaced({function, Line, Name, 1, _} = Form, Made, Names) ->
+    case lists:member(Name, Names) of
+        true -> {function, Line, Name, 1, [{clause, Line, [{var, Line, '_Given'}], [], [Made(Line)]}]};
+        false -> Form
+    end;
+replaced(Form, _, _) ->
+    Form.
+
+%% What keeps the ranges of numbers, sizes and characters as they are.
+kept_ranges(Line) -> {tuple, Line, [{atom, Line, ranges}, {var, Line, '_Given'}]}.
+
+%% What waits until the compiler has saved what it made.
+saved(Line) ->
+    {block, Line, [{call, Line, {remote, Line, {atom, Line, asn1_db}, {atom, Line, dbstop}}, []}, {atom, Line, done}]}.
 
 %% The fields of the compiler's records, by name and size.
-records() ->
-    {ok, {_, [{abstract_code, {_, Forms}}]}} = beam_lib:chunks(code:which(asn1ct_check), [abstract_code]),
+records(Forms) ->
     maps:from_list([{{Name, length(Fields) + 1}, [field(F) || F <- Fields]} || {attribute, _, record, {Name, Fields}} <- Forms]).
 
 field({typed_record_field, Field, _}) -> field(Field);
@@ -47,23 +114,26 @@ field({record_field, _, {atom, _, Name}}) -> Name;
 field({record_field, _, {atom, _, Name}, _}) -> Name.
 
 json(Value, _) when is_atom(Value) -> string(Value);
-json(Value, _) when is_integer(Value) -> integer_to_list(Value);
-json(Value, _) when is_binary(Value) -> ["{\"b\": ", string(binary_to_list(binary:encode_hex(Value))), "}"];
-json(Value, Records) when is_list(Value) -> ["[", lists:join(",", [json(V, Records) || V <- Value]), "]"];
-json(Value, Records) when is_map(Value) -> ["{\"m\": ", json([[K, V] || {K, V} <- maps:to_list(Value)], Records), "}"];
+json(Value, _) when is_integer(Value) -> integer_to_binary(Value);
+json(Value, _) when is_binary(Value) -> [<<"{\"b\": ">>, string(binary_to_list(binary:encode_hex(Value))), <<"}">>];
+json(Value, Records) when is_list(Value) -> [<<"[">>, lists:join(<<",">>, [json(V, Records) || V <- Value]), <<"]">>];
+json(Value, Records) when is_map(Value) ->
+    [<<"{\"m\": ">>, json([[K, V] || {K, V} <- maps:to_list(Value)], Records), <<"}">>];
 json(Value, Records) when is_tuple(Value) ->
     case tuple_size(Value) > 0 andalso maps:find({element(1, Value), tuple_size(Value)}, Records) of
         {ok, Names} ->
             Fields = lists:zip(Names, tl(tuple_to_list(Value))),
-            ["{\"_\": ", string(element(1, Value)), [[", ", string(N), ": ", json(V, Records)] || {N, V} <- Fields], "}"];
+            More = [[<<", ">>, string(N), <<": ">>, json(V, Records)] || {N, V} <- Fields],
+            [<<"{\"_\": ">>, string(element(1, Value)), More, <<"}">>];
         _ ->
-            ["{\"t\": ", json(tuple_to_list(Value), Records), "}"]
+            [<<"{\"t\": ">>, json(tuple_to_list(Value), Records), <<"}">>]
     end;
 json(Value, _) ->
     string(lists:flatten(io_lib:format("~p", [Value]))).
 
+%% A JSON string, as a binary, which takes less room than its characters.
 string(Value) when is_atom(Value) -> string(atom_to_list(Value));
-string(Value) -> ["\"", [escaped(C) || C <- Value], "\""].
+string(Value) -> iolist_to_binary(["\"", [escaped(C) || C <- Value], "\""]).
 
 escaped($") -> "\\\"";
 escaped($\\) -> "\\\\";

@@ -113,7 +113,7 @@ class Items:
         """Gives the types of a record's or a choice's parts their items."""
         self.expect_few(item.type.parts, item.type.added, MOST)
         for number, part in enumerate(item.type.all_parts):
-            with placed(part.module, part.line):
+            with self.modules.refusals.kept(part.module, part.line):
                 if part.group is not None:
                     part.name, part.use = f"group{number}", Use(Type("SEQUENCE", parts=part.group))
                     self.need(item, part.use, f"{item.key[1]}/Group{number}", part.line)
