@@ -86,7 +86,8 @@ forms(Module) ->
 %% Replaces functions of one argument, by the body that is made for each.
 replace(Module, Made, Names) ->
     Forms = [replaced(Form, Made, Names) || Form <- forms(Module)],
-    {ok, Module, Code} = compile:forms(Forms, []),
+    Quickly = [no_copt, no_ssa_opt, no_type_opt, no_bool_opt, no_share_opt, no_bsm_opt, no_fun_opt, no_recv_opt],
+    {ok, Module, Code} = compile:forms(Forms, Quickly),
     code:unstick_mod(Module),
     {module, Module} = code:load_binary(Module, atom_to_list(Module), Code).
 

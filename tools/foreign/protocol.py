@@ -98,6 +98,7 @@ class Protocol:
         with tempfile.TemporaryDirectory() as room:
             self.modules = Modules(parsed(texts, room))
         self.items = wanted_items(self.modules, call.types, call.crate)
+        self.modules.refusals.end()
         self.shown = Shown(self.items)
         needed = self.needed()
         self.texts = {name: self.without_others(name, text, needed) for name, text in texts.items()}
@@ -156,7 +157,7 @@ class Protocol:
             is_whole = item.has_page or is_limited or not item.type.limits
             is_named = "/" not in item.key[1] and self.modules.defined[item.key]["_"] == "typedef"
             if is_whole and is_named:
-                name = f"Limited{item.rust}" if is_limited else item.rust
+                name = self.items.limited_name(item) if is_limited else item.rust
                 yield Known(number, item, f"{item.crate}::{item.file}::{name}", is_limited)
                 number += 1
 
