@@ -134,12 +134,17 @@ class Agreement:
             theirs = [it for it in theirs if kind(it) == "ComponentType"]
             if of.kind == "SET":    # asn1ct sorts them by their tags
                 ours, theirs = sorted(ours, key=lambda it: it.name), sorted(theirs, key=lambda it: it["name"])
-            elif of.kind == "CHOICE" and where == "the root":
+            elif of.kind == "CHOICE" and where == "the root" and not self.is_automatic(ours):
                 theirs = in_order(theirs)
             names = [it.name for it in ours], [it["name"] for it in theirs]
             self.say(at, where, *names)
             for part, node in zip(ours, theirs) if names[0] == names[1] else []:
                 self.part(part, node, f"{at}.{part.name}")
+
+    def is_automatic(self, parts):
+        """Returns whether alternatives have automatic tags, which asn1ct forgets of a type with parameters that is imported."""
+        is_written = any(part.tags for part in parts)
+        return not is_written and all(self.front[part.module]["parsed"]["tagdefault"] == "AUTOMATIC" for part in parts)
 
     def part(self, part, node, at):
         presence = presence_of(node["prop"])

@@ -6,13 +6,14 @@
 %% FOLDER has a file MODULE.asn1 for each module that is read or imported. OUT, in it, gets one object: for each module its
 %% definitions as they were parsed (`parsed`), with the names of the types that they refer to, and as they were checked
 %% (`checked`), with parameters, constraints, object sets and tags resolved; `checked` is left out where asn1ct refuses the
-%% module, or where its check takes more than SECONDS or WORDS of memory. What it refuses stands on standard output, each on
+%% module, or where its check takes more than SECONDS of a processor or WORDS of memory. What it refuses stands on standard output, each on
 %% a line `MODULE.asn1:LINE: REASON`. A record of the compiler is an object whose `_` is its name; the names of its fields are read
 %% from the compiler's own code, so that no copy of its header file is kept here. Any other tuple is an object with `t`, its
 %% elements. The status is 3 where there is no compiler.
 %%
-%% asn1ct makes one range of a size that has several, and a list of each number of a union. Here it keeps the ranges: three
-%% functions of its check are replaced in memory. It ends behind its check (`abs`), less the listing of what it made.
+%% asn1ct makes one range of a size that has several, and a list of each number of a union, and ends at a fault of its own.
+%% Functions of its check are replaced in memory: here it keeps the ranges, and goes on behind a definition where it ended.
+%% It ends behind its check (`abs`), when it has saved what it made, and doesn't list it.
 -mode(compile).
 
 main([Folder, Out, Seconds, Words | Names]) ->
@@ -21,8 +22,8 @@ main([Folder, Out, Seconds, Words | Names]) ->
         _ -> ok
     end,
     Records = records(forms(asn1ct_check)),
-    replace(asn1ct_check, fun kept_ranges/1, [size_constraint_collapse, single_value_collapse, smart_collapse]),
-    replace(asn1ct, fun saved/1, [abs_listing]),
+    replace(asn1ct_check, in_check()),
+    replace(asn1ct, ["abs_listing(_) -> asn1_db:dbstop(), done."]),
     ok = file:set_cwd(Folder),
     Parsed = [{Name, parsed(Name)} || Name <- Names],
     Limits = {list_to_integer(Seconds), list_to_integer(Words)},
@@ -65,15 +66,27 @@ say(Name, Line, Text) ->
 checked(Name, {Seconds, Words}) ->
     erlang:system_flag(max_heap_size, #{size => Words, kill => true, error_logger => false}),
     {Pid, Reference} = spawn_monitor(fun() -> exit({done, asn1ct:compile(Name ++ ".asn1", [uper, abs, {i, "."}])}) end),
+    ended(Name, Pid, Reference, spent() + Seconds * 1000).
+
+ended(Name, Pid, Reference, Latest) ->
     receive
         {'DOWN', Reference, process, Pid, {done, ok}} -> table(Name);
+        {'DOWN', Reference, process, Pid, {done, {error, {internal_error, _}}}} -> say(Name, 0, "asn1ct ends in a fault of its own");
         {'DOWN', Reference, process, Pid, {done, _}} -> refused;
         {'DOWN', Reference, process, Pid, killed} -> say(Name, 0, "asn1ct takes too much memory");
         {'DOWN', Reference, process, Pid, _} -> say(Name, 0, "asn1ct ends in a fault of its own")
-    after Seconds * 1000 ->
-        exit(Pid, kill),
-        say(Name, 0, "asn1ct takes too long")
+    after 500 ->
+        case spent() > Latest of
+            true ->
+                exit(Pid, kill),
+                say(Name, 0, "asn1ct takes too long");
+            false ->
+                ended(Name, Pid, Reference, Latest)
+        end
     end.
+
+%% The milliseconds of a processor that were taken so far.
+spent() -> element(1, erlang:statistics(runtime)).
 
 table(Name) ->
     {ok, Table} = ets:file2tab(Name ++ ".asn1db"),
@@ -83,28 +96,38 @@ forms(Module) ->
     {ok, {_, [{abstract_code, {_, Forms}}]}} = beam_lib:chunks(code:which(Module), [abstract_code]),
     Forms.
 
-%% Replaces functions of one argument, by the body that is made for each.
-replace(Module, Made, Names) ->
-    Forms = [replaced(Form, Made, Names) || Form <- forms(Module)],
+%% What stands in place of functions of the compiler's check. That of a definition is called as before, by another name.
+in_check() ->
+    Faults = [[Name, "(S, Name, Type) -> try ", Name, "_here(S, Name, Type) catch error:_ -> "
+        "io:format(\"~s.asn1:~p: it ends here in a fault of its own~n\", [S#state.mname, element(3, Type)]), ok end."]
+        || Name <- ["do_checkt", "do_checkv", "do_checkp"]],
+    Ranges = [[Name, "(Ranges) -> {ranges, Ranges}."] ||
+        Name <- ["size_constraint_collapse", "single_value_collapse", "smart_collapse"]],
+    [lists:flatten(Text) || Text <- Faults ++ Ranges].
+
+%% Replaces functions by those of these texts. The former ones are left, with `_here` behind their names.
+replace(Module, Texts) ->
+    New = [function(Text) || Text <- Texts],
+    Names = [{Name, Arity} || {function, _, Name, Arity, _} <- New],
+    {Before, Behind} = lists:splitwith(fun(Form) -> element(1, Form) =/= function end, forms(Module)),
+    Forms = Before ++ New ++ [renamed(Form, Names) || Form <- Behind],
     Quickly = [no_copt, no_ssa_opt, no_type_opt, no_bool_opt, no_share_opt, no_bsm_opt, no_fun_opt, no_recv_opt],
     {ok, Module, Code} = compile:forms(Forms, Quickly),
     code:unstick_mod(Module),
     {module, Module} = code:load_binary(Module, atom_to_list(Module), Code).
 
-replaced({function, Line, Name, 1, _} = Form, Made, Names) ->
-    case lists:member(Name, Names) of
-        true -> {function, Line, Name, 1, [{clause, Line, [{var, Line, '_Given'}], [], [Made(Line)]}]};
-        false -> Form
-    end;
-replaced(Form, _, _) ->
+function(Text) ->
+    {ok, Tokens, _} = erl_scan:string(Text),
+    {ok, Form} = erl_parse:parse_form(Tokens),
     Form.
 
-%% What keeps the ranges of numbers, sizes and characters as they are.
-kept_ranges(Line) -> {tuple, Line, [{atom, Line, ranges}, {var, Line, '_Given'}]}.
-
-%% What waits until the compiler has saved what it made.
-saved(Line) ->
-    {block, Line, [{call, Line, {remote, Line, {atom, Line, asn1_db}, {atom, Line, dbstop}}, []}, {atom, Line, done}]}.
+renamed({function, Line, Name, Arity, Clauses} = Form, Names) ->
+    case lists:member({Name, Arity}, Names) of
+        true -> {function, Line, list_to_atom(atom_to_list(Name) ++ "_here"), Arity, Clauses};
+        false -> Form
+    end;
+renamed(Form, _) ->
+    Form.
 
 %% The fields of the compiler's records, by name and size.
 records(Forms) ->

@@ -12,10 +12,10 @@ HEADER = re.compile(r"^\s*([A-Z][A-Za-z0-9-]*)\s*(?:\{[^{}]*\}\s*)?DEFINITIONS\b
 IMPORTS = re.compile(r"\bIMPORTS\b([^;]*);")
 # What front.escript ends with where there is no asn1ct.
 NO_COMPILER = 3
-# What asn1ct's check of a module may take: seconds, and words of memory (1.2 GB).
-SECONDS, WORDS = 120, 150_000_000
-# Its refusals, and those that say nothing: of what follows from another.
-COMPLAINT = re.compile(r"^(?:.*/)?([A-Z][\w-]*)\.asn1:(\d+): (.*)$")
+# What asn1ct's check of a module may take: seconds of a processor, and words of memory (1.2 GB).
+SECONDS, WORDS = 60, 150_000_000
+# What it says of a line.
+COMPLAINT = re.compile(r"^(?:.*/)?([A-Z][\w-]*)(?:\.asn1)?:(\d+): (.*)$")
 # The type that asn1ct doesn't know, as a definition that it takes: under the tag that X.680 gives to it.
 DATE, DATE_TAG = "DATE ::= [UNIVERSAL 31] IMPLICIT NULL ", ("UNIVERSAL", 31)
 
@@ -126,7 +126,13 @@ def read(modules, folder):
     complaints = complaints_of(ran.stdout, modules)
     if any(name not in front for name in modules):
         raise all_of(complaints)
-    return front, complaints
+    told = {why.place.partition(",")[0] for why in complaints}
+    return front, [*complaints, *(refusal(name, 0, "asn1ct gives no answer") for name in modules if is_silent(front[name], name, told))]
+
+
+def is_silent(read_module, name, told):
+    """Returns whether asn1ct has neither checked a module nor said why, where it said nothing of another."""
+    return "checked" not in read_module and name not in told and not told
 
 
 def complaints_of(said, modules):

@@ -121,6 +121,8 @@ class Modules(Constraints):
         found = self.defined[self.home(module, name), name]
         if found["_"] == "typedef" and kind(found["typespec"]) == "type" and self.is_date(found["typespec"]):
             return Use(Type("DATE"))
+        if found["_"] == "valuedef" and path:
+            raise Refused(f"{name} is a value set, of which asn1ct gives no answer where it is a type")
         return self.use_of(module, name)
 
     def instance(self, definition, module, given, path):
