@@ -36,6 +36,16 @@ def bounds_text(bounds):
     return f"{text}, ..." if marked else text
 
 
+def is_named_bits(of):
+    return of.held_kind == "NAMED BITS"
+
+
+def holds(of, what):
+    """Returns whether a type is what is asked, or holds such a type."""
+    inner = [*(part.use for part in of.all_parts), *filter(None, (of.element, of.contained))]
+    return what(of) or any(holds(use.type, what) for use in inner)
+
+
 def indented(lines, columns):
     return [f"{' ' * columns}{line}" for line in lines]
 
@@ -160,9 +170,15 @@ class Page:
         return of.kind in ("BOOLEAN", "NULL", "ENUMERATED")
 
     def derives(self):
-        if self.is_copy(self.item.type):
+        """Returns the line of what is derived. In a SET OF values are told apart (`Eq`), which named bits alone aren't; what
+        holds such a SET OF isn't compared."""
+        of = self.item.type
+        if self.is_copy(of):
             return "#[derive(Clone, Copy, Debug, PartialEq, Eq)]"
-        return f"#[derive(Debug, Drop, PartialEq{', Eq' * (self.item.key in self.items.held)})]"
+        if holds(of, lambda it: it.kind == "SET OF" and holds(it.element.type, is_named_bits)):
+            return "#[derive(Debug, Drop)]"
+        is_apart = self.item.key in self.items.held and not holds(of, is_named_bits)
+        return f"#[derive(Debug, Drop, PartialEq{', Eq' * is_apart})]"
 
     def doc(self):
         return [f"/// {line}" for line in self.item.text]
