@@ -5,6 +5,8 @@ from notation import kind, parts
 
 OTHER_NAMES = {"ISO646String": "VisibleString", "T61String": "TeletexString"}
 OPEN = ("ObjectClassFieldType", "ASN1_OPEN_TYPE", "ANY")
+# Those of which PER sees no constraint.
+UNSEEN = ("UTF8String", "OPEN", "UTCTime", "GeneralizedTime")
 CLASSES = ("UNIVERSAL", "APPLICATION", "CONTEXT", "PRIVATE")
 
 
@@ -107,7 +109,7 @@ class Agreement:
 
     def limits(self, of, constraints, at):
         """Compares the constraints that PER sees."""
-        if of.kind in ("UTF8String", "OPEN"):
+        if of.kind in UNSEEN:
             return
         value, size, alphabet = self.reading.of(constraints, of.kind)
         self.say(at, "the bounds", bounds_in_words(of.limits.value), bounds_in_words(value))

@@ -15,6 +15,8 @@ LETTERS = {
 # exception, which is none (X.680 53).
 INVISIBLE = ("simpletable", "componentrelation", "contentsconstraint", "WITH COMPONENTS", "WITH COMPONENT", "CONSTRAINED BY",
              "constrained_by", "pattern", "InnerSubtype", "ValueRange", "SingleValue", "Errors")
+# Those of whose characters PER sees no constraint.
+UNSIZED = ("UTCTime", "GeneralizedTime")
 # How a constraint by a type may be written.
 CONTAINED = ("type", "ContainedSubtype")
 OF_NUMBERS = ("ValueRange", "SingleValue", "ALL-EXCEPT", "EXCEPT", "union", "intersection", *CONTAINED)
@@ -151,6 +153,8 @@ class Constraints(Definitions):
             if is_marked(node):     # an alphabet with a marker isn't visible (X.691 10.3.12)
                 found.pop("alphabet", None)
             return {name: (ranges, marked or is_marked(node)) for name, (ranges, marked) in found.items()}
+        if head == "SizeConstraint" and of in UNSIZED:
+            return {}
         if head == "SizeConstraint":
             inner = parts(node)[0]
             return {"size": (common(self.sizes(inner, where), NATURAL), is_marked(inner))}

@@ -79,7 +79,7 @@ class Reading:
         if ends is None:
             return "nothing"
         low, high = (None if abs(it) == INFINITE else it for it in ends)
-        is_any = (low or (0 if which == "size" else None), high) == (0 if which == "size" else None, None)
+        is_any = high is None and (low is None or which == "size" and low == 0)
         return None if is_any and not marked else (low, high, bool(marked))
 
     def alphabet(self, constraints, of):
