@@ -1,18 +1,21 @@
 """Which types get a page, which a name alone, and what each is called; in the order in which they need one another."""
 from dataclasses import dataclass, field
 
-from names import TAKEN, shorter, snake, spec_word, upper_camel
+from constraints import LEAST as LEAST_NUMBER, MOST as MOST_NUMBER, MOST_SIZE
+from names import TAKEN, apart, shorter, snake, spec_word, upper_camel
 from notation import Refused, placed
 from resolve import TEXTS, Type, Use
 from spelling import definition
 
-# Lines of a list on one side of its marker, and items of an ENUMERATED.
-MOST = 48
+# Lines of a list on either side of its marker, and items of an ENUMERATED.
+MOST, MOST_ADDED = 48, 40
 MOST_ITEMS = 256
 WITH_PAGE = ("SEQUENCE", "CHOICE", "ENUMERATED")
 LISTS = ("SEQUENCE OF", "SET OF")
 # Those of which a list can say each default.
-DEFAULTS = ("BOOLEAN", "ENUMERATED", "INTEGER", "BIT STRING", "NAMED BITS", "OCTET STRING")
+DEFAULTS = ("BOOLEAN", "ENUMERATED", "INTEGER", "BIT STRING", "NAMED BITS", "OCTET STRING", "OBJECT IDENTIFIER")
+# Those with named numbers, and the numbers that a constant of a page holds.
+NAMED = {"INTEGER": (LEAST_NUMBER, MOST_NUMBER), "BIT STRING": (0, MOST_SIZE)}
 OTHER_FILES = ("lib", "aliases", "tables")
 
 
@@ -49,13 +52,12 @@ class Item:
 
     def variants(self):
         """Returns the variant of each alternative or item, none twice."""
-        of, taken = self.type, {}
-        for name in [*of.items, *(of.added_items or [])] if of.items else [part.name for part in of.all_parts]:
-            text = upper_camel(name)
-            while text in taken.values():
-                text += "_"
-            taken[name] = text
-        return taken
+        of = self.type
+        return apart([*of.items, *(of.added_items or [])] if of.items else [part.name for part in of.all_parts], upper_camel)
+
+    def fields(self):
+        """Returns the field of each component, none twice."""
+        return apart([part.name for part in self.type.all_parts], snake)
 
 
 class Items:
@@ -63,7 +65,7 @@ class Items:
 
     def __init__(self, modules, crates):
         self.modules, self.crates = modules, crates
-        self.items, self.order = {}, []
+        self.items, self.order, self.held = {}, [], set()
         self.rust_names, self.spec_words = dict.fromkeys(TAKEN), {}
 
     def add(self, use):
@@ -94,34 +96,60 @@ class Items:
         if target:
             self.need(item, target, name, line)
         elif of.kind in LISTS:
-            self.need_element(item, of.element, name, line)
+            self.need_element(item, of, name, line)
         elif of.contained:
             self.need_contents(item, of.contained, name, line)
+        elif of.kind in NAMED:
+            self.expect_named(of)
         elif of.kind == "ENUMERATED":
-            self.expect_few(of.items, of.added_items, MOST_ITEMS)
+            self.expect_few(of.items, of.added_items, MOST_ITEMS, MOST_ITEMS)
         elif of.parts is not None:
             self.need_parts(item)
         self.order.append(item)
         return item
 
     @staticmethod
-    def expect_few(root, added, most):
-        if max(len(root), len(added or [])) > most:
-            raise Refused(f"more than {most} lines of a list on one side of its marker aren't taken")
+    def expect_few(root, added, most, most_added):
+        for side, limit, where in ((root, most, "before"), (added or [], most_added, "behind")):
+            if len(side) > limit:
+                raise Refused(f"{len(side)} lines of a list {where} its marker are more than the {limit} that a page can have")
+
+    @staticmethod
+    def expect_named(of):
+        """Refuses numbers with a name that no constant holds."""
+        least, most = NAMED[of.kind]
+        for name, number in of.names.items():
+            if not least <= number <= most:
+                raise Refused(f"the number of {name} is past those of a page")
+
+    def limited_name(self, item):
+        """Returns the name of a type under its constraints, which no other has."""
+        name = f"Limited{item.rust}"
+        while name in self.rust_names or f"{name[7:]}Limits" in self.rust_names:
+            name += "_"
+        return name
 
     def need_parts(self, item):
         """Gives the types of a record's or a choice's parts their items."""
-        self.expect_few(item.type.parts, item.type.added, MOST)
+        self.expect_few(item.type.parts, item.type.added, MOST, MOST_ADDED)
         for number, part in enumerate(item.type.all_parts):
-            with placed(part.module, part.line):
+            with self.modules.refusals.kept(part.module, part.line):
                 if part.group is not None:
-                    part.name, part.use = f"group{number}", Use(Type("SEQUENCE", parts=part.group))
+                    part.name, part.use = self.group_name(item.type, number), Use(Type("SEQUENCE", parts=part.group))
                     self.need(item, part.use, f"{item.key[1]}/Group{number}", part.line)
                     continue
                 self.need(item, part.use, f"{item.key[1]}/{part.name}", part.line)
                 if part.presence == "default":
                     self.need_default(part)
         item.depth = self.depth_of(item)
+
+    @staticmethod
+    def group_name(of, number):
+        """Returns the name of the group at a place, which no component has."""
+        name, taken = f"group{number}", {part.name for part in of.all_parts if part.group is None}
+        while name in taken:
+            name += "x"
+        return name
 
     @staticmethod
     def need_default(part):
@@ -133,6 +161,8 @@ class Items:
             raise Refused(f"{part.name} has a DEFAULT of {of.held_kind}, which a list can't say")
         if is_text and not all(32 <= code < 127 and chr(code) not in '"\\' for code in default):
             raise Refused(f"{part.name} has a DEFAULT with a character that a list can't say")
+        if of.kind == "INTEGER" and not LEAST_NUMBER <= default <= MOST_NUMBER:
+            raise Refused(f"{part.name} has a DEFAULT past 128 bits with a sign, which isn't taken")
         if not of.limits.hold(default):
             raise Refused(f"{part.name} has a DEFAULT that its constraints don't allow")
 
@@ -145,7 +175,7 @@ class Items:
             found = self.items.get(key) or self.made(key, use.type, line, definition(path.replace("/", "."), use))
             use.item = found
         elif use.type.kind in LISTS:
-            return self.need_element(item, use.type.element, path, line)
+            return self.need_element(item, use.type, path, line)
         elif use.type.contained:
             return self.need_contents(item, use.type.contained, path, line)
         else:
@@ -153,10 +183,13 @@ class Items:
         item.needs.append(found)
         return found
 
-    def need_element(self, item, use, path, line):
+    def need_element(self, item, of, path, line):
         """Gives the elements of a list a name, where they stand under constraints: those of a list have their type's
         alone. The name of a definition of the same crate serves; that of another crate isn't changed for a list here."""
-        return self.need_inner(item, use, f"{path}/Item", f"{path}/Element", line)
+        found = self.need_inner(item, of.element, f"{path}/Item", f"{path}/Element", line)
+        if of.kind == "SET OF":
+            self.hold_in_set(of.element)
+        return found
 
     def need_contents(self, item, use, path, line):
         """Gives what octets contain a name in the same way: it has its type's constraints alone."""
@@ -184,6 +217,17 @@ class Items:
             name = f"{name}{module}" if name[0].isupper() and not name.endswith(module) else f"{name}_2"
         taken[name] = key
         return name
+
+    def hold_in_set(self, use):
+        """Notes the types with a page of which a SET OF is made, whose values are told apart there."""
+        item = self.of(use)
+        if item and item.key in self.held:
+            return
+        if item:
+            self.held.add(item.key)
+        of = use.type
+        for inner in [*(part.use for part in of.all_parts), *filter(None, (of.element, of.contained, item and item.target))]:
+            self.hold_in_set(inner)
 
     def levels(self, use):
         """Returns how many levels a value of the type takes at most; None where that depends on the value."""

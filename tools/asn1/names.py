@@ -26,7 +26,9 @@ Any BitString NamedBits OctetString Integer Ia5String VisibleString PrintableStr
 TeletexString GraphicString GeneralString ObjectIdentifier UtcTime GeneralizedTime Date SetOf SetKind
 SetComponents SetRecord Contains EmptyList Item Octets Text Utf8Text Result Ok Err Vec String Box Drop Clone Copy Debug
 Eq PartialEq Self""".split()
-NOT_ALONE = ("Self", "None", "Some", "Ok", "Err", "Vec", "Option", "Box")
+# The parameters of a page's functions are D and E.
+TAKEN += ["Arcs", "Bits", "D", "E", "Option"]
+NOT_ALONE = ("Self", "None", "Some", "Ok", "Err", "Vec", "Option", "Box", "Type")
 # The toolchain makes names of files of those of types.
 LONGEST = 56
 
@@ -74,6 +76,26 @@ def shorter(name, taken, spell):
         steps = steps[1:]
         if spell("/".join(steps)) not in taken:
             found = spell("/".join(steps))
+    return found
+
+
+def apart(names, spell):
+    """Returns the spelling of each name, none twice."""
+    found = {}
+    for name in names:
+        text = spell(name)
+        while text in found.values():
+            text += "_"
+        found[name] = text
+    return found
+
+
+def untaken(text, taken):
+    """Returns a text, with a number behind it where it is taken, which it is from now on."""
+    found, number = text, 2
+    while found in taken:
+        found, number = f"{text}_{number}", number + 1
+    taken.add(found)
     return found
 
 

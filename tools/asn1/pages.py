@@ -1,13 +1,10 @@
 """The pages of types: for each a file of Rattle, as `docs/SCHEMAS.md` has them."""
-import re
-import textwrap
-
 import templates
 from constraints import LETTERS
-from names import constant, grouped, snake
+from names import constant, grouped
 from resolve import TEXTS
 from templates import filled
-from words import COLUMNS, Imports, fitted, holder, limit_words
+from words import Imports, fitted, holder
 
 # The types of the library that hold those of ASN.1, and the words of their values.
 HELD = {
@@ -26,6 +23,9 @@ TIMES = ("UTCTime", "GeneralizedTime", "DATE")
 LIBRARY = {"Integer", "SetOf", "Constrained", "Contains"}
 LIBRARY |= {HELD[kind] for kind in HELD if kind not in ("BOOLEAN", "NULL", *TIMES)}
 
+# Items that a list of a page has: the macros that read it nest one in another.
+MOST_LISTED = 160
+
 # The module with what a page names.
 PAGE = "rasn_below::page"
 
@@ -34,6 +34,16 @@ def bounds_text(bounds):
     low, high, marked = bounds
     text = f"{'' if low is None else grouped(low)}..{'' if high is None else '=' + grouped(high)}"
     return f"{text}, ..." if marked else text
+
+
+def is_named_bits(of):
+    return of.held_kind == "NAMED BITS"
+
+
+def holds(of, what):
+    """Returns whether a type is what is asked, or holds such a type."""
+    inner = [*(part.use for part in of.all_parts), *filter(None, (of.element, of.contained))]
+    return what(of) or any(holds(use.type, what) for use in inner)
 
 
 def indented(lines, columns):
@@ -46,6 +56,7 @@ class Page:
     def __init__(self, items, item, imports=None):
         self.items, self.item, self.letters = items, item, {}
         self.imports = Imports() if imports is None else imports
+        self.fields = item.fields() if item.type.kind == "SEQUENCE" else {}
 
     def text(self):
         """Returns the page."""
@@ -85,7 +96,7 @@ class Page:
 
     def element(self, use):
         """Returns the type of a list's elements, or of what octets contain: under constraints where they have any."""
-        return self.brought(use.limited, f"Limited{use.limited.rust}") if use.limited else self.rust(use)
+        return self.brought(use.limited, self.items.limited_name(use.limited)) if use.limited else self.rust(use)
 
     def brought(self, item, name):
         """Imports what an item's file has under this name, and returns the name."""
@@ -125,7 +136,7 @@ class Page:
         lines = []
         self.imports.prelude("[]", *["◌∷◌"] * bool(parts))
         for part in parts:
-            field = f"x.{snake(part.name)}"
+            field = f"x.{self.fields[part.name]}"
             if part.is_slot:
                 lines.append(f"        {self.value('slot_of')} {self.content(part.use)} {field} ∷")
             else:
@@ -147,8 +158,8 @@ class Page:
     def levels_of(self, part):
         if not part.is_slot and self.items.levels(part.use) == 0:
             return "0"
-        levels = f"⟦<{self.rust(part.use)} as AsnType>⟧.levels"
-        return f"{self.value('slot_levels')} {levels} x.{snake(part.name)}" if part.is_slot else f"{levels} x.{snake(part.name)}"
+        levels, field = f"⟦<{self.rust(part.use)} as AsnType>⟧.levels", f"x.{self.fields[part.name]}"
+        return f"{self.value('slot_levels')} {levels} {field}" if part.is_slot else f"{levels} {field}"
 
     def is_copy(self, of):
         """Returns whether values of a type can be copied."""
@@ -159,7 +170,15 @@ class Page:
         return of.kind in ("BOOLEAN", "NULL", "ENUMERATED")
 
     def derives(self):
-        return f"#[derive({'Clone, Copy, Debug, PartialEq, Eq' if self.is_copy(self.item.type) else 'Debug, Drop, PartialEq'})]"
+        """Returns the line of what is derived. In a SET OF values are told apart (`Eq`), which named bits alone aren't; what
+        holds such a SET OF isn't compared."""
+        of = self.item.type
+        if self.is_copy(of):
+            return "#[derive(Clone, Copy, Debug, PartialEq, Eq)]"
+        if holds(of, lambda it: it.kind == "SET OF" and holds(it.element.type, is_named_bits)):
+            return "#[derive(Debug, Drop)]"
+        is_apart = self.item.key in self.items.held and not holds(of, is_named_bits)
+        return f"#[derive(Debug, Drop, PartialEq{', Eq' * is_apart})]"
 
     def doc(self):
         return [f"/// {line}" for line in self.item.text]
@@ -180,7 +199,7 @@ class Page:
             rust = f"Option<{rust}>"
         if presence == "default":
             bounds = f"{bounds} DEFAULT {self.default(part)}".strip()
-        return f'{presence} {part.tag} "{part.name}" {snake(part.name)}: {rust} [{bounds}];'
+        return f'{presence} {part.tag} "{part.name}" {self.fields[part.name]}: {rust} [{bounds}];'
 
     def default(self, part):
         """Returns a default as code."""
@@ -193,6 +212,9 @@ class Page:
             return f"Bits([{', '.join('true' if bit == '1' else 'false' for bit in part.normal_default)}])"
         if of.kind == "OCTET STRING":
             return f"Octets([{', '.join(map(str, part.default))}])"
+        if of.kind == "OBJECT IDENTIFIER":
+            self.imports.use("rasn_below", "Arcs")
+            return f"Arcs([{', '.join(map(grouped, part.default))}])"
         if of.kind in TEXTS:
             text = f"\"{''.join(map(chr, part.default))}\""
             return f"Utf8Text({text})" if of.kind == "UTF8String" else f"Text(*b{text})"
@@ -210,7 +232,7 @@ class Page:
         fields = []
         for part in of.all_parts:
             rust = self.rust(part.use)
-            fields.append(f"    pub {snake(part.name)}: {f'Option<{rust}>' if part.is_slot else rust},")
+            fields.append(f"    pub {self.fields[part.name]}: {f'Option<{rust}>' if part.is_slot else rust},")
         self.own_spec(item.lists)
         imports.word("fields_of")
         imports.prelude("refl")
@@ -295,55 +317,31 @@ class Page:
         for side, identifiers in (("root", roots), ("added", added)):
             for place, name in enumerate(identifiers):
                 items.append(f"      | {names[name]} ↦ {self.value('item')} {self.value(side)} {place}")
-        lines = [[f'    "{name}" {names[name]};' for name in side] for side in (roots, added)]
-        marker = ["    ...;"] * (of.added_items is not None)
         counts = f"all_items {len(roots)}" if of.added_items is None else f"extensible_items {len(roots)} {len(added)}"
         imports.word(counts.split()[0])
         self.variants_spec(names.values())
         imports.use(PAGE, "*")
+        is_wide = len(names) > MOST_LISTED
         return filled(
-            templates.ENUMERATED, doc=self.doc(), rust=item.rust, counts=counts, items=items,
-            variants=[f"    {names[name]}," for name in [*roots, *added]], lines=[*lines[0], *marker, *lines[1]],
+            templates.WIDE_ENUMERATED if is_wide else templates.ENUMERATED, doc=self.doc(), rust=item.rust, counts=counts,
+            items=items, variants=[f"    {names[name]}," for name in [*roots, *added]],
+            **(self.wide(names) if is_wide else {"lines": self.item_lines(names)}),
         )
 
-    # Names without a page.
+    def item_lines(self, names):
+        """Returns the lines of a list of items."""
+        of = self.item.type
+        lines = [[f'    "{name}" {names[name]};' for name in side] for side in (of.items, of.added_items or [])]
+        return [*lines[0], *["    ...;"] * (of.added_items is not None), *lines[1]]
 
-    def alias(self):
-        """Returns the lines of a name: for a type under constraints, for a list, for numbers or bits."""
-        item, of = self.item, self.item.type
-        target = self.rust(item.target) if item.target else self.held(of)
-        lines = [*self.doc(), f"pub type {item.rust} = {target};", ""]
-        if LIBRARY & set(re.findall(r"\w+", target)):
-            self.imports.use(PAGE, "*")
-        is_number = of.kind == "INTEGER"
-        width = holder(of.limits).replace("Integer", "i128") if is_number else "usize"
-        is_named_elsewhere = item.target and "/" in item.key[1]
-        for name, number in of.names.items() if of.kind in ("INTEGER", "BIT STRING") and not is_named_elsewhere else []:
-            what = f"`{name}` of {item.rust}." if is_number else f"The place of the bit `{name}` of {item.rust}."
-            lines += [f"/// {what}", f"pub const {constant(item.rust)}_{constant(name)}: {width} = {grouped(number)};", ""]
-        if item.is_limited and of.limits:
-            self.imports.use(PAGE, "*")
-            bounds, words = self.bounds(of.limits), limit_words(of, self.imports)
-            limits = filled(templates.LIMITS, rust=item.rust, constant=constant(item.rust), bounds=bounds, words=words)
-            lines += [*self.letter_lines(), *limits, ""]
-        return lines
-
-
-def alias_file(items, named):
-    """Returns the file of the names that have no page."""
-    imports = Imports()
-    lines = [line for item in named for line in Page(items, item, imports).alias()]
-    about = "Names for types under constraints, for lists, and for numbers and bits."
-    return Page(items, named[0], imports).file(about, lines[:-1])
-
-
-def table_file(modules, of):
-    """Returns the file of the object sets of these modules in which open types look their types up, or None."""
-    lines = []
-    for module, name in sorted(modules.object_sets):
-        for number, what, more in sorted(modules.objects(module, name)) if module in of else []:
-            about = f"In {name}, {number} stands for {what}{f' ({more})' if more else ''}."
-            lines += [*(f"/// {line}" for line in textwrap.wrap(about, COLUMNS - len("/// "))),
-                      f"pub const {constant(name)}_{constant(what)}: u32 = {grouped(number)};", ""]
-    head = ["//! What the values whose types aren't known may hold: the identifiers of each object set, by their types.", ""]
-    return "\n".join([*head, *lines]) if lines else None
+    def wide(self, names):
+        """Returns what the page of more items than a list has is filled with: their places, one by one."""
+        of = self.item.type
+        sides = [("Root", of.items), ("Added", of.added_items or [])]
+        placed = [(f"Place::{side}({place})", names[name]) for side, found in sides for place, name in enumerate(found)]
+        added = "None" if of.added_items is None else f"Some({len(of.added_items)})"
+        return {
+            "roots": str(len(of.items)), "addeds": added, "identifiers": [f'        "{name}",' for name in names],
+            "places": [f"            {self.item.rust}::{variant} => {place}," for place, variant in placed],
+            "at": [f"            {place} => Some({self.item.rust}::{variant})," for place, variant in placed],
+        }

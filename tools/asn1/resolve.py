@@ -1,12 +1,16 @@
 """What the types of ASN.1 modules are: references followed, parameters put in, constraints that PER sees computed, tags
 numbered. All comes from what was parsed; what asn1ct made of the same text is held against it afterwards (agree.py), and
 neither is taken from the other."""
+import contextlib
+import json
 from copy import deepcopy
-from dataclasses import dataclass, field, replace
+from dataclasses import replace
 
-from constraints import LETTERS, Constraints, Limits
-from definitions import Bits
-from notation import Refused, kind, parts, placed
+from constraints import LETTERS, Constraints
+from definitions import Bits, actual_type
+from model import UNREAD, Part, Type, Use
+from notation import Refused, kind, parts, placed, spelled
+from tags import in_order, numbered
 
 PLAIN = {"BOOLEAN", "NULL", "OBJECT IDENTIFIER", "UTCTime", "GeneralizedTime", "UTF8String", "TeletexString", "GraphicString",
          "GeneralString", "DATE", "OCTET STRING", *LETTERS}
@@ -14,114 +18,58 @@ PLAIN = {"BOOLEAN", "NULL", "OBJECT IDENTIFIER", "UTCTime", "GeneralizedTime", "
 TEXTS = ("UTF8String", *LETTERS)
 OTHER_NAMES = {"ISO646String": "VisibleString", "T61String": "TeletexString"}
 MOST_NUMBER = 1 << 31
-# What octets contain that stay octets.
-UNREAD = "unread"
-
-
-@dataclass
-class Type:
-    kind: str               # as in ASN.1: 'INTEGER', 'SEQUENCE', 'SEQUENCE OF'; 'OPEN' for a value whose type isn't known
-    limits: Limits = Limits()
-    names: dict = field(default_factory=dict)   # the numbers of named numbers, bits or items
-    items: list = None      # of an ENUMERATED: the names of its root in the order of X.680 20
-    added_items: list = None    # those behind the marker, where there is one
-    parts: list = None      # the components or alternatives of the root
-    added: list = None      # those behind the marker, where there is one: components and groups
-    element: "Use" = None   # of a list
-    note: str = ""          # of an open type: what it may hold
-    contents: object = None # of octets: the use of the type that they contain, or UNREAD
-
-    @property
-    def all_parts(self):
-        return [*(self.parts or []), *(self.added or [])]
-
-    @property
-    def contained(self):
-        """The use of the type whose value octets are written as, or None."""
-        return None if self.contents is UNREAD else self.contents
-
-    @property
-    def held_kind(self):
-        """Its kind; 'NAMED BITS' for bits with names of which PER leaves out 0 bits at the end (X.680 22.7, X.691 16.2),
-        which changes nothing under a size that is one number."""
-        if self.contained:
-            return "OCTET STRING (CONTAINING)"
-        low, high, marked = self.limits.size or (None, None, True)
-        is_trimmed = self.kind == "BIT STRING" and self.names and (low != high or marked)
-        return "NAMED BITS" if is_trimmed else self.kind
-
-
-@dataclass
-class Use:
-    """A type where it is used: by the name of a definition, or written there, with constraints of its own or none."""
-    type: Type
-    name: tuple = None      # the module and the name of the definition
-    own: bool = False       # whether constraints stand here too
-    tags: list = None       # class and number of each that is written
-    item: object = None     # what it gets of a type that is written here (items.py)
-    limited: object = None  # of a list's elements: the name for them under their constraints
-
-
-@dataclass
-class Part:
-    """A component, an alternative or an addition group."""
-    name: str
-    use: Use
-    module: str
-    line: int
-    presence: str = "required"
-    default: object = None
-    tags: list = None       # those written here
-    tag: int = None         # that which it has
-    group: list = None      # of an addition group: its components
-    place: int = 0          # in the text, among the parts of its list
-
-    @property
-    def is_slot(self):
-        """Whether it may be absent, so that its field is an Option."""
-        return self.presence == "optional" or self.group is not None
-
-    @property
-    def normal_default(self):
-        """Its default; of named bits without 0 bits at their end but those that the size asks for (X.680 22.7, X.691 16.2)."""
-        of = self.use.type
-        if of.held_kind != "NAMED BITS":
-            return self.default
-        return Bits(self.default.rstrip("0").ljust(of.limits.size[0] if of.limits.size else 0, "0"))
+# How deep types with parameters may stand in one another: behind it, they never end.
+DEEPEST = 60
+# What comes of a form of the parser's that is read nowhere here.
+UNKNOWN = (KeyError, TypeError, ValueError, IndexError, AttributeError, StopIteration, RecursionError)
 
 
 class Modules(Constraints):
     """The types of all modules. `given` is what stands for the parameters of the definition that is read, by their names:
-    what was given, and the module and the parameters where it was."""
+    what was given, and the module and the parameters where it was. What is refused of a list's parts is kept in `refusals`,
+    and the other parts are read on. With `sorts` the alternatives of a CHOICE are put into the order of their tags."""
 
-    def __init__(self, front, reads_contents=False):
+    def __init__(self, front, reads_contents=False, sorts=False):
         super().__init__(front)
-        self.cache, self.reads_contents = {}, reads_contents
+        self.cache, self.reads_contents, self.sorts = {}, reads_contents, sorts
+        self.failed, self.instances = {}, []
 
     def use_of(self, module, name):
         """Returns the use of a definition by its name."""
         key = self.home(module, name), name
-        found = self.defined[key]
+        if key in self.failed:
+            raise self.failed[key]
         if key not in self.cache:
-            with placed(key[0], found["pos"]):
-                if found["_"] != "typedef":
-                    raise Refused(f"{name} is no type without parameters")
-                self.cache[key] = None
-                try:
-                    self.cache[key] = self.type(found["typespec"], key[0], {}, (name,))
-                finally:
-                    if self.cache[key] is None:
-                        del self.cache[key]
+            self.read(key)
         if self.cache[key] is None:
             raise Refused(f"{name} holds itself, which needs a page by hand")
         return Use(self.cache[key].type, key, tags=self.cache[key].tags)
 
+    def read(self, key):
+        """Reads a definition into the cache, which has None for it while it is read."""
+        found = self.typespec(*key)
+        self.cache[key] = None
+        try:
+            with placed(key[0], self.defined[key]["pos"]), known_forms(key[1]):
+                if found is None:
+                    raise Refused(f"{key[1]} is no type without parameters")
+                self.cache[key] = self.type(found, key[0], {}, (key[1],))
+        except Refused as why:
+            self.failed[key] = why
+            raise
+        finally:
+            if self.cache[key] is None:
+                del self.cache[key]
+
     def type(self, node, module, given, path=()):
         """Returns the use of a type that is written here."""
         use = self.without_constraints(node["def"], module, given, path)
-        limits = self.limited(use.type.limits, node["constraint"], module, given, use.type.kind)
-        if limits != use.type.limits:
+        before = use.type.limits
+        limits = self.limited(before, node["constraint"], module, given, use.type.kind, use.type.names)
+        if limits != before:
             use = replace(use, type=replace(use.type, limits=limits), own=use.name is not None)
+        elif (limits.numbers, limits.sizes) != (before.numbers, before.sizes):
+            use = replace(use, type=replace(use.type, limits=limits))
         contents = self.contents(use.type, node["constraint"], module, given, path)
         if contents is not use.type.contents:
             of = replace(use.type, contents=contents)
@@ -143,9 +91,7 @@ class Modules(Constraints):
         head = kind(definition)
         head = OTHER_NAMES.get(head, head)
         if head == "Externaltypereference":
-            if definition["type"] in given:
-                return self.type(*given[definition["type"]], path)
-            return self.use_of(definition["module"], definition["type"])
+            return self.reference(definition, given, path)
         if head == "pt":
             return self.instance(definition, module, given, path)
         if head in ("INTEGER", "BIT STRING"):
@@ -154,7 +100,7 @@ class Modules(Constraints):
         if head in PLAIN:
             return Use(Type(head))
         if head == "ENUMERATED":
-            return Use(self.enumerated(parts(definition)[0]))
+            return Use(self.enumerated(parts(definition)[0], given))
         if head == "SEQUENCE":
             return Use(self.record(definition["components"], module, given, path))
         if head == "CHOICE":
@@ -165,7 +111,19 @@ class Modules(Constraints):
             return self.class_field(definition)
         if head in ("ANY", "ASN1_OPEN_TYPE"):
             return Use(Type("OPEN", note="ANY"))
-        raise Refused(f"{'.'.join(path)} is of the type {head}, of which no page is written")
+        raise Refused(f"{'.'.join(path)} is of the type {spelled(definition if parts(definition) else head)}, of which no page is written")
+
+    def reference(self, definition, given, path):
+        """Returns the use of the type that a name stands for."""
+        module, name = definition["module"], definition["type"]
+        if name in given:
+            return self.type(*given[name], path)
+        found = self.defined[self.home(module, name), name]
+        if found["_"] == "typedef" and kind(found["typespec"]) == "type" and self.is_date(found["typespec"]):
+            return Use(Type("DATE"))
+        if found["_"] == "valuedef" and path:
+            raise Refused(f"{name} is a value set, of which asn1ct gives no answer where it is a type")
+        return self.use_of(module, name)
 
     def instance(self, definition, module, given, path):
         """Returns a type with parameters, at what is given for them. Object sets say what an open type may hold, and leave
@@ -179,36 +137,44 @@ class Modules(Constraints):
                 self.note_set(actual, module, given)
             else:
                 is_one = False
-            if kind(actual) == "Externaltypereference":
-                actual = {"_": "type", "tag": [], "def": actual, "constraint": []}
-            inner[dummy.get("type") or dummy.get("value")] = (actual, module, given)
-        if not is_one:
-            return self.type(found["typespec"], home, inner, path)
-        key = home, reference["type"]
-        if key not in self.cache:
-            with placed(home, found["pos"]):
-                self.cache[key] = self.type(found["typespec"], home, inner, (reference["type"],))
-        return Use(self.cache[key].type, key)
+            inner[dummy.get("type") or dummy.get("value")] = self.actual(actual_type(actual), module, given)
+        with once(self.instances, reference["type"], (home, reference["type"], json.dumps([it[:2] for it in inner.values()]))):
+            if not is_one:
+                return self.type(found["typespec"], home, inner, path)
+            key = home, reference["type"]
+            if key not in self.cache:
+                with placed(home, found["pos"]):
+                    self.cache[key] = self.type(found["typespec"], home, inner, (reference["type"],))
+            return Use(self.cache[key].type, key)
+
+    @staticmethod
+    def actual(node, module, given):
+        """Returns what is given for a parameter, and where it stands; behind a parameter that it names alone."""
+        is_bare = kind(node) == "type" and not node["tag"] and not node["constraint"]
+        found = node["def"] if is_bare else node
+        name = found.get("type") or found.get("value") if kind(found) in ("Externaltypereference", "Externalvaluereference") else None
+        return given[name] if name in given else (node, module, given)
 
     def class_field(self, definition):
         """Returns the type of a field of an information object class, or an open type where each object says its own."""
         reference = definition["class"] if kind(definition["class"]) else definition["classname"]
-        name = parts(definition["fieldname"][0])[0]
-        for one in self.find(reference["module"], reference["type"])["typespec"]["fields"]:
+        module, name = reference["module"], parts(definition["fieldname"][0])[0]
+        for one in self.find(module, reference["type"])["typespec"]["fields"]:
             if parts(one)[0] == name:
                 if kind(one) in ("fixedtypevaluefield", "object_or_fixedtypevalue_field"):
-                    return self.type(parts(one)[1], self.home(reference["module"], reference["type"]), {}, (name,))
+                    home = self.home(module, reference["type"]) if reference["type"] != "TYPE-IDENTIFIER" else module
+                    return self.type(parts(one)[1], home, {}, (name,))
                 return Use(Type("OPEN", note=f"{reference['type']}.&{name}"))
         raise Refused(f"{reference['type']} has no field {name}")
 
-    def enumerated(self, nodes):
+    def enumerated(self, nodes, given):
         """Returns the items in the order of X.680 20: those of the root by their numbers, then those behind the marker."""
         sides = [[]]
         for node in nodes:
             if kind(node) == "EXTENSIONMARK":
                 sides.append([])
             else:
-                sides[-1].append([node, None] if isinstance(node, str) else [parts(node)[0], self.number(parts(node)[1], {})])
+                sides[-1].append([node, None] if isinstance(node, str) else [parts(node)[0], self.number(parts(node)[1], given)])
         if len(sides) > 2:
             raise Refused("an ENUMERATED with two markers isn't taken")
         taken = {number for _, number in sides[0]}
@@ -235,20 +201,27 @@ class Modules(Constraints):
             elif head == "ExtensionAdditionGroup":
                 group = []
             elif head == "ExtensionAdditionGroupEnd":
-                sides[-1].append(Part(None, None, module, group[0].line, group=group))
+                sides[-1] += [Part(None, None, module, group[0].line, group=group)] if group else []
                 group = None
             elif head == "ComponentType":
-                with placed(module, node["pos"]):
+                with self.refusals.kept(module, node["pos"]), known_forms(node["name"]):
                     (sides[-1] if group is None else group).append(self.part(node, module, given, path))
             elif head == "COMPONENTS OF":
-                sides[-1] += deepcopy(self.type(parts(node)[0], module, given, path).type.parts)
+                (sides[-1] if group is None else group).extend(self.taken(parts(node)[0], module, given, path))
             else:
-                raise Refused(f"{'.'.join(path)} has a part {head}, which isn't taken")
+                raise Refused(f"{'.'.join(path)} has a part {spelled(node)}, which isn't taken")
         if len(sides) > 3:
             raise Refused(f"{'.'.join(path)} has more than two markers")
         for place, part in enumerate(sum(sides, [])):
             part.place = place
         return sides[0] + sum(sides[2:], []), sides[1] if len(sides) > 1 else None
+
+    def taken(self, node, module, given, path):
+        """Returns what COMPONENTS OF stands for: the components of a type's root (X.680 25.5)."""
+        of = self.type(node, module, given, path).type
+        if of.kind not in ("SEQUENCE", "SET"):
+            raise Refused(f"COMPONENTS OF a {of.kind} isn't taken")
+        return [replace(part, is_taken=True) for part in deepcopy(of.parts)]
 
     def part(self, node, module, given, path):
         use = self.type(node["typespec"], module, given, (*path, node["name"]))
@@ -256,14 +229,15 @@ class Modules(Constraints):
         if node["prop"] == "OPTIONAL":
             part.presence = "optional"
         elif kind(node["prop"]) == "DEFAULT":
-            part.presence, part.default = "default", self.default(parts(node["prop"])[0], use.type)
+            part.presence, part.default = "default", self.default(parts(node["prop"])[0], use.type, given)
         if use.name is None or node["typespec"]["tag"]:
             part.tags = use.tags
         return part
 
-    def default(self, node, of):
-        """Returns a default: a bool, a number, an item's name, bits, octets, or code points; of other types what was parsed."""
-        found = self.value(node, of.names)
+    def default(self, node, of, given=None):
+        """Returns a default: a bool, a number, an item's name, bits, octets, code points, or the numbers of an OBJECT
+        IDENTIFIER; of other types what was parsed."""
+        found = self.value(node, of.names, given)
         if of.kind == "BOOLEAN":
             return found == "true"
         if of.kind == "INTEGER":
@@ -272,6 +246,8 @@ class Modules(Constraints):
             return self.named_bits(found, of) if isinstance(found, list) else self.bits(found)
         if of.kind == "OCTET STRING":
             return self.octets(found)
+        if of.kind == "OBJECT IDENTIFIER":
+            return self.arcs(found)
         return tuple(self.text(found)) if of.kind in TEXTS else found
 
     @staticmethod
@@ -281,29 +257,41 @@ class Modules(Constraints):
         length = max([*(place + 1 for place in places), of.limits.size[0] if of.limits.size else 0])
         return Bits("".join("01"[place in places] for place in range(length)))
 
-    def numbered(self, root, added, module, path):
-        """Gives tags: by place where none is written (X.680 25.7), else those that are."""
-        flat = [*root, *(added or [])]
-        every = [it for part in flat for it in (part.group or [part])]
-        if self.automatic[module] and not any(part.tags for part in every):
-            for parts_there in [flat, *(part.group or [] for part in flat)]:
-                for number, part in enumerate(parts_there):
-                    part.tag = number
-            return
-        for part in every:
-            if not part.tags or part.tags[0][0] != "CONTEXT":
-                raise Refused(f"{'.'.join(path)}.{part.name} has no context-specific tag of its own, which a page can't say")
-            part.tag = part.tags[0][1]
-
     def record(self, nodes, module, given, path):
         root, added = self.listed(nodes, module, given, path)
-        self.numbered(root, added, module, path)
+        numbered(root, added, self.automatic[module])
         return Type("SEQUENCE", parts=root, added=added)
 
     def choice(self, nodes, module, given, path):
         root, added = self.listed(nodes, module, given, path)
         if added is not None:
             added = [it for part in added for it in (part.group or [part])]
-        self.numbered(root, added, module, path)
-        root.sort(key=lambda part: part.tag)
-        return Type("CHOICE", parts=root, added=added)
+        ordered = in_order(root, self.automatic[module])
+        if ordered != root and not self.sorts:
+            raise Refused(f"the tags of {'.'.join(path)}'s alternatives don't ascend: X.691 23.5 sorts them, asn1ct doesn't;"
+                          " --sort takes them sorted")
+        numbered(ordered, added, self.automatic[module])
+        return Type("CHOICE", parts=ordered, added=added)
+
+
+@contextlib.contextmanager
+def once(reading, name, key):
+    """Refuses a type with parameters where it is being read already with the same, or too many are."""
+    if key in reading:
+        raise Refused(f"{name} holds itself, which needs a page by hand")
+    if len(reading) > DEEPEST:
+        raise Refused(f"{name} stands in itself, each time with other parameters, without an end")
+    reading.append(key)
+    try:
+        yield
+    finally:
+        reading.pop()
+
+
+@contextlib.contextmanager
+def known_forms(name):
+    """Refuses what the parser says in a form that is read nowhere here."""
+    try:
+        yield
+    except UNKNOWN as why:
+        raise Refused(f"{name} is written in a form that isn't taken") from why

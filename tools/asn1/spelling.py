@@ -73,8 +73,10 @@ def spelled(use, indent=""):
     return of.kind + named(of.names) + constraint(of, indent)
 
 
-def value(default):
+def value(default, of):
     """Spells a default."""
+    if of.kind == "OBJECT IDENTIFIER":
+        return f"{{{' '.join(map(str, default))}}}"
     if isinstance(default, bool):
         return str(default).upper()
     if isinstance(default, Bits):
@@ -86,16 +88,21 @@ def value(default):
     return "{}" if default == [] else str(default)
 
 
+def tag_of(outer, number):
+    """Spells a tag that is written, with a blank behind it."""
+    return f"[{number}] " if outer == "CONTEXT" else f"[{outer} {number}] "
+
+
 def line_of(part, indent):
     """Spells a component, an alternative or a group."""
     if part.group is not None:
         return f"[[ {', '.join(line_of(it, indent) for it in part.group)} ]]"
-    tag = f"[{part.tag}] " if part.tags else ""
+    tag = tag_of(*part.tags[0]) if part.tags else ""
     text = f"{part.name} {tag}{spelled(part.use, indent)}"
     if part.presence == "optional":
         return f"{text} OPTIONAL"
     if part.presence == "default":
-        return f"{text} DEFAULT {value(part.default)}"
+        return f"{text} DEFAULT {value(part.default, part.use.type)}"
     return text
 
 

@@ -128,18 +128,63 @@ impl Items for @rust@ {
 impl ByKind for @rust@ {}
 """
 
+# More items than a list has, each at its place.
+WIDE_ENUMERATED = """
+@doc@
+#[derive(Clone, Copy, Debug, PartialEq, Eq)]
+pub enum @rust@ {
+@variants@
+}
+
+const ITEMS: ItemLists = ItemLists {
+    counts: ItemCounts { roots: @roots@, addeds: @addeds@ },
+    identifiers: &[
+@identifiers@
+    ],
+};
+
+impl OfKind for @rust@ {
+    type Kind = EnumeratedKind;
+}
+
+impl Items for @rust@ {
+    const ITEMS: ItemLists = ITEMS;
+
+    ghost ITEMS = { @counts@ };
+
+    ghost item = { elim [
+@items@
+    ] };
+
+    fn place(&self) -> Place {
+        match self {
+@places@
+        }
+    }
+
+    fn at(place: Place) -> Option<@rust@> {
+        match place {
+@at@
+            _ => None,
+        }
+    }
+}
+
+impl ByKind for @rust@ {}
+"""
+
 LIMITS = """
 /// `@rust@` under its constraints.
-pub type Limited@rust@ = Constrained<@rust@, @rust@Limits>;
+pub type @limited@ = Constrained<@rust@, @limits@>;
 
 /// The constraints of `@rust@`.
 #[derive(Clone, Copy, Debug, Drop, PartialEq, Eq)]
-pub struct @rust@Limits;
+pub struct @limits@;
 
-const LIMITS_OF_@constant@: &[Constraint] = constraints!(@bounds@);
+const @constant@: &[Constraint] = constraints!(@bounds@);
 
-impl Limits for @rust@Limits {
-    const LIMITS: Constraints = Constraints(LIMITS_OF_@constant@);
+impl Limits for @limits@ {
+    const LIMITS: Constraints = Constraints(@constant@);
 
     ghost LIMITS = { @words@ };
 }

@@ -45,13 +45,15 @@ def wanted_items(modules, types, crates):
     for module, name, crate in placed:
         before = items.crates
         for home, one in modules.types_of(module, name) if name else []:
-            use = modules.use_of(home, one)
-            items.crates = {**before, use.name[0]: crate}
-            items.add(use)
+            with modules.refusals.kept():
+                use = modules.use_of(home, one)
+                items.crates = {**before, use.name[0]: crate}
+                items.add(use)
         items.crates = before if name else {**before, module: crate}
     for word in types.split(","):
         for home, one in modules.types_of(*name_of(word)):
-            items.add(modules.use_of(home, one)).is_limited = True
+            with modules.refusals.kept():
+                items.add(modules.use_of(home, one)).is_limited = True
     return items
 
 

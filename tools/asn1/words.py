@@ -210,6 +210,9 @@ class Schemas:
             imports.prelude("[]", *["◌∷◌"] * bool(value), *{"false", "true"} & {*names})
             word = imports.word("bits" if of.kind == "BIT STRING" else "octets")
             return f"({word} {bracketed(' ∷ '.join([*names, '[]']))})"
+        if of.kind == "OBJECT IDENTIFIER":
+            imports.prelude("[]", "◌∷◌")
+            return f"({imports.word('identifier_value')} ({' ∷ '.join([*map(str, value), '[]'])}))"
         if of.kind in TEXTS:
             imports.prelude("codes")
             word = imports.word("octets" if of.kind == "UTF8String" else "characters")

@@ -46,6 +46,7 @@ def given(words):
     parser = argparse.ArgumentParser()
     parser.add_argument("--types")
     parser.add_argument("--crate", action="append", default=[])
+    parser.add_argument("--sort", action="store_true")
     parser.add_argument("files", nargs="+")
     return parser.parse_args(words)
 
@@ -89,18 +90,20 @@ class Known:
 
 
 class Protocol:
-    """A protocol, or a release of it: the items of a call of the compiler, and the modules that these stand on."""
+    """A protocol, or a release of it: the items of a call of the compiler, and the modules that these stand on. `other` has
+    the texts that asn1ct gets in place of these."""
 
-    def __init__(self, name, words):
+    def __init__(self, name, words, other=None):
         self.name, self.words = name, words
         call = given(words)
         texts = modules_wanted(call.files, call.types, call.crate)
         with tempfile.TemporaryDirectory() as room:
-            self.modules = Modules(parsed(texts, room))
+            self.modules = Modules(parsed(texts, room), sorts=call.sort)
         self.items = wanted_items(self.modules, call.types, call.crate)
+        self.modules.refusals.end()
         self.shown = Shown(self.items)
         needed = self.needed()
-        self.texts = {name: self.without_others(name, text, needed) for name, text in texts.items()}
+        self.texts = other or {name: self.without_others(name, text, needed) for name, text in texts.items()}
         self.identifiers = frozenset(self.taken_identifiers())
         self.known = [*self.known_types()]
 
@@ -156,7 +159,7 @@ class Protocol:
             is_whole = item.has_page or is_limited or not item.type.limits
             is_named = "/" not in item.key[1] and self.modules.defined[item.key]["_"] == "typedef"
             if is_whole and is_named:
-                name = f"Limited{item.rust}" if is_limited else item.rust
+                name = self.items.limited_name(item) if is_limited else item.rust
                 yield Known(number, item, f"{item.crate}::{item.file}::{name}", is_limited)
                 number += 1
 

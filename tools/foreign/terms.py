@@ -1,6 +1,5 @@
 """Values as asn1ct takes them, and as the program in Rattle shows them."""
 from constraints import LETTERS
-from names import snake
 from pages import HELD
 from values import default_of
 from words import holder
@@ -76,7 +75,8 @@ class Shown:
         if of.kind == "CHOICE":
             part, variant = part_named(of, value[0]), item.variants()[value[0]]
             return variant if part.use.type.kind == "NULL" else f"{variant}({self.of_use(part.use, value[1])})"
-        found = [f"{snake(part.name)}: {self.of_part(part, of, value)}" for part in of.all_parts]
+        names = item.fields()
+        found = [f"{names[part.name]}: {self.of_part(part, of, value)}" for part in of.all_parts]
         return f"{item.rust} {{ {', '.join(found)} }}" if found else item.rust
 
     def of_part(self, part, of, value):
