@@ -10,7 +10,8 @@ use Rattle.rasn_schema.specs.Schemas
 use Rattle.rasn_schema.specs.Schemas.{leaf, required, optional, Schema, Parts, no_parts, part, TagTree}
 use Rattle.rasn_schema.specs.Fields.{tag_of}
 use Rattle.rasn_schema.specs.Records.{AtParts}
-use Rattle.rasn_traits.specs.Calls.{AtDepths, EncoderRules, PresentsWell, Written}
+use Rattle.rasn_schema.specs.AtDepths.{AtDepths}
+use Rattle.rasn_traits.specs.Calls.{EncoderRules, PresentsWell, Written}
 use Rattle.rasn_traits.specs.Optionals.{GivesPresence}
 use Rattle.rasn_traits.specs.Scopes.{PresentsPart, PresentsParts, presents_end, presents_next, presents_required, presents_there, presents_left_out, refuses_here, refuses_behind, refuses_required, refuses_there, refuses_bit, WrittenPart, WrittenParts}
 use Rattle.rasn_traits.proofs.Writing.{parts_room}

@@ -1,3 +1,4 @@
+pub mod Choosing
 pub mod Components
 pub mod Elements
 pub mod Levelled

@@ -5,6 +5,7 @@ use Rattle.rasn_types.specs.Values
 use Rattle.rasn_types.specs.Values.{Value as Content, slots}
 use Rattle.rasn_constraints.specs.Bounds.{Size}
 use Rattle.rasn_constraints.specs.declared.constraints.Constraints.{Constraints}
+use Rattle.rasn_schema.specs.Choices.{one_level_in}
 use Rattle.rasn_schema.specs.Forms.{always, is_size_marked, size_of}
 use Rattle.rasn_schema.specs.Lists.{list_at}
 use Rattle.rasn_schema.specs.Normal.{normal}
@@ -17,11 +18,14 @@ use Rattle.rasn_schema.specs.declared.items.ItemCounts.{ItemCounts}
 use Rattle.rasn_schema.specs.declared.items.Place.{Place}
 use Rattle.rasn_schema.specs.declared.items.Place.TheVariants.{Root, Added}
 use Rattle.rasn_traits.specs.Counted.{all_may_be, is_of_kind, item_at, stands_in, WritesOther}
+use Rattle.rasn_dynamic.specs.declared.types.Choice.{Choice}
 use Rattle.rasn_dynamic.specs.declared.types.Kind.{Kind}
-use Rattle.rasn_dynamic.specs.declared.types.Kind.TheVariants.{Simple as SimpleKind, List as ListKind, Record}
+use Rattle.rasn_dynamic.specs.declared.types.Kind.TheVariants.{Simple as SimpleKind, List as ListKind, Record, Choice as ChoiceKind}
 use Rattle.rasn_dynamic.specs.declared.types.Simple.{Simple}
-use Rattle.rasn_dynamic.specs.Types.{at_place, kind_in, parts_at, schema_at, simple_schema}
-use Rattle.rasn_dynamic.specs.Values.{NotElements, NotFields}
+use Rattle.rasn_dynamic.specs.Types.{at_place, choice_of, kind_in, parts_at, schema_at, simple_schema}
+use Rattle.rasn_dynamic.specs.declared.values.Value.{Value}
+use Rattle.rasn_dynamic.specs.Values.{levels_of, NotElements, NotFields, value_of}
+use Rattle.rasn_dynamic.proofs.Trees.{not_cut}
 
 -- what a kind is to a number of levels, by the schemas of a table
 abbrev pub kind_at : List Kind → Kind → ℕ → Schema
@@ -46,6 +50,10 @@ pub record_there : (ts : List Kind) (i : ℕ) (v : _) → slice_get ts i ≡ Som
 record_there ts i v e zero = place_there ts i (Record v) e zero
 record_there ts i v e (suc n) = place_there ts i (Record v) e (suc n)
 
+pub choice_there : (ts : List Kind) (i : ℕ) (c : Choice) → slice_get ts i ≡ Some (ChoiceKind c) → (n : ℕ) → schema_at ts i n ≡ one_level_in (choice_of ts c) n
+choice_there ts i c e zero = place_there ts i (ChoiceKind c) e zero
+choice_there ts i c e (suc n) = place_there ts i (ChoiceKind c) e (suc n)
+
 pub none_there : (ts : List Kind) (i : ℕ) → slice_get ts i ≡ None → (n : ℕ) → schema_at ts i n ≡ Schemas.real
 unfolding schema_at
 none_there ts i e zero = ap (at_place (kind_in (λ j. Schemas.cut) zero)) e
@@ -65,6 +73,11 @@ module _ {E X : Type 0} {rules : EncoderRules E X} where
   other_refused F k v x (Ok u) y w h = absurd w.law
   other_refused F k v x (Err e) y w h = record { law = record { at = λ n le. inr (w.law (F n) (normal (F n) v) (h n)) }; behaves = w.behaves }
 
+  -- and at the depths that hold it
+  pub other_refused_within : (F : ℕ → Schema) (k : ℕ) (v : Content) (x : X) (r : Result (Unit {0}) E) (y : X) → WritesOther rules x r y → ((n : ℕ) → k ≤ n → is_of_kind (F n) (normal (F n) v) ≡ false) → Encodes rules F k v x r y
+  other_refused_within F k v x (Ok u) y w h = absurd w.law
+  other_refused_within F k v x (Err e) y w h = record { law = record { at = λ n le. inr (w.law (F n) (normal (F n) v) (h n le)) }; behaves = w.behaves }
+
 -- what is written without memory is written
 pub null_written : {E X : Type 0} (rules : EncoderRules E X) (s : Schema) (v : Content) (x : X) (r : Result (Unit {0}) E) (y : X) → Written (without_memory rules) s v x r y → Written rules s v x r y
 null_written rules s v x (Ok u) y h = h
@@ -81,10 +94,10 @@ no_item c (Root i) e = e
 no_item c (Added i) e = e
 
 -- values that aren't of a list
-pub no_list : (F : ℕ → Schema) (z : Size) (m : Bool) (v : Content) → NotElements v → (n : ℕ) → is_of_kind (list_at F z m n) (normal (list_at F z m n) v) ≡ false
+pub no_list : (F : ℕ → Schema) (z : Size) (m : Bool) (v : Value) → NotElements (value_of v) → (n : ℕ) → levels_of v ≤ n → is_of_kind (list_at F z m n) (normal (list_at F z m n) (value_of v)) ≡ false
 unfolding normal
-no_list F z m v e zero = refl
-no_list F z m v e (suc n) = go v (e (F n) z m)
+no_list F z m v e zero le = not_cut v le
+no_list F z m v e (suc n) le = go (value_of v) (e (F n) z m)
   where
     go : (w : Content) → is_of_kind (Schemas.list (F n) z m) w ≡ false → is_of_kind (Schemas.list (F n) z m) (normal (Schemas.list (F n) z m) w) ≡ false
     go (Values.elements vs) f = absurd (cc)
@@ -105,10 +118,10 @@ no_fields rs xs m f =
     let e : true ≡ false = sym (ap₂ (λ a b. a && b) (fitting (slots rs)) (fitting (slots xs))) ∙ f (parts_for (slots rs)) (parts_for (slots xs)) in
     absurd (cc)
 
-pub no_record : (P Q : ℕ → Parts) (m : Bool) (v : Content) → NotFields v → (n : ℕ) → is_of_kind (record_at listed P m Q n) (normal (record_at listed P m Q n) v) ≡ false
+pub no_record : (P Q : ℕ → Parts) (m : Bool) (v : Value) → NotFields (value_of v) → (n : ℕ) → levels_of v ≤ n → is_of_kind (record_at listed P m Q n) (normal (record_at listed P m Q n) (value_of v)) ≡ false
 unfolding normal
-no_record P Q m v e zero = refl
-no_record P Q m v e (suc n) = record_other (P n) (Q n) m v (λ ps qs. e listed ps qs m)
+no_record P Q m v e zero le = not_cut v le
+no_record P Q m v e (suc n) le = record_other (P n) (Q n) m (value_of v) (λ ps qs. e listed ps qs m)
   where
     record_other : (ps qs : Parts) (m : Bool) (w : Content) → ((us vs : Parts) → is_of_kind (Schemas.sequence listed us m vs) w ≡ false) → is_of_kind (Schemas.sequence listed ps m qs) (normal (Schemas.sequence listed ps m qs) w) ≡ false
     record_other ps qs m (Values.fields rs xs) f = absurd (no_fields rs xs m f)

@@ -1,9 +1,11 @@
 -- What a run-time value is, by its outermost level.
-use Rattle.std.proofs.Common.{◌≡◌, refl, sym, ap, ap₂, ◌∙◌, subst, ℕ, suc, Bool, true, false, List, [], ◌∷◌, map, Option, Some, None}
+use Rattle.std.proofs.Common.{◌≡◌, refl, sym, ap, ap₂, ◌∙◌, subst, ℕ, suc, ◌≤◌, Bool, true, false, List, [], ◌∷◌, map, Option, Some, None, arith}
 use Rattle.std.specs.Prelude.{max}
-use Rattle.rasn_types.specs.Values.{Value as Content, bag_of}
+use Rattle.rasn_types.specs.Values.{Value as Content, alternative, bag_of}
 use Rattle.rasn_schema.specs.Lists.{deepest, list_value}
 use Rattle.rasn_schema.specs.Records.{record_value}
+use Rattle.rasn_schema.specs.Schemas
+use Rattle.rasn_traits.specs.Counted.{index_in, is_of_kind, side_of}
 use Rattle.rasn_dynamic.specs.declared.values.Value.{Value}
 use Rattle.rasn_dynamic.specs.declared.values.Value.TheOpen.{Value-F, Absent, Boolean, Null, Integer, Item, Octets, Bits, Characters, Elements, Bag, Fields, Alternative}
 use Rattle.rasn_dynamic.specs.declared.values.Value.TheViews
@@ -162,6 +164,27 @@ fields_value v x e = ap value_of e ∙ ap there (roll_slot (Fields x))
 
 pub fields_levels : (v : Value) (x : _) → v ≡ roll-Value (Fields x) → levels_of v ≡ suc (deepest levels_of x.items)
 fields_levels v x e = ap levels_of e ∙ roll_levels (Fields x) ∙ ap suc (deepest_there x.items)
+
+pub alternative_value : (v : Value) (p x : _) → v ≡ roll-Value (Alternative p x) → value_of v ≡ alternative (side_of p) (index_in p) (value_of x.value)
+alternative_value v p x e = ap value_of e ∙ ap there (roll_slot (Alternative p x))
+
+pub alternative_levels : (v : Value) (p x : _) → v ≡ roll-Value (Alternative p x) → levels_of v ≡ suc (levels_of x.value)
+alternative_levels v p x e = ap levels_of e ∙ roll_levels (Alternative p x)
+
+pub alternative_slot : (p x : _) → slot_of (TheViews.Alternative p x) ≡ Some (alternative (side_of p) (index_in p) (value_of x.value))
+alternative_slot p x = ap slot_of (sym (rolls-Alternative p x)) ∙ roll_slot (Alternative p x)
+
+-- a value that takes no level isn't one that is cut off
+abbrev Uncut : Value → Type 0
+Uncut v = levels_of v ≤ 0 → is_of_kind Schemas.cut (value_of v) ≡ false
+
+uncut_roll : (x : Value-F Value) → Uncut (roll-Value x)
+unfolding bag_of
+uncut_roll (Fields y) h = absurd (omega (arith, h, fields_levels (roll-Value (Fields y)) y refl))
+uncut_roll x h = subst (λ v. is_of_kind Schemas.cut v ≡ false) (sym (ap there (roll_slot x))) refl
+
+pub not_cut : (v : Value) → levels_of v ≤ 0 → is_of_kind Schemas.cut (value_of v) ≡ false
+not_cut = ind-Value Uncut (λ x y is. uncut_roll x)
 
 pub absent_slot : slot_of TheVariants.Absent ≡ None
 absent_slot = ap slot_of (sym rolls-Absent) ∙ roll_slot Absent

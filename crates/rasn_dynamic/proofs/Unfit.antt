@@ -1,5 +1,5 @@
 -- A record whose components aren't those of its type is refused.
-use Rattle.std.proofs.Common.{◌≡◌, refl, sym, ap, ap₂, ◌∙◌, ℕ, zero, suc, ◌+◌, ◌⊎◌, inl, inr, Bool, true, false, Result, Err, List, [], ◌∷◌, Option, Some, None}
+use Rattle.std.proofs.Common.{◌≡◌, refl, sym, ap, ap₂, ◌∙◌, ℕ, zero, suc, ◌+◌, ◌≤◌, ◌⊎◌, inl, inr, Bool, true, false, Result, Err, List, [], ◌∷◌, Option, Some, None, arith}
 use Rattle.std.specs.Prelude.{◌&&◌, cond, count_by, option_map}
 use Rattle.std.proofs.lemmas.List.Sums.{sum_by-cons}
 use Rattle.rasn_types.specs.Values.{Value as Content, as_slots, slots}
@@ -10,7 +10,8 @@ use Rattle.rasn_schema.specs.Normal.{normal, normals, settle}
 use Rattle.rasn_schema.specs.Records.{no_additions, record_at, record_value}
 use Rattle.rasn_schema.specs.Schemas
 use Rattle.rasn_schema.specs.Schemas.{leaf, listed, Parts, part, Schema}
-use Rattle.rasn_traits.specs.Calls.{AtDepths, EncoderRules, Written}
+use Rattle.rasn_schema.specs.AtDepths.{AtDepths}
+use Rattle.rasn_traits.specs.Calls.{EncoderRules, Written}
 use Rattle.rasn_traits.specs.Counted.{all_may_be, AreCounted, is_of_kind, may_be}
 use Rattle.rasn_traits.proofs.Writing.{at_suc, normal-ordered}
 use Rattle.rasn_dynamic.specs.declared.types.Component.{Component}
@@ -43,9 +44,9 @@ left_false : (c d : Bool) → c ≡ false → (c && d) ≡ false
 left_false c d e = ap (λ z. z && d) e
 
 pub unfit : (ts : List Kind) (cs : List Component) (os : List (Option Content)) → fit cs os ≡ false
-    → (n : ℕ) → is_of_kind (record_at listed (parts_at ts cs) false no_additions n) (normal (record_at listed (parts_at ts cs) false no_additions n) (record_value os [])) ≡ false
-unfit ts cs os e zero = refl
-unfit ts cs os e (suc n) =
+    → (k n : ℕ) → suc k ≤ n → is_of_kind (record_at listed (parts_at ts cs) false no_additions n) (normal (record_at listed (parts_at ts cs) false no_additions n) (record_value os [])) ≡ false
+unfit ts cs os e k zero le = absurd (omega (arith, le))
+unfit ts cs os e k (suc n) le =
     let ps = parts_at ts cs n in
     ap (is_of_kind (Schemas.sequence listed ps false Schemas.no_parts)) (normal-ordered listed ps false Schemas.no_parts os [])
     ∙ ap (λ a. all_may_be ps a && all_may_be Schemas.no_parts (slots (as_slots (normals Schemas.no_parts [])))) (slots-as_slots (normals ps os))

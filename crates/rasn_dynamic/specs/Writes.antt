@@ -1,15 +1,21 @@
 -- What the calls owe that write components of a table of types.
-use Rattle.std.specs.Prelude.{◌≡◌, ℕ, Bool, true, false, ◌&&◌, List, [], ◌∷◌, Option, Some, None, Result, OnErr}
-use Rattle.std.specs.Prelude.{option_map}
-use Rattle.rasn_types.specs.Values.{Value}
+use Rattle.std.specs.Prelude.{◌≡◌, ℕ, Bool, true, false, ◌&&◌, List, [], ◌∷◌, Option, Some, None}
+use Rattle.std.specs.Prelude.{Result, Ok, Err, OnErr, option_map}
+use Rattle.rasn_types.specs.Values.{Side, Value}
 use Rattle.rasn_schema.specs.Normal.{normal}
 use Rattle.rasn_schema.specs.Schemas
 use Rattle.rasn_schema.specs.Schemas.{Schema}
-use Rattle.rasn_traits.specs.Calls.{AtDepths, EncoderRules}
+use Rattle.rasn_schema.specs.AtDepths.{AtDepths}
+use Rattle.rasn_traits.specs.Calls.{EncoderRules}
+use Rattle.rasn_traits.specs.Counted.{OpensPlaced}
 use Rattle.rasn_traits.specs.Scopes.{WrittenPart}
+use Rattle.rasn_schema.specs.declared.items.Place.{Place}
+use Rattle.rasn_dynamic.specs.declared.types.Alternative.{Alternative}
+use Rattle.rasn_dynamic.specs.declared.types.Choice.{Choice}
 use Rattle.rasn_dynamic.specs.declared.types.Component.{Component}
 use Rattle.rasn_dynamic.specs.declared.types.Presence.{Presence}
 use Rattle.rasn_dynamic.specs.declared.types.Presence.TheVariants.{Required, Optional}
+use Rattle.rasn_dynamic.specs.Types.{alternative_counts, standing}
 
 -- whether a component may be absent, or there, as it is
 abbrev pub may_stand : Presence → Option Value → Bool
@@ -31,3 +37,13 @@ pub record WritesOne {E X : Type 0} (rules : EncoderRules E X) (p : Schemas.Pres
   pub law : AtDepths schema k (λ s. WrittenPart rules p s (option_map (normal s) slot) x result y)
   pub fails : OnErr result (rules.failed y ≡ true)
   pub kept : rules.codec y ≡ rules.codec x
+
+-- A call that opens a choice of a table to write its alternative at a place: Ok answers the place of the type of that
+-- too; where no alternative stands at the place it is none, and nothing changes.
+abbrev pub OpensChosen : {E X O : Type 0} → EncoderRules E X → (Schema → Side → ℕ → X → O → X → Type 0) → Choice
+    → Place → X → Result (Option (ℕ × O)) E → X → Type 0
+OpensChosen rules opens c p x (Ok None) y = (standing c p ≡ None) × (y ≡ x)
+OpensChosen rules opens c p x (Ok (Some r)) y = (a : Alternative) × (standing c p ≡ Some a) × (r.0 ≡ a.of)
+    × OpensPlaced rules opens (alternative_counts c) p x (Ok r.1) y
+OpensChosen {O = O} rules opens c p x (Err e) y = (a : Alternative) × (standing c p ≡ Some a)
+    × OpensPlaced {O = O} rules opens (alternative_counts c) p x (Err e) y

@@ -1,20 +1,23 @@
 //! How values are read by a table of types.
 
-ghost use Rattle.std.specs.Prelude.{◌≡◌, ◌++◌, ◌∷◌, [], true, false, map, slice_get, Some};
+ghost use Rattle.std.specs.Prelude.{◌≡◌, ◌++◌, ◌∷◌, [], true, false, map, slice_get, IfSome, Some};
+ghost use Rattle.rasn_schema.specs.Choices.{one_level_in};
 ghost use Rattle.rasn_schema.specs.Forms.{is_size_marked, size_of};
 ghost use Rattle.rasn_schema.specs.Lists.{list_at, list_value};
 ghost use Rattle.rasn_schema.specs.Records.{no_additions, record_at};
 ghost use Rattle.rasn_schema.specs.Schemas.{listed, optional};
+ghost use Rattle.rasn_traits.specs.Boxes.{Holds};
 ghost use Rattle.rasn_traits.specs.Calls.{Reads};
 ghost use Rattle.rasn_traits.specs.Optionals.{ReadsComponent};
 ghost use Rattle.rasn_traits.specs.Scopes.{TakesParts};
-ghost use Rattle.rasn_dynamic.specs.Reads.{ReadsValue};
-ghost use Rattle.rasn_dynamic.specs.Types.{parts_at, presence_of, schema_at};
+ghost use Rattle.rasn_dynamic.specs.Reads.{ReadsBoxed, ReadsValue};
+ghost use Rattle.rasn_dynamic.specs.Types.{choice_of, parts_at, presence_of, schema_at, standing};
 ghost use Rattle.rasn_dynamic.specs.Values.{slot_of, value_of};
 
 use crate::read_simple::{decode_nothing, decode_simple};
-use crate::types::{Component, Kind, Presence, kind_at, presence_bit_count};
+use crate::types::{Choice, Component, Kind, Presence, kind_at, presence_bit_count};
 use crate::values::Value;
+use rasn_schema::items::Place;
 use rasn_schema::schema::Constraints;
 use rasn_traits::counted::CountedDecoder;
 use rasn_types::types::Tag;
@@ -51,6 +54,7 @@ fn decode_kind<D: CountedDecoder>(
         Kind::Simple(simple) => decode_simple(decoder, simple),
         Kind::List(of, constraints) => decode_list(decoder, kinds, *of, constraints),
         Kind::Record(components) => decode_record(decoder, kinds, components),
+        Kind::Choice(choice) => decode_choice(decoder, kinds, choice),
     }
 }
 
@@ -160,6 +164,64 @@ fn decode_optional<D: CountedDecoder>(
         return Ok(Value::Absent);
     }
     decode_value(decoder, kinds, place)
+}
+
+/// Reads a CHOICE.
+#[cycle(reading)]
+fn decode_choice<D: CountedDecoder>(
+    decoder: &mut D,
+    kinds: &[Kind],
+    choice: &Choice,
+) -> Result<Value, D::Error>
+    ensures { ReadsValue D.rules (one_level_in (choice_of kinds.now choice.now) (D.rules.levels decoder.old))
+        decoder.old result decoder.new }
+{
+    let counts = choice.counts();
+    let (place, outside) = decoder.open_alternative(Tag::EOC, counts)?;
+    let value = decode_chosen(decoder, kinds, choice, place)?;
+    decoder.close_choice(outside)?;
+    Ok(Value::Alternative(place, value))
+}
+
+/// Reads the value of the alternative at a place, where one stands there.
+#[cycle(reading)]
+fn decode_chosen<D: CountedDecoder>(
+    decoder: &mut D,
+    kinds: &[Kind],
+    choice: &Choice,
+    place: Place,
+) -> Result<Box<Value>, D::Error>
+    ensures { IfSome (standing choice.now place) (λ a. ReadsBoxed D.rules
+        (schema_at kinds.now a.of (D.rules.levels decoder.old)) decoder.old result decoder.new) }
+{
+    match choice.at(place) {
+        Some(alternative) => decode_boxed(decoder, kinds, alternative.of),
+        None => Err(decoder.out_of_memory()),
+    }
+}
+
+/// Reads a value into a box.
+#[cycle(reading)]
+fn decode_boxed<D: CountedDecoder>(
+    decoder: &mut D,
+    kinds: &[Kind],
+    place: usize,
+) -> Result<Box<Value>, D::Error>
+    ensures { ReadsBoxed D.rules (schema_at kinds.now place (D.rules.levels decoder.old))
+        decoder.old result decoder.new }
+{
+    let value = decode_value(decoder, kinds, place)?;
+    boxed(decoder, value)
+}
+
+/// The box of a value that was read, in memory of the decoder's.
+fn boxed<D: CountedDecoder>(decoder: &mut D, value: Value) -> Result<Box<Value>, D::Error>
+    ensures { Holds D.rules (λ b. b.value) value decoder.old result decoder.new }
+{
+    match Box::new(decoder.alloc(), value) {
+        Ok(boxed) => Ok(boxed),
+        Err(_) => Err(decoder.out_of_memory()),
+    }
 }
 
 /// Puts a value behind others, where there is memory for it.

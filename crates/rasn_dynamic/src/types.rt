@@ -1,10 +1,10 @@
 //! A table of types: what each type is, with the places in the table of the types that stand in it.
 
-ghost use Rattle.std.specs.Prelude.{◌≡◌, ℕ, count_by, option_map, slice_get};
+ghost use Rattle.std.specs.Prelude.{◌≡◌, ℕ, MatchOption, None, Some, count_by, option_map, slice_get};
 ghost use Rattle.rasn_schema.specs.Levels.{Levelled};
-ghost use Rattle.rasn_dynamic.specs.Types.{counts_of, is_not_required, schema_at};
+ghost use Rattle.rasn_dynamic.specs.Types.{alternative_counts, behind, counts_of, is_not_required, schema_at, standing};
 
-use rasn_schema::items::ItemCounts;
+use rasn_schema::items::{ItemCounts, Place};
 use rasn_schema::schema::Constraints;
 use rasn_types::types::Tag;
 
@@ -60,6 +60,26 @@ pub struct Component {
     pub of: usize,
 }
 
+/// An alternative of a CHOICE.
+#[derive(Drop)]
+pub struct Alternative {
+    /// Its name.
+    pub name: String,
+    /// Its tag: of an untagged CHOICE the smallest of its root alternatives (X.691 23.5).
+    pub tag: Tag,
+    /// The place of its type.
+    pub of: usize,
+}
+
+/// The alternatives of a CHOICE (X.680 29), each list in the order of their indexes (X.691 23.5).
+#[derive(Drop)]
+pub struct Choice {
+    /// Those before the extension marker.
+    pub roots: Vec<Alternative>,
+    /// Those after it, where there is one.
+    pub addeds: Option<Vec<Alternative>>,
+}
+
 /// What a type is.
 #[derive(Drop)]
 pub enum Kind {
@@ -69,6 +89,8 @@ pub enum Kind {
     List(usize, Constraints),
     /// SEQUENCE (X.691 19) without an extension marker.
     Record(Vec<Component>),
+    /// CHOICE (X.691 23).
+    Choice(Choice),
 }
 
 /// A table of types.
@@ -111,6 +133,40 @@ impl Items {
         ItemCounts {
             roots: self.roots.len(),
             addeds,
+        }
+    }
+}
+
+impl Choice {
+    /// How many alternatives there are before the extension marker, and how many behind it.
+    pub fn counts(&self) -> ItemCounts
+        ensures { result ≡ alternative_counts self.now }
+    {
+        let addeds = match &self.addeds {
+            Some(alternatives) => Some(alternatives.len()),
+            None => None,
+        };
+        let roots = self.roots.len();
+        ItemCounts { roots, addeds }
+    }
+
+    /// The alternatives behind the extension marker, of which there are none without one.
+    pub fn behind(&self) -> &[Alternative]
+        ensures { result.now ≡ behind self.now.addeds }
+    {
+        match &self.addeds {
+            Some(alternatives) => alternatives,
+            None => &[],
+        }
+    }
+
+    /// The alternative at a place, where one stands there.
+    pub fn at(&self, place: Place) -> Option<&Alternative>
+        ensures { MatchOption result (standing self.now place ≡ None) (λ a. standing self.now place ≡ Some a.now) }
+    {
+        match place {
+            Place::Root(index) => self.roots.get(index),
+            Place::Added(index) => self.behind().get(index),
         }
     }
 }

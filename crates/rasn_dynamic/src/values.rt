@@ -35,11 +35,15 @@ pub enum Value {
 }
 
 impl Value {
-    ghost use Rattle.std.specs.Prelude.{◌≡◌, true, false, is_some, MatchOption};
-    ghost use Rattle.rasn_types.specs.Values.{bits, characters, nothing, octets, truth, whole};
-    ghost use Rattle.rasn_traits.specs.Counted.{item_at};
-    ghost use Rattle.rasn_dynamic.specs.Values.{NotBits, NotCharacters, NotItem, NotNull, NotOctets, NotTruth};
-    ghost use Rattle.rasn_dynamic.specs.Values.{NotWhole, slot_of, value_of};
+    ghost use Rattle.std.specs.Prelude.{◌≡◌, true, false, is_some, map, slice_get, IfSome, MatchOption};
+    ghost use Rattle.std.specs.Prelude.{List, [], Option, Some};
+    ghost use Rattle.rasn_types.specs.Values;
+    ghost use Rattle.rasn_types.specs.Values.{alternative, bits, characters, nothing, octets, truth, whole};
+    ghost use Rattle.rasn_schema.specs.Lists.{list_value};
+    ghost use Rattle.rasn_schema.specs.Records.{record_value};
+    ghost use Rattle.rasn_traits.specs.Counted.{index_in, item_at, side_of};
+    ghost use Rattle.rasn_dynamic.specs.Values.{NotAlternative, NotBits, NotCharacters, NotElements, NotFields};
+    ghost use Rattle.rasn_dynamic.specs.Values.{NotItem, NotNull, NotOctets, NotTruth, NotWhole, slot_of, value_of};
 
     /// Whether there is a value.
     pub fn is_there(&self) -> bool
@@ -124,5 +128,63 @@ impl Value {
             Value::Characters(characters) => Some(characters),
             _ => None,
         }
+    }
+
+    /// The elements of a SEQUENCE OF.
+    pub fn as_elements(&self) -> Option<&[Value]>
+        ensures { MatchOption result (NotElements (value_of self.now))
+            (λ vs. value_of self.now ≡ list_value (map value_of vs.now)) }
+    {
+        match self {
+            Value::Elements(values) => {
+                let elements: &[Value] = values;
+                Some(elements)
+            }
+            _ => None,
+        }
+    }
+
+    /// The root components of a SEQUENCE, each absent or there.
+    pub fn as_fields(&self) -> Option<&[Value]>
+        ensures { MatchOption result (NotFields (value_of self.now))
+            (λ vs. value_of self.now ≡ record_value (map slot_of vs.now) []) }
+    {
+        match self {
+            Value::Fields(values) => {
+                let fields: &[Value] = values;
+                Some(fields)
+            }
+            _ => None,
+        }
+    }
+
+    /// The place of the alternative of a CHOICE, and its value.
+    pub fn as_alternative(&self) -> Option<(Place, &Value)>
+        ensures { MatchOption result (NotAlternative (value_of self.now))
+            (λ r. value_of self.now ≡ alternative (side_of r.0) (index_in r.0) (value_of r.1.now)) }
+    {
+        match self {
+            Value::Alternative(place, chosen) => {
+                let value: &Value = chosen;
+                Some((*place, value))
+            }
+            _ => None,
+        }
+    }
+
+    /// The element of a SEQUENCE OF at an index.
+    pub fn element(&self, index: usize) -> Option<&Value>
+        ensures { IfSome result (λ v. (vs : List Values.Value) × (value_of self.now ≡ list_value vs)
+            × (slice_get vs index ≡ Some (value_of v.now))) }
+    {
+        self.as_elements()?.get(index)
+    }
+
+    /// The root component of a SEQUENCE at an index, absent or there.
+    pub fn field(&self, index: usize) -> Option<&Value>
+        ensures { IfSome result (λ v. (vs : List (Option Values.Value)) × (value_of self.now ≡ record_value vs [])
+            × (slice_get vs index ≡ Some (slot_of v.now))) }
+    {
+        self.as_fields()?.get(index)
     }
 }

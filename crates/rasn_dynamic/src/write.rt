@@ -1,19 +1,23 @@
 //! How values are written by a table of types.
 
 ghost use Rattle.std.specs.Prelude.{◌≡◌, suc, true, false, [], map, slice_get, Some};
+ghost use Rattle.rasn_types.specs.Values.{alternative};
+ghost use Rattle.rasn_schema.specs.Choices.{one_level_in};
 ghost use Rattle.rasn_schema.specs.Forms.{is_size_marked, size_of};
 ghost use Rattle.rasn_schema.specs.Lists.{deepest, list_at, list_value};
 ghost use Rattle.rasn_schema.specs.Records.{no_additions, record_at, record_value};
 ghost use Rattle.rasn_schema.specs.Schemas.{listed, optional};
 ghost use Rattle.rasn_traits.specs.Calls.{Encodes};
+ghost use Rattle.rasn_traits.specs.Counted.{index_in, side_of};
 ghost use Rattle.rasn_traits.specs.Scopes.{WritesParts};
-ghost use Rattle.rasn_dynamic.specs.Types.{parts_at, presence_of, schema_at};
+ghost use Rattle.rasn_dynamic.specs.Types.{choice_of, parts_at, presence_of, schema_at};
 ghost use Rattle.rasn_dynamic.specs.Values.{levels_of, slot_of, value_of};
-ghost use Rattle.rasn_dynamic.specs.Writes.{fit, may_stand, WritesOne};
+ghost use Rattle.rasn_dynamic.specs.Writes.{fit, may_stand, OpensChosen, WritesOne};
 
-use crate::types::{Component, Kind, Presence, kind_at, presence_bit_count};
+use crate::types::{Choice, Component, Kind, Presence, kind_at, presence_bit_count};
 use crate::values::Value;
 use crate::write_simple::encode_simple;
+use rasn_schema::items::Place;
 use rasn_schema::schema::Constraints;
 use rasn_traits::counted::CountedEncoder;
 use rasn_types::types::{Identifier, Tag};
@@ -52,6 +56,7 @@ fn encode_kind<E: CountedEncoder>(
         Kind::Simple(simple) => encode_simple(encoder, simple, value),
         Kind::List(of, constraints) => encode_list(encoder, kinds, *of, constraints, value),
         Kind::Record(components) => encode_record(encoder, kinds, components, value),
+        Kind::Choice(choice) => encode_choice(encoder, kinds, choice, value),
     }
 }
 
@@ -186,6 +191,59 @@ fn encode_optional<E: CountedEncoder>(
         return Ok(());
     }
     encode_value(encoder, kinds, place, value)
+}
+
+/// Writes a CHOICE.
+#[cycle(writing)]
+fn encode_choice<E: CountedEncoder>(
+    encoder: &mut E,
+    kinds: &[Kind],
+    choice: &Choice,
+    value: &Value,
+) -> Result<(), E::Error>
+    ensures { Encodes E.rules (one_level_in (choice_of kinds.now choice.now)) (levels_of value.now)
+        (value_of value.now) encoder.old result encoder.new }
+{
+    match value {
+        Value::Alternative(place, chosen) => encode_chosen(encoder, kinds, choice, *place, chosen),
+        _ => encoder.refuse_other(),
+    }
+}
+
+/// Writes a CHOICE by the value of its alternative at a place.
+#[cycle(writing)]
+fn encode_chosen<E: CountedEncoder>(
+    encoder: &mut E,
+    kinds: &[Kind],
+    choice: &Choice,
+    place: Place,
+    value: &Value,
+) -> Result<(), E::Error>
+    ensures { Encodes E.rules (one_level_in (choice_of kinds.now choice.now)) (suc (levels_of value.now))
+        (alternative (side_of place) (index_in place) (value_of value.now)) encoder.old result encoder.new }
+{
+    let Some((at, outside)) = open_chosen(encoder, choice, place)? else {
+        return encoder.refuse_other();
+    };
+    encode_value(encoder, kinds, at, value)?;
+    encoder.close_alternative(outside)
+}
+
+/// Opens a CHOICE to write its alternative at a place, and answers the place of the type of that. Where no alternative
+/// stands at the place it answers none, and changes nothing.
+fn open_chosen<E: CountedEncoder>(
+    encoder: &mut E,
+    choice: &Choice,
+    place: Place,
+) -> Result<Option<(usize, E::Placed)>, E::Error>
+    ensures { OpensChosen E.rules E.opens_placed choice.now place encoder.old result encoder.new }
+{
+    let Some(alternative) = choice.at(place) else {
+        return Ok(None);
+    };
+    let counts = choice.counts();
+    let outside = encoder.open_alternative(Tag::EOC, counts, place, Identifier::EMPTY)?;
+    Ok(Some((alternative.of, outside)))
 }
 
 /// Whether values are as many as components, and there where they have to be.

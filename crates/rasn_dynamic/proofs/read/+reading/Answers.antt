@@ -1,6 +1,7 @@
 use Rattle.std.proofs.Common.{◌≡◌, ◌∙◌, refl, sym, ap, subst, rules, ℕ, suc, Bool, true, false, Ok, [], ◌∷◌, ◌++◌, map, Some, List}
 use Rattle.std.specs.Prelude.{option_map}
 use Rattle.std.proofs.lemmas.Result.{err_from_is_err_and}
+use Rattle.rasn_schema.specs.Choices.{one_level_in}
 use Rattle.rasn_schema.specs.Forms.{is_size_marked, size_of}
 use Rattle.rasn_schema.specs.Lists.{list_at}
 use Rattle.rasn_schema.specs.Records.{no_additions, record_at}
@@ -8,14 +9,16 @@ use Rattle.rasn_schema.specs.Schemas
 use Rattle.rasn_schema.specs.Schemas.{listed, required, optional}
 use Rattle.rasn_traits.specs.AdditionsRead.{reads_no_more}
 use Rattle.rasn_traits.specs.Scopes.{FaultyPart, ReadsPart, reads_left_out}
+use Rattle.rasn_traits.specs.Counted.{index_in, side_of}
 use Rattle.rasn_traits.proofs.Optionals.{bit_refused, value_read}
 use Rattle.rasn_traits.proofs.Reading.{both_read, inside_left, record_ended, record_endless, record_root_failed}
 use Rattle.rasn_dynamic.specs.declared.values.Value.{Value}
-use Rattle.rasn_dynamic.specs.Types.{parts_at, schema_at}
+use Rattle.rasn_dynamic.specs.Types.{choice_of, parts_at, schema_at}
 use Rattle.rasn_dynamic.specs.Values.{slot_of, value_of}
-use Rattle.rasn_dynamic.proofs.Places.{list_there, none_there, record_there, simple_there}
+use Rattle.rasn_dynamic.proofs.Choosing.{chosen, is_choice_of, placed_ended, placed_endless, placed_failed, placed_left, stands_there}
+use Rattle.rasn_dynamic.proofs.Places.{choice_there, list_there, none_there, record_there, simple_there}
 use Rattle.rasn_dynamic.proofs.Reading.{OnwardRead, onward_all, onward_fails, onward_read, onward_room, reads_same, required_taken, slotted}
-use Rattle.rasn_dynamic.proofs.Trees.{absent_slot, elements_slot, fields_slot, slot_there, value_there}
+use Rattle.rasn_dynamic.proofs.Trees.{absent_slot, alternative_slot, elements_slot, fields_slot, slot_there, value_there}
 use Rattle.rasn_dynamic.proofs.Unfit.{record_counted}
 use Rattle.rasn_dynamic.proofs.read.+reading.Goals as goal
 
@@ -161,3 +164,85 @@ decode_kind-returns-in-Record g t c =
     let n = g.D.Decoder.rules.levels c.args.decoder.now in
     let ts = c.args.kinds.now in
     reads_same _ _ _ _ _ (record_there ts c.args.place c.in-Record.components (c.requires ∙ ap Some c.in-Record.is) n ∙ ap (λ cs. record_at listed (parts_at ts cs) false no_additions n) (sym c.deref.ensures.value)) c.decode_record.ensures
+
+pub decode_kind-returns-in-Choice : goal.decode_kind-returns-in-Choice
+decode_kind-returns-in-Choice g t c = reads_same _ _ _ _ _ (choice_there c.args.kinds.now c.args.place c.in-Choice.choice (c.requires ∙ ap Some c.in-Choice.is) (g.D.Decoder.rules.levels c.args.decoder.now)) c.decode_choice.ensures
+
+pub decode_chosen-returns-in-Some : goal.decode_chosen-returns-in-Some
+decode_chosen-returns-in-Some g t c = rw c.in-Some.ensures c.decode_boxed.ensures
+
+pub decode_chosen-returns-in-None : goal.decode_chosen-returns-in-None
+decode_chosen-returns-in-None g t c = rw c.in-None.ensures tt
+
+pub decode_choice-returns-in_err-place : goal.decode_choice-returns-in_err-place
+decode_choice-returns-in_err-place g t c =
+    let p = err_from_is_err_and c.from_residual.result c.from_residual.ensures.1 in
+    let ts = c.args.kinds.now in
+    let d = c.args.choice.now in
+    let o = rw c.counts-counts.ensures at c.in_err-place.ensures in
+    rw (p.1, p.2) (record { read = record { law = o.opened (choice_of ts d) (is_choice_of ts d); behaves = record { again = o.behaves.again; fails = o.behaves.fails; kept = o.behaves.kept } }; value = tt })
+
+pub decode_choice-returns-in_err-value : goal.decode_choice-returns-in_err-value
+decode_choice-returns-in_err-value g t c =
+    let p = err_from_is_err_and c.from_residual-in_err-value.result c.from_residual-in_err-value.ensures.1 in
+    let ts = c.args.kinds.now in
+    let d = c.args.choice.now in
+    let n = g.D.Decoder.rules.levels c.open_alternative.new.self in
+    let o = rw c.counts-counts.ensures at c.in_ok-place.ensures in
+    let q = stands_there d c.in_ok-place.place o.place in
+    let w = rw q.1 at c.in_err-value.ensures in
+    rw (p.1, p.2) (record {
+      read = record {
+        law = placed_failed g.met.D.Decoder.lawful g.met.D.Decoder.choices (choice_of ts d) (side_of c.in_ok-place.place) (index_in c.in_ok-place.place) (schema_at ts q.0.of n) o.deeper (chosen ts d c.in_ok-place.place q.0 q.1 n) (o.opened (choice_of ts d) (is_choice_of ts d)) w.law;
+        behaves = record { again = λ z. absurd (o.behaves.again z); fails = w.behaves.fails; kept = w.behaves.kept ∙ o.behaves.kept };
+      };
+      value = tt;
+    })
+
+pub decode_choice-returns-in_err-close_choice : goal.decode_choice-returns-in_err-close_choice
+decode_choice-returns-in_err-close_choice g t c =
+    let p = err_from_is_err_and c.from_residual-in_err-close_choice.result c.from_residual-in_err-close_choice.ensures.1 in
+    let ts = c.args.kinds.now in
+    let d = c.args.choice.now in
+    let n = g.D.Decoder.rules.levels c.open_alternative.new.self in
+    let o = rw c.counts-counts.ensures at c.in_ok-place.ensures in
+    let q = stands_there d c.in_ok-place.place o.place in
+    let w = rw q.1 at c.in_ok-value.ensures in
+    let L = g.met.D.Decoder.lawful in
+    let K = g.met.D.Decoder.choices in
+    let s = side_of c.in_ok-place.place in
+    let k = index_in c.in_ok-place.place in
+    let a = chosen ts d c.in_ok-place.place q.0 q.1 n in
+    let h = o.opened (choice_of ts d) (is_choice_of ts d) in
+    let e = c.in_err-close_choice.ensures in
+    rw (p.1, p.2) (record {
+      read = record {
+        law = placed_endless L K (choice_of ts d) s k (schema_at ts q.0.of n) o.deeper a h _ c.decode_chosen.new.decoder w.law (e.law (placed_left L K (choice_of ts d) s k (schema_at ts q.0.of n) o.deeper a h _ c.decode_chosen.new.decoder w.law));
+        behaves = record { again = λ z. absurd (o.behaves.again z); fails = e.behaves.fails; kept = e.behaves.kept ∙ w.behaves.kept ∙ o.behaves.kept };
+      };
+      value = tt;
+    })
+
+pub decode_choice-returns : goal.decode_choice-returns
+decode_choice-returns g t c =
+    let ts = c.args.kinds.now in
+    let d = c.args.choice.now in
+    let n = g.D.Decoder.rules.levels c.open_alternative.new.self in
+    let o = rw c.counts-counts.ensures at c.in_ok-place.ensures in
+    let q = stands_there d c.in_ok-place.place o.place in
+    let w = rw q.1 at c.in_ok-value.ensures in
+    let L = g.met.D.Decoder.lawful in
+    let K = g.met.D.Decoder.choices in
+    let s = side_of c.in_ok-place.place in
+    let k = index_in c.in_ok-place.place in
+    let a = chosen ts d c.in_ok-place.place q.0 q.1 n in
+    let h = o.opened (choice_of ts d) (is_choice_of ts d) in
+    let e = c.in_ok-close_choice.ensures in
+    let f = alternative_slot c.in_ok-place.place c.in_ok-value.value in
+    record {
+      read = record {
+        law = subst (λ v. g.D.Decoder.rules.spells (one_level_in (choice_of ts d) (g.D.Decoder.rules.levels c.args.decoder.now)) c.args.decoder.now v c.close_choice.new.self) (sym (value_there _ _ f)) (placed_ended L K (choice_of ts d) s k (schema_at ts q.0.of n) o.deeper a h _ c.decode_chosen.new.decoder _ w.law (e.law (placed_left L K (choice_of ts d) s k (schema_at ts q.0.of n) o.deeper a h _ c.decode_chosen.new.decoder w.law)));
+        behaves = record { again = λ z. absurd (o.behaves.again z); fails = tt; kept = e.behaves.kept ∙ w.behaves.kept ∙ o.behaves.kept };
+      };
+      value = slot_there _ _ f;
+    }

@@ -29,6 +29,15 @@ decreases-decode_component g l = 7 * g.D.Decoder.rules.levels l.decoder.now + 5
 abbrev pub decreases-decode_optional : goal.decreases-decode_optional
 decreases-decode_optional g l = 7 * g.D.Decoder.rules.levels l.decoder.now + 4
 
+abbrev pub decreases-decode_choice : goal.decreases-decode_choice
+decreases-decode_choice g l = 7 * g.D.Decoder.rules.levels l.decoder.now + 1
+
+abbrev pub decreases-decode_chosen : goal.decreases-decode_chosen
+decreases-decode_chosen g l = 7 * g.D.Decoder.rules.levels l.decoder.now + 5
+
+abbrev pub decreases-decode_boxed : goal.decreases-decode_boxed
+decreases-decode_boxed g l = 7 * g.D.Decoder.rules.levels l.decoder.now + 4
+
 -- the elements that were read are of one of the trees of their type
 abbrev pub invariant-decode_elements-loop-values : goal.invariant-decode_elements-loop-values
 invariant-decode_elements-loop-values g l =

@@ -1,20 +1,24 @@
 use Rattle.std.proofs.Common.{◌≡◌, ◌∙◌, refl, sym, ap, rules, suc, Bool, true, false, Ok, [], map, Some}
 use Rattle.std.specs.Prelude.{option_map}
 use Rattle.std.proofs.lemmas.Result.{err_from_is_err_and}
+use Rattle.rasn_schema.specs.Choices.{one_level_in}
 use Rattle.rasn_schema.specs.Forms.{always, is_size_marked, size_of}
 use Rattle.rasn_schema.specs.Lists.{deepest, list_at, list_value}
 use Rattle.rasn_schema.specs.Normal.{normal, normals}
 use Rattle.rasn_schema.specs.Records.{no_additions, record_at, record_value}
 use Rattle.rasn_schema.specs.Schemas
 use Rattle.rasn_schema.specs.Schemas.{listed}
+use Rattle.rasn_types.specs.Values.{alternative}
+use Rattle.rasn_traits.specs.Counted.{index_in, side_of}
 use Rattle.rasn_traits.proofs.Writing.{plainly_written, record_closed, record_root_refused}
-use Rattle.rasn_dynamic.specs.declared.values.Value.TheVariants.{rolls-Elements, rolls-Fields}
-use Rattle.rasn_dynamic.specs.Types.{parts_at, schema_at, simple_schema}
+use Rattle.rasn_dynamic.specs.declared.values.Value.TheVariants.{rolls-Alternative, rolls-Elements, rolls-Fields}
+use Rattle.rasn_dynamic.specs.Types.{alternative_counts, choice_of, parts_at, schema_at, simple_schema}
 use Rattle.rasn_dynamic.specs.Values.{levels_of, slot_of, value_of}
+use Rattle.rasn_dynamic.proofs.Choosing.{choice_unopened, chosen, is_choice_of, no_choice, none_chosen, placed_closed, placed_refused}
 use Rattle.rasn_dynamic.proofs.Components.{absent_written, onward_ended, onward_index, onward_presented, onward_refused, onward_stands, required_there, there_as_normal, there_written, unmarked_part}
 use Rattle.rasn_dynamic.proofs.Elements.{awaits_element, closed, element_presented, element_refused, lists, next_refused, opened, unopened}
-use Rattle.rasn_dynamic.proofs.Places.{encodes_same, encodes_value, list_there, no_list, no_place, no_record, other_refused, record_there, simple_there}
-use Rattle.rasn_dynamic.proofs.Trees.{elements_levels, elements_value, fields_levels, fields_value, not_elements, not_fields}
+use Rattle.rasn_dynamic.proofs.Places.{choice_there, encodes_same, encodes_value, list_there, no_list, no_place, no_record, other_refused, other_refused_within, record_there, simple_there}
+use Rattle.rasn_dynamic.proofs.Trees.{alternative_levels, alternative_value, not_alternative, elements_levels, elements_value, fields_levels, fields_value, not_elements, not_fields}
 use Rattle.rasn_dynamic.proofs.Unfit.{record_counted, record_unopened, unfit}
 use Rattle.rasn_dynamic.proofs.write.+writing.Goals as goal
 
@@ -59,7 +63,7 @@ pub encode_list-returns-in_default : goal.encode_list-returns-in_default
 encode_list-returns-in_default g t c =
     let v = c.args.value.now in
     let d = c.args.constraints.now in
-    other_refused (list_at (schema_at c.args.kinds.now c.args.of) (size_of d) (is_size_marked d)) (levels_of v) (value_of v) _ _ _ c.refuse_other.ensures (no_list _ _ _ (value_of v) (not_elements v c.in_default.not-Elements))
+    other_refused_within (list_at (schema_at c.args.kinds.now c.args.of) (size_of d) (is_size_marked d)) (levels_of v) (value_of v) _ _ _ c.refuse_other.ensures (no_list _ _ _ v (not_elements v c.in_default.not-Elements))
 
 pub encode_kind-returns-in-Simple : goal.encode_kind-returns-in-Simple
 encode_kind-returns-in-Simple g t c =
@@ -148,7 +152,7 @@ encode_fields-returns-then-not-fit g t c =
     let ts = c.args.kinds.now in
     let cs = c.args.components.now in
     let os = map slot_of c.args.values.now in
-    other_refused (record_at listed (parts_at ts cs) false no_additions) _ (record_value os []) _ _ _ c.refuse_other.ensures (unfit ts cs os (sym c.fit.ensures ∙ c.if-not-fit.true))
+    other_refused_within (record_at listed (parts_at ts cs) false no_additions) _ (record_value os []) _ _ _ c.refuse_other.ensures (unfit ts cs os (sym c.fit.ensures ∙ c.if-not-fit.true) _)
 
 pub encode_fields-returns-in_err-outside : goal.encode_fields-returns-in_err-outside
 encode_fields-returns-in_err-outside g t c =
@@ -192,10 +196,81 @@ pub encode_record-returns-in_default : goal.encode_record-returns-in_default
 encode_record-returns-in_default g t c =
     let v = c.args.value.now in
     let ps = parts_at c.args.kinds.now c.args.components.now in
-    other_refused (record_at listed ps false no_additions) (levels_of v) (value_of v) _ _ _ c.refuse_other.ensures (no_record ps no_additions false (value_of v) (not_fields v c.in_default.not-Fields))
+    other_refused_within (record_at listed ps false no_additions) (levels_of v) (value_of v) _ _ _ c.refuse_other.ensures (no_record ps no_additions false v (not_fields v c.in_default.not-Fields))
 
 pub encode_kind-returns-in-Record : goal.encode_kind-returns-in-Record
 encode_kind-returns-in-Record g t c =
     let v = c.args.value.now in
     let ts = c.args.kinds.now in
     encodes_same (schema_at ts c.args.place) (record_at listed (parts_at ts c.deref.result.now) false no_additions) (levels_of v) (value_of v) _ _ _ (λ n. record_there ts c.args.place c.in-Record.components (c.requires ∙ ap Some c.in-Record.is) n ∙ ap (λ cs. record_at listed (parts_at ts cs) false no_additions n) (sym c.deref.ensures.value)) c.encode_record.ensures
+
+pub encode_kind-returns-in-Choice : goal.encode_kind-returns-in-Choice
+encode_kind-returns-in-Choice g t c =
+    let v = c.args.value.now in
+    let ts = c.args.kinds.now in
+    encodes_same (schema_at ts c.args.place) (one_level_in (choice_of ts c.in-Choice.choice)) (levels_of v) (value_of v) _ _ _ (choice_there ts c.args.place c.in-Choice.choice (c.requires ∙ ap Some c.in-Choice.is)) c.encode_choice.ensures
+
+pub encode_choice-returns-in-Alternative : goal.encode_choice-returns-in-Alternative
+encode_choice-returns-in-Alternative g t c =
+    let v = c.args.value.now in
+    let e = c.in-Alternative.is ∙ sym (rolls-Alternative c.in-Alternative.place c.in-Alternative.chosen) in
+    encodes_value _ (levels_of v) _ (value_of v) _ _ _ _ (alternative_levels v _ _ e ∙ ap (λ u. suc (levels_of u)) (sym c.deref.ensures)) (alternative_value v _ _ e ∙ ap (λ u. alternative (side_of c.in-Alternative.place) (index_in c.in-Alternative.place) (value_of u)) (sym c.deref.ensures)) c.encode_chosen.ensures
+
+pub encode_choice-returns-in_default : goal.encode_choice-returns-in_default
+encode_choice-returns-in_default g t c =
+    let v = c.args.value.now in
+    let ts = c.args.kinds.now in
+    let d = c.args.choice.now in
+    other_refused_within (one_level_in (choice_of ts d)) (levels_of v) (value_of v) _ _ _ c.refuse_other.ensures (no_choice ts d v (not_alternative v c.in_default.not-Alternative))
+
+pub encode_chosen-returns-in_err-at : goal.encode_chosen-returns-in_err-at
+encode_chosen-returns-in_err-at g t c =
+    let r = err_from_is_err_and c.from_residual.result c.from_residual.ensures.1 in
+    let v = c.args.value.now in
+    let ts = c.args.kinds.now in
+    let d = c.args.choice.now in
+    let p = c.args.place in
+    let q = c.in_err-at.ensures in
+    rw (r.1, r.2) (record {
+      law = choice_unopened g.E.Encoder.rules (choice_of ts d) (schema_at ts q.0.of) (side_of p) (index_in p) (chosen ts d p q.0 q.1) (value_of v) (levels_of v) (alternative_counts d) (is_choice_of ts d) c.args.encoder.now c.open_chosen.new.encoder _ q.2.law;
+      behaves = record { again = q.2.behaves.again; fails = q.2.behaves.fails; kept = q.2.behaves.kept };
+    })
+
+pub encode_chosen-returns-in_default : goal.encode_chosen-returns-in_default
+encode_chosen-returns-in_default g t c =
+    let v = c.args.value.now in
+    let ts = c.args.kinds.now in
+    let d = c.args.choice.now in
+    let p = c.args.place in
+    let q = rw c.in_default.is at c.in_ok-at.ensures in
+    other_refused (one_level_in (choice_of ts d)) (suc (levels_of v)) (alternative (side_of p) (index_in p) (value_of v)) _ _ _ (rw q.1 at c.refuse_other.ensures) (none_chosen ts d p (value_of v) q.0)
+
+pub encode_chosen-returns-in_err-encode_value : goal.encode_chosen-returns-in_err-encode_value
+encode_chosen-returns-in_err-encode_value g t c =
+    let r = err_from_is_err_and c.from_residual-in_err-encode_value.result c.from_residual-in_err-encode_value.ensures.1 in
+    let v = c.args.value.now in
+    let ts = c.args.kinds.now in
+    let d = c.args.choice.now in
+    let p = c.args.place in
+    let q = rw c.in-Some.is at c.in_ok-at.ensures in
+    let o = q.3 in
+    let w = rw q.2 at c.in_err-encode_value.ensures in
+    rw (r.1, r.2) (record {
+      law = placed_refused g.E.Encoder.rules (choice_of ts d) (schema_at ts q.0.of) (side_of p) (index_in p) (chosen ts d p q.0 q.1) (value_of v) (levels_of v) c.args.encoder.now c.open_chosen.new.encoder c.encode_value.new.encoder c.encode_value.new.encoder _ (λ n. (o.law (choice_of ts d n) (is_choice_of ts d n)).1) w.law;
+      behaves = record { again = λ z. absurd (o.behaves.again z); fails = w.behaves.fails; kept = w.behaves.kept ∙ o.behaves.kept };
+    })
+
+pub encode_chosen-returns : goal.encode_chosen-returns
+encode_chosen-returns g t c =
+    let v = c.args.value.now in
+    let ts = c.args.kinds.now in
+    let d = c.args.choice.now in
+    let p = c.args.place in
+    let q = rw c.in-Some.is at c.in_ok-at.ensures in
+    let o = q.3 in
+    let w = rw q.2 at c.in_ok-encode_value.ensures in
+    let e = c.close_alternative.ensures in
+    record {
+      law = placed_closed g.E.Encoder.rules (choice_of ts d) (schema_at ts q.0.of) (side_of p) (index_in p) (chosen ts d p q.0 q.1) (value_of v) (levels_of v) g.E.CountedEncoder.opens_placed c.args.encoder.now c.open_chosen.new.encoder c.encode_value.new.encoder _ tt (λ n. (o.law (choice_of ts d n) (is_choice_of ts d n)).0) w.law c.close_alternative.result c.close_alternative.new.self e;
+      behaves = record { again = λ z. absurd (o.behaves.again z); fails = e.behaves.fails; kept = e.behaves.kept ∙ w.behaves.kept ∙ o.behaves.kept };
+    }
