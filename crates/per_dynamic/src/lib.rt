@@ -1,5 +1,5 @@
-//! The packed encoding rules of ASN.1 (ITU-T X.691) over types that are data, in both variants: values of the types of a
-//! table to octets and back. What `rasn_per` promises of a type of Rust, these calls promise of each type of each table.
+//! The packed encoding rules of ASN.1 (ITU-T X.691) over types that are data, in both variants: values of the types of
+//! a table to octets and back. What `rasn_per` promises of a type of Rust, these calls promise of each type of a table.
 #![tactic(auto)]
 
 pub mod aper;

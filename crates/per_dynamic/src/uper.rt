@@ -17,8 +17,8 @@ use std::alloc::{Allocator, Global};
 
 /// The canonical octets of a value of the type at a place of a table (X.691 11.1, 12 to 32).
 ///
-/// Refuses with `OutOfMemory` where memory ran out, and else only a value that has no encoding: also one of another type,
-/// or where nothing is at the place.
+/// Refuses with `OutOfMemory` where memory ran out, and else only a value that has no encoding, as one of another type
+/// has none, or any where nothing is at the place.
 pub fn encode<A: Allocator + Clone>(
     alloc: A,
     types: &Types,
