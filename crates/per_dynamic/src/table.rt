@@ -14,6 +14,7 @@ use rasn_per::types::{DecodeAs, EncodeAs};
 use std::alloc::Allocator;
 
 /// The type at a place of a table.
+#[derive(Drop)]
 pub struct TypeAt<'types> {
     /// The table.
     pub kinds: &'types [Kind],
