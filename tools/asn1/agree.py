@@ -132,7 +132,8 @@ class Agreement:
         root, added, *second = components["t"] if isinstance(components, dict) else (components, None)
         self.say(at, "the marker", of.added is not None, added is not None)
         mine = [it for part in of.added or [] for it in (part.group or [part])]
-        for ours, theirs, where in ((of.parts, [*root, *sum(second, [])], "the root"), (mine, added or [], "the additions")):
+        root = [*root, *sum(second, [])]
+        for ours, theirs, where in ((self.root_of(of), root, "the root"), (mine, added or [], "the additions")):
             theirs = [it for it in theirs if kind(it) == "ComponentType"]
             if of.kind == "SET":    # asn1ct sorts them by their tags
                 ours, theirs = sorted(ours, key=lambda it: it.name), sorted(theirs, key=lambda it: it["name"])
@@ -142,6 +143,10 @@ class Agreement:
             self.say(at, where, *names)
             for part, node in zip(ours, theirs) if names[0] == names[1] else []:
                 self.part(part, node, f"{at}.{part.name}")
+
+    def root_of(self, of):
+        """Returns the parts of a root in the order in which PER has them, or has their bits."""
+        return of.parts
 
     def is_automatic(self, parts):
         """Returns whether alternatives have automatic tags, which asn1ct forgets of a type with parameters that is imported."""

@@ -27,7 +27,9 @@ main([Folder, Out, Seconds, Words | Names]) ->
     ok = file:set_cwd(Folder),
     Parsed = [{Name, parsed(Name)} || Name <- Names],
     Limits = {list_to_integer(Seconds), list_to_integer(Words)},
-    Checks = lists:all(fun({_, Read}) -> Read =/= refused end, Parsed),
+    Endless = endless([{Name, Module} || {Name, Module} <- Parsed, Module =/= refused]),
+    Checks = Endless =:= [] andalso lists:all(fun({_, Read}) -> Read =/= refused end, Parsed),
+    [say(Name, Line, "a type with parameters that stands in itself has no end there") || {Name, Line, _, _} <- Endless],
     Read = [read(Name, Module, Checks, Limits, Records) || {Name, Module} <- Parsed, Module =/= refused],
     ok = file:write_file(Out, ["{", lists:join(",\n", Read), "}\n"]).
 
@@ -61,6 +63,25 @@ refuse(Name, Why) ->
 say(Name, Line, Text) ->
     io:format("~s.asn1:~p: ~s~n", [Name, Line, Text]),
     refused.
+
+%% The types with parameters that stand in themselves, at which the compiler's check doesn't end.
+endless(Modules) ->
+    Made = [{Name, element(3, One), element(4, One), instances(element(6, One))} ||
+        {Name, Module} <- Modules, One <- lists:last(tuple_to_list(Module)), element(1, One) =:= ptypedef],
+    [One || {_, _, Type, Named} = One <- Made, lists:member(Type, reached(Named, [], Made))].
+
+reached([], Found, _) -> Found;
+reached([Type | Left], Found, Made) ->
+    case lists:member(Type, Found) of
+        true -> reached(Left, Found, Made);
+        false -> reached(lists:append([Named || {_, _, Name, Named} <- Made, Name =:= Type]) ++ Left, [Type | Found], Made)
+    end.
+
+%% The types with parameters that are named in a part of a module.
+instances({pt, Type, Given}) -> [element(4, Type) | instances(Given)];
+instances(Part) when is_tuple(Part) -> instances(tuple_to_list(Part));
+instances(Parts) when is_list(Parts) -> lists:append([instances(Part) || Part <- Parts]);
+instances(_) -> [].
 
 %% What the compiler's check makes of a module, within limits of time and memory.
 checked(Name, {Seconds, Words}) ->

@@ -132,6 +132,7 @@ class Items:
     def need_parts(self, item):
         """Gives the types of a record's or a choice's parts their items."""
         self.expect_few(item.type.parts, item.type.added, MOST, MOST_ADDED)
+        refused = len(self.modules.refusals.found)
         for number, part in enumerate(item.type.all_parts):
             with self.modules.refusals.kept(part.module, part.line):
                 if part.group is not None:
@@ -141,7 +142,8 @@ class Items:
                 self.need(item, part.use, f"{item.key[1]}/{part.name}", part.line)
                 if part.presence == "default":
                     self.need_default(part)
-        item.depth = self.depth_of(item)
+        if len(self.modules.refusals.found) == refused:
+            item.depth = self.depth_of(item)
 
     @staticmethod
     def group_name(of, number):
@@ -220,7 +222,7 @@ class Items:
 
     def hold_in_set(self, use):
         """Notes the types with a page of which a SET OF is made, whose values are told apart there."""
-        item = self.of(use)
+        item = self.items.get(use.name) if use.name else use.item
         if item and item.key in self.held:
             return
         if item:

@@ -126,13 +126,8 @@ def read(modules, folder):
     complaints = complaints_of(ran.stdout, modules)
     if any(name not in front for name in modules):
         raise all_of(complaints)
-    told = {why.place.partition(",")[0] for why in complaints}
-    return front, [*complaints, *(refusal(name, 0, "asn1ct gives no answer") for name in modules if is_silent(front[name], name, told))]
-
-
-def is_silent(read_module, name, told):
-    """Returns whether asn1ct has neither checked a module nor said why, where it said nothing of another."""
-    return "checked" not in read_module and name not in told and not told
+    silent = [name for name in modules if "checked" not in front[name]]
+    return front, complaints or [refusal(name, 0, "asn1ct gives no answer") for name in silent]
 
 
 def complaints_of(said, modules):

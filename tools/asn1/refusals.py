@@ -36,19 +36,22 @@ def placed(module, line):
 
 
 class Refusals:
-    """What was refused so far, so that the rest is read on and all of it can be told at once."""
+    """What was refused so far, so that all of it can be told at once. The rest is read on where it `goes_on`; whoever says so
+    has to call `end`, since what is refused is left out of what is read."""
 
-    def __init__(self):
-        self.found = []
+    def __init__(self, goes_on=False):
+        self.found, self.goes_on = [], goes_on
 
     @contextlib.contextmanager
     def kept(self, module=None, line=None):
-        """Keeps what is refused within, and goes on behind it."""
+        """Keeps what is refused within, and goes on behind it, or refuses it."""
         try:
             yield
         except Refused as why:
             if module:
                 why.place = why.place or f"{module}, line {line}"
+            if not self.goes_on:
+                raise
             self.found.append(why)
 
     def end(self, more=()):

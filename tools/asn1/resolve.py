@@ -26,8 +26,8 @@ UNKNOWN = (KeyError, TypeError, ValueError, IndexError, AttributeError, StopIter
 
 class Modules(Constraints):
     """The types of all modules. `given` is what stands for the parameters of the definition that is read, by their names:
-    what was given, and the module and the parameters where it was. What is refused of a list's parts is kept in `refusals`,
-    and the other parts are read on. With `sorts` the alternatives of a CHOICE are put into the order of their tags."""
+    what was given, and the module and the parameters where it was. A part of a list that is refused goes to `refusals`, and
+    is left out where these go on. With `sorts` the alternatives of a CHOICE are put into the order of their tags."""
 
     def __init__(self, front, reads_contents=False, sorts=False):
         super().__init__(front)

@@ -100,7 +100,6 @@ class Protocol:
         with tempfile.TemporaryDirectory() as room:
             self.modules = Modules(parsed(texts, room), sorts=call.sort)
         self.items = wanted_items(self.modules, call.types, call.crate)
-        self.modules.refusals.end()
         self.shown = Shown(self.items)
         needed = self.needed()
         self.texts = other or {name: self.without_others(name, text, needed) for name, text in texts.items()}

@@ -135,8 +135,8 @@ class Sets:
         every = LETTERS[of]
         found, texts = set(), []
         for _ in range(self.random.choice((1, 1, 2))):
-            start = self.random.randrange(len(every) - 1)
-            row = every[start : start + self.random.randint(1, 12)]
+            start = self.random.randrange(len(every) - 1)      # of one character asn1ct makes no program
+            row = every[start : start + self.random.randint(2, 12)]
             runs = "".join(chr(code) for code in range(ord(row[0]), ord(row[-1]) + 1))
             if runs == row and self.random.random() < 0.6:
                 texts.append(f'"{row[0]}".."{row[-1]}"')
