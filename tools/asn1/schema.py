@@ -1,0 +1,108 @@
+"""Writes the schema file of ASN.1 modules (docs/SCHEMA-FILE.md)."""
+import re
+import sys
+from dataclasses import dataclass
+
+from notation import Refused, kind
+from table import Place, Table
+from whole import Whole
+
+VERSION = "per_schema 1"
+# Types that stand in one another nest calls.
+MOST_CALLS = 30_000
+
+
+@dataclass
+class Root:
+    module: str
+    name: str
+    place: Place
+
+
+def definitions_of(modules, module):
+    """Returns the names of a module's types without parameters, in the order of the text."""
+    return [name for (home, name), node in modules.defined.items() if home == module and is_type(node)]
+
+
+def is_type(node):
+    return node["_"] == "typedef" and kind(node["typespec"]) == "type"
+
+
+def merged(lines):
+    """Returns for each line the place of the first that says the same, what is named by places taken in."""
+    same = None
+    now = [*range(len(lines))]
+    while now != same:
+        same, first, now = now, {}, []
+        for place, line in enumerate(lines):
+            words = tuple(same[word.number] if isinstance(word, Place) else word for word in line)
+            now.append(first.setdefault(words, place))
+    return same
+
+
+def reached(lines, starts):
+    """Returns the places of lines that these name, and those that these name, and so on."""
+    found, left = set(starts), [*starts]
+    while left:
+        more = {word.number for word in lines[left.pop()] if isinstance(word, Place)} - found
+        found |= more
+        left += more
+    return found
+
+
+def text_of(lines, roots, releases):
+    """Returns the text of a schema file: of these lines those that the roots need, none twice."""
+    same = merged(lines)
+    kept = sorted({same[place] for place in reached(lines, [root.place.number for root in roots])})
+    places = {place: number for number, place in enumerate(kept)}
+
+    def spelled(word):
+        return str(places[same[word.number]]) if isinstance(word, Place) else word
+
+    head = [f"{VERSION} {len(releases)} {len(kept)} {len(roots)}"]
+    head += [f"module {module} {release}" for module, release in releases.items()]
+    types = [" ".join(map(spelled, lines[place])) for place in kept]
+    return "\n".join([*head, *types, *(f"root {it.module} {it.name} {spelled(it.place)}" for it in roots), ""])
+
+
+class Schema:
+    """The table of the types that are wanted, by their roots, and the refusals of those that aren't taken."""
+
+    def __init__(self, front):
+        sys.setrecursionlimit(MOST_CALLS)
+        self.modules = Whole(front)
+        self.table, self.roots, self.refused = Table(self.modules), [], {}
+
+    def add(self, module, name):
+        try:
+            self.roots.append(Root(module, name, self.table.definition(module, name)))
+        except Refused as why:
+            self.refused[module, name] = str(why)
+
+    def add_all(self, names):
+        """Takes all types of modules."""
+        for module in names:
+            for name in definitions_of(self.modules, module):
+                self.add(module, name)
+
+    def keep_pdus(self):
+        """Leaves the roots that no other type names."""
+        lines = self.table.lines
+        named = {word.number for place, line in enumerate(lines) for word in line if isinstance(word, Place) and word.number != place}
+        self.roots = [root for root in self.roots if root.place.number not in named]
+
+    def text(self, releases):
+        """Returns the text of the schema file; refused where one of its types is."""
+        if self.refused:
+            raise Refused("\n".join(dict.fromkeys(self.refused.values())))
+        homes = {root.module for root in self.roots}
+        modules = {module: releases.get(module, "-") for module in self.modules.front if module in homes}
+        return text_of(self.table.lines, self.roots, modules)
+
+
+def releases_of(words):
+    """Returns the releases of modules by words MODULE=RELEASE."""
+    for word in words:
+        if not re.fullmatch(r"[A-Za-z][\w-]*=\S+", word):
+            raise Refused(f"--release {word} isn't written MODULE=RELEASE")
+    return dict(word.split("=", 1) for word in words)
