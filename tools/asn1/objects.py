@@ -83,15 +83,15 @@ class Objects(Definitions):
 
     def fields(self, node, owner):
         """Returns what an object says of the fields of its class, by their names, defaults of the class too."""
-        definition = self.class_of(owner)
-        found = {parts(one)[0]: parts(parts(one)[-1])[0] for one in definition["fields"] if kind(parts(one)[-1]) == "DEFAULT"}
+        found = self.defaults_of(owner)
         style, tokens = parts(node)
         if style == "defaultsyntax":
-            found.update({name: bare(token) for name, token in (parts_of_pair(it) for it in tokens)})
-        elif matched(parts(definition["syntax"])[0], tokens, 0, found) != len(tokens):
+            found.update({name: bare(token) for name, token in (it["t"] for it in tokens)})
+        elif matched(parts(self.class_of(owner)["syntax"])[0], tokens, 0, found) != len(tokens):
             raise Refused(f"an object of the class {owner[1]} isn't written by its syntax")
         return found
 
-
-def parts_of_pair(node):
-    return node["t"]
+    def defaults_of(self, owner):
+        """Returns what an object of a class says of the fields of which it says nothing."""
+        fields = [parts(it) for it in self.class_of(owner)["fields"]]
+        return {field[0]: parts(field[-1])[0] for field in fields if kind(field[-1]) == "DEFAULT"}

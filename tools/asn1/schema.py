@@ -1,10 +1,13 @@
 """Writes the schema file of ASN.1 modules (docs/SCHEMA-FILE.md)."""
 import re
 import sys
+import tempfile
 from dataclasses import dataclass
 
-from notation import Refused, kind
+from agree_schema import differences_of
+from notation import Refused, kind, parsed, read_modules
 from table import Place, Table
+from wanted import modules_wanted, name_of
 from whole import Whole
 
 VERSION = "per_schema 1"
@@ -87,22 +90,47 @@ class Schema:
 
     def keep_pdus(self):
         """Leaves the roots that no other type names."""
-        lines = self.table.lines
-        named = {word.number for place, line in enumerate(lines) for word in line if isinstance(word, Place) and word.number != place}
-        self.roots = [root for root in self.roots if root.place.number not in named]
+        self.roots = [root for root in self.roots if (root.module, root.name) not in self.table.named]
 
     def text(self, releases):
         """Returns the text of the schema file; refused where one of its types is."""
         if self.refused:
             raise Refused("\n".join(dict.fromkeys(self.refused.values())))
-        homes = {root.module for root in self.roots}
-        modules = {module: releases.get(module, "-") for module in self.modules.front if module in homes}
-        return text_of(self.table.lines, self.roots, modules)
+        return text_of(self.table.lines, self.roots, {module: releases.get(module, "-") for module in self.modules.front})
 
 
 def releases_of(words):
     """Returns the releases of modules by words MODULE=RELEASE."""
     for word in words:
-        if not re.fullmatch(r"[A-Za-z][\w-]*=\S+", word):
+        if not re.fullmatch(r"[A-Z][A-Za-z0-9-]*=\S+", word):
             raise Refused(f"--release {word} isn't written MODULE=RELEASE")
     return dict(word.split("=", 1) for word in words)
+
+
+def wanted(given, room):
+    """Returns the schema of what the words of a call want."""
+    if given.types:
+        schema = Schema(parsed(modules_wanted(given.files, given.types, []), room))
+        for word in given.types.split(","):
+            for home, one in schema.modules.types_of(*name_of(word)):
+                schema.add(home, one)
+        return schema
+    schema = Schema(parsed(read_modules(given.files), room))
+    schema.add_all(schema.modules.front)
+    if given.pdus:
+        schema.keep_pdus()
+    return schema
+
+
+def written(given):
+    """Writes the schema file that the words of a call want, and returns a line on what there is."""
+    releases = releases_of(given.release)
+    with tempfile.TemporaryDirectory() as room:
+        schema = wanted(given, room)
+    text = schema.text(releases)
+    differ, compared = differences_of(schema.modules)
+    if differ:
+        raise Refused("\n".join(["asn1ct reads the modules otherwise:", *differ]))
+    with open(given.schema, "w", encoding="utf-8") as file:
+        file.write(text)
+    return f"{len(schema.roots)} names, {text.split()[3]} types; {compared} parts agree with asn1ct"

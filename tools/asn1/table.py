@@ -64,12 +64,12 @@ def count(parts):
 
 
 class Table:
-    """The lines of all types that were asked for, with all that they are made of. `around` is the SEQUENCE or SET in which a
-    type stands, whose components may choose of which type an open type is."""
+    """The lines of all types that were asked for, with all that they are made of, and the definitions that others name. `around`
+    is the SEQUENCE or SET in which a type stands, whose components may choose of which type an open type is."""
 
     def __init__(self, modules):
         self.modules, self.literals = modules, Literals(modules)
-        self.lines, self.places, self.named = [], {}, {}
+        self.lines, self.places, self.named, self.within = [], {}, set(), []
 
     def definition(self, module, name):
         """Returns the place of a definition. Where it is refused, nothing is left of what was begun with it."""
@@ -85,11 +85,24 @@ class Table:
         """Returns the place of a type where it is used."""
         if isinstance(use, Governed) and use.type.kind == "OPEN":
             return self.made(lambda: self.open_type(use, around))
+        if use.name and self.within[-1:] not in ([], [use.name]):
+            self.named.add(use.name)
         if not use.name or use.own:
             return self.made(lambda: self.words(self.modules.whole(use), around))
         if use.name not in self.places:
-            self.made(lambda: self.words(self.modules.full(use.name), None), use.name)
+            self.within.append(use.name)
+            try:
+                self.put(use.name, self.modules.full(use.name))
+            finally:
+                self.within.pop()
         return self.places[use.name]
+
+    def put(self, key, full):
+        """Gives a definition its place: that of the type for which it is another name, or one of its own."""
+        if full.name and not full.own:
+            self.places[key] = self.of(full)
+        else:
+            self.made(lambda: self.words(full.type, None), key)
 
     def made(self, words, key=None):
         """Returns the place of a line, which is kept for it before what stands in it has one."""

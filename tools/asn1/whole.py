@@ -85,16 +85,16 @@ class Whole(Objects, Modules):
         return Use(self.cache[key].type, key, tags=self.cache[key].tags)
 
     def full(self, key):
-        """Returns the type at a key that was read, or refuses it again."""
+        """Returns what stands at a key that was read, or refuses it again."""
         if key in self.failed:
             raise self.failed[key]
-        return self.cache[key].type
+        return self.cache[key]
 
     def whole(self, use):
         """Returns the type of a use, all of it where it was still being read when it was named."""
         if not use.name or use.own and use.type.kind not in LISTS:
             return use.type
-        found = self.full(use.name)
+        found = self.full(use.name).type
         return replace(found, limits=use.type.limits) if use.own else found
 
     def ordered(self, of):

@@ -1,0 +1,140 @@
+"""Holds what a schema file has beyond pages against what asn1ct made of the same text: values of constructed types, tags and
+object sets."""
+from agree import Agreement
+from literals import Literals, side_of
+from notation import Refused, kind
+from whole import LISTS, RECORDS, Governed
+
+NOTHING = "asn1_NOVALUE"
+SIMPLE = ("BOOLEAN", "INTEGER", "ENUMERATED", "BIT STRING", "OCTET STRING")
+
+
+def text_of(node):
+    """Returns what asn1ct says of a field of an object: the name of a type, or a value."""
+    if kind(node) == "Externaltypereference":
+        return node["type"]
+    if kind(node) == "typedef":
+        return kind(node["typespec"]["def"])
+    value = node["value"] if kind(node) == "valuedef" else node
+    return value.get("t", value) if isinstance(value, dict) else value
+
+
+def texts_of(rows, defaults):
+    """Returns a text of each object, less what it has by default."""
+    return sorted({str(sorted(pair for pair in row if pair not in defaults)) for row in rows})
+
+
+def flat(nodes):
+    """Gives what stands in lists of lists."""
+    for node in nodes:
+        if isinstance(node, list):
+            yield from flat(node)
+        else:
+            yield node
+
+
+class SchemaAgreement(Agreement):
+    """Differences in what a table of types says."""
+
+    def __init__(self, modules):
+        super().__init__(modules.front)
+        self.modules, self.literals, self.sets = modules, Literals(modules), {}
+
+    def use(self, use, node, at, is_whole=False):
+        super().use(use, node, at, is_whole)
+        if isinstance(use, Governed) and use.objects:
+            self.note(*use.objects, use.owner)
+
+    def note(self, node, module, given, owner):
+        """Keeps an object set that has a name."""
+        while kind(node) in ("element_set", "valueset", "objectset"):
+            node = node["t"][1]
+        node = node["def"] if kind(node) == "type" else node
+        if kind(node) == "Externaltypereference":
+            if node["type"] in given:
+                self.note(*given[node["type"]], owner)
+            else:
+                self.sets[self.modules.home(node["module"], node["type"]), node["type"]] = owner
+
+    def lists(self, of, components, at):
+        super().lists(of, components, at)
+        if any(part.group for part in of.all_parts):
+            return      # pages count a group as one
+        sides = components["t"] if isinstance(components, dict) else [components]
+        nodes = {it["name"]: it for it in flat(sides) if kind(it) == "ComponentType"}
+        for part in of.all_parts:
+            tags = nodes.get(part.name, {}).get("tags")
+            if part.tag and isinstance(tags, list):
+                self.say(f"{at}.{part.name}", "the tag", [[*part.tag]], [it["t"] for it in tags])
+
+    def default(self, part, theirs, at):
+        if part.use.type.kind in SIMPLE:
+            super().default(part, theirs, at)
+        else:
+            self.say(at, "the default", self.literals.default(part.default, part.use), self.words(theirs, part.use))
+
+    def words(self, node, use):
+        """Returns the words of a value of asn1ct."""
+        of = self.modules.whole(use)
+        if of.kind in RECORDS:
+            slots = [self.slot(part, it) for part, it in zip(of.all_parts, node["t"][1:])]
+            return ["record", str(len(slots)), *sum(slots, [])]
+        if of.kind in LISTS:
+            return ["list", str(len(node)), *(word for it in node for word in self.words(it, of.element))]
+        if of.kind == "CHOICE":
+            name, inner = node["t"]
+            part = next(it for it in of.all_parts if it.name == name)
+            sides = [[it.name for it in side] for side in (self.modules.ordered(of), of.added or [])]
+            return ["chosen", *side_of(name, *sides), *self.words(inner, part.use)]
+        if of.kind == "BOOLEAN":
+            return [node]
+        if of.kind == "OCTET STRING":
+            return self.literals.default(bytes.fromhex(node["b"]), use)
+        if of.kind == "OBJECT IDENTIFIER":
+            return self.literals.default(node["t"] if isinstance(node, dict) else node, use)
+        return self.literals.value(node, use)
+
+    def slot(self, part, node):
+        if node != NOTHING:
+            return self.words(node, part.use)
+        return self.literals.default(part.default, part.use) if part.presence == "default" else ["absent"]
+
+    def compare_sets(self):
+        """Compares the object sets of open types."""
+        for (module, name), owner in self.sets.items():
+            at = f"{module}, line {self.modules.defined[module, name]['pos']}: {name}"
+            checked = self.front[module]["checked"].get(name)
+            if checked and checked["typespec"]["uniquefname"] not in ("undefined", "no_unique"):
+                node = {"_": "Externaltypereference", "module": module, "type": name}
+                theirs = [[(key, text_of(held)) for key, held in (it["t"] for it in row["t"][2])]
+                          for row in checked["typespec"]["set"] if kind(row) != "EXTENSIONMARK"]
+                ours = [[(key, self.field(held)) for key, held in fields.items()]
+                        for fields, _ in self.modules.members(node, module, {}, owner)]
+                defaults = [(key, self.field(held)) for key, held in self.modules.defaults_of(owner).items()]
+                self.compared += len(ours)
+                self.say(at, "the objects", *(texts_of(rows, defaults) for rows in (ours, theirs)))
+
+    def field(self, node):
+        """Returns what an object says of a field, as text_of has it."""
+        if kind(node) == "type":
+            return kind(node["def"]) if kind(node["def"]) != "Externaltypereference" else node["def"]["type"]
+        if kind(node) != "Externalvaluereference":
+            return text_of(node)
+        try:
+            found = self.modules.value(node)
+        except Refused:
+            return node["value"]
+        is_identifier = isinstance(found, list) and any(kind(step) for step in found)
+        return self.literals.arcs(found) if is_identifier else text_of(found)
+
+
+def differences_of(modules):
+    """Returns the differences in all that was read of modules, and how many parts were compared."""
+    agreement = SchemaAgreement(modules)
+    for key in modules.cache:
+        checked = modules.front[key[0]]["checked"].get(key[1])
+        if key in modules.defined and checked and checked.get("_") == "typedef" and kind(checked["typespec"]) == "type":
+            place = f"{key[0]}, line {modules.defined[key]['pos']}: {key[1]}"
+            agreement.use(modules.cache[key], checked["typespec"], place, is_whole=True)
+    agreement.compare_sets()
+    return agreement.found, agreement.compared
