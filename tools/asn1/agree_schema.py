@@ -2,21 +2,11 @@
 object sets."""
 from agree import Agreement
 from literals import Literals, side_of
-from notation import Refused, kind
-from whole import LISTS, RECORDS, Governed
+from notation import kind
+from whole import DATE, LISTS, RECORDS, Governed
 
 NOTHING = "asn1_NOVALUE"
 SIMPLE = ("BOOLEAN", "INTEGER", "ENUMERATED", "BIT STRING", "OCTET STRING")
-
-
-def text_of(node):
-    """Returns what asn1ct says of a field of an object: the name of a type, or a value."""
-    if kind(node) == "Externaltypereference":
-        return node["type"]
-    if kind(node) == "typedef":
-        return kind(node["typespec"]["def"])
-    value = node["value"] if kind(node) == "valuedef" else node
-    return value.get("t", value) if isinstance(value, dict) else value
 
 
 def texts_of(rows, defaults):
@@ -41,6 +31,8 @@ class SchemaAgreement(Agreement):
         self.modules, self.literals, self.sets = modules, Literals(modules), {}
 
     def use(self, use, node, at, is_whole=False):
+        if use.type.kind == DATE:
+            return      # asn1ct doesn't know it
         super().use(use, node, at, is_whole)
         if isinstance(use, Governed) and use.objects:
             self.note(*use.objects, use.owner)
@@ -106,26 +98,28 @@ class SchemaAgreement(Agreement):
             checked = self.front[module]["checked"].get(name)
             if checked and checked["typespec"]["uniquefname"] not in ("undefined", "no_unique"):
                 node = {"_": "Externaltypereference", "module": module, "type": name}
-                theirs = [[(key, text_of(held)) for key, held in (it["t"] for it in row["t"][2])]
+                theirs = [[(key, self.theirs(held, owner, key)) for key, held in (it["t"] for it in row["t"][2])]
                           for row in checked["typespec"]["set"] if kind(row) != "EXTENSIONMARK"]
-                ours = [[(key, self.field(held)) for key, held in fields.items()]
-                        for fields, _ in self.modules.members(node, module, {}, owner)]
-                defaults = [(key, self.field(held)) for key, held in self.modules.defaults_of(owner).items()]
+                ours = [self.ours(fields, owner) for fields, _ in self.modules.members(node, module, {}, owner)]
+                defaults = self.ours(self.modules.defaults_of(owner), owner)
                 self.compared += len(ours)
                 self.say(at, "the objects", *(texts_of(rows, defaults) for rows in (ours, theirs)))
 
-    def field(self, node):
-        """Returns what an object says of a field, as text_of has it."""
-        if kind(node) == "type":
-            return kind(node["def"]) if kind(node["def"]) != "Externaltypereference" else node["def"]["type"]
-        if kind(node) != "Externalvaluereference":
-            return text_of(node)
-        try:
-            found = self.modules.value(node)
-        except Refused:
-            return node["value"]
-        is_identifier = isinstance(found, list) and any(kind(step) for step in found)
-        return self.literals.arcs(found) if is_identifier else text_of(found)
+    def ours(self, fields, owner):
+        """Returns what an object says of each field: the name of a type, or the words of a value."""
+        found = []
+        for name, node in fields.items():
+            use = self.modules.field_use(owner, name)
+            of = node["def"] if kind(node) == "type" else node
+            found.append((name, self.literals.value(node, use) if use else of["type"] if kind(of) == "Externaltypereference" else kind(of)))
+        return found
+
+    def theirs(self, node, owner, name):
+        """Returns what asn1ct says of a field of an object in the same way."""
+        use = self.modules.field_use(owner, name)
+        if use:
+            return self.words(node["value"] if kind(node) == "valuedef" else node, use)
+        return node["type"] if kind(node) == "Externaltypereference" else kind(node["typespec"]["def"])
 
 
 def differences_of(modules):

@@ -3,9 +3,10 @@ from definitions import Definitions
 from notation import Refused, kind, parts
 
 # The one class that every module has (X.681 Annex A).
+IDENTIFIER = {"_": "type", "tag": [], "def": "OBJECT IDENTIFIER", "constraint": []}
 TYPE_IDENTIFIER = {
-    "fields": [{"t": ["fixedtypevaluefield", "id", {"_": "type", "tag": [], "def": "OBJECT IDENTIFIER", "constraint": []}, "UNIQUE", "MANDATORY"]},
-               {"t": ["typefield", "Type", "MANDATORY"]}],
+    "_": "objectclass",
+    "fields": [{"t": ["fixedtypevaluefield", "id", IDENTIFIER, "UNIQUE", "MANDATORY"]}, {"t": ["typefield", "Type", "MANDATORY"]}],
     "syntax": {"t": ["WITH SYNTAX", [{"t": ["typefieldreference", "Type"]}, "IDENTIFIED", "BY", {"t": ["valuefieldreference", "id"]}]]},
 }
 
@@ -50,6 +51,15 @@ def word_of(token):
 class Objects(Definitions):
     """Object classes, objects and sets of the modules."""
 
+    def __init__(self, front):
+        super().__init__(front)
+        self.defined["", "TYPE-IDENTIFIER"] = {"typespec": TYPE_IDENTIFIER, "_": "classdef", "pos": 0}
+        self.automatic[""] = False
+
+    def home(self, module, name):
+        is_built_in = name == "TYPE-IDENTIFIER" and (module, name) not in self.defined and (module, name) not in self.imported
+        return "" if is_built_in else super().home(module, name)
+
     def class_key(self, reference):
         """Returns the module and the name of a class, behind other names for it."""
         module, name = self.home(reference["module"], reference["type"]), reference["type"]
@@ -58,6 +68,13 @@ class Objects(Definitions):
 
     def class_of(self, key):
         return self.defined[key]["typespec"]
+
+    def field_use(self, owner, name):
+        """Returns the type of the values of a field of a class, or None where each object says a type."""
+        for one in self.class_of(owner)["fields"]:
+            if parts(one)[0] == name and kind(one) in ("fixedtypevaluefield", "object_or_fixedtypevalue_field"):
+                return self.type(parts(one)[1], owner[0], {}, (name,))
+        return None
 
     def members(self, node, module, given, owner):
         """Gives of each object of a set what it says of each field of the class, with the module where it stands."""

@@ -5,10 +5,10 @@ import tempfile
 from dataclasses import dataclass
 
 from agree_schema import differences_of
-from notation import Refused, kind, parsed, read_modules
+from notation import Refused, kind, parsed, read_modules, without_comments
 from table import Place, Table
 from wanted import modules_wanted, name_of
-from whole import Whole
+from whole import DATE, Whole
 
 VERSION = "per_schema 1"
 # Types that stand in one another nest calls.
@@ -28,7 +28,16 @@ def definitions_of(modules, module):
 
 
 def is_type(node):
-    return node["_"] == "typedef" and kind(node["typespec"]) == "type"
+    return node["_"] == "typedef" and kind(node["typespec"]) == "type" and node["name"] != DATE
+
+
+def with_dates(text):
+    """Returns the text of a module with a definition of DATE where it has one, since asn1ct knows none; on the same lines."""
+    found = without_comments(text)
+    if not re.search(r"(?<![\w-])DATE(?![\w-])", re.sub(r'"[^"\n]*"', "", found)):
+        return text
+    end = [*re.finditer(r"\bEND\b", found)][-1].start()
+    return f"{text[:end]}{DATE} ::= IA5String {text[end:]}"
 
 
 def merged(lines):
@@ -109,14 +118,13 @@ def releases_of(words):
 
 def wanted(given, room):
     """Returns the schema of what the words of a call want."""
-    if given.types:
-        schema = Schema(parsed(modules_wanted(given.files, given.types, []), room))
-        for word in given.types.split(","):
-            for home, one in schema.modules.types_of(*name_of(word)):
-                schema.add(home, one)
-        return schema
-    schema = Schema(parsed(read_modules(given.files), room))
-    schema.add_all(schema.modules.front)
+    texts = modules_wanted(given.files, given.types, []) if given.types else read_modules(given.files)
+    schema = Schema(parsed({name: with_dates(text) for name, text in texts.items()}, room))
+    for word in given.types.split(",") if given.types else []:
+        for home, one in schema.modules.types_of(*name_of(word)):
+            schema.add(home, one)
+    if not given.types:
+        schema.add_all(schema.modules.front)
     if given.pdus:
         schema.keep_pdus()
     return schema

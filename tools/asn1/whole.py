@@ -16,6 +16,9 @@ UNIVERSAL = {
     "PrintableString": 19, "TeletexString": 20, "VideotexString": 21, "IA5String": 22, "UTCTime": 23, "GeneralizedTime": 24,
     "GraphicString": 25, "VisibleString": 26, "GeneralString": 27, "BMPString": 30, "DATE": 31,
 }
+# A type that asn1ct doesn't know: to it this is another name (schema.py).
+DATE = "DATE"
+MISSING = ("REAL", "RELATIVE-OID", "EXTERNAL", "EMBEDDED PDV", "CHARACTER STRING", "UniversalString")
 CLASSES = ("UNIVERSAL", "APPLICATION", "CONTEXT", "PRIVATE")
 # How deep types with parameters may stand in one another: behind it, they never end.
 DEEPEST = 100
@@ -54,8 +57,9 @@ class Whole(Objects, Modules):
     """The types of all modules. What is read once has a key in `cache`: a definition's, or that of a type with parameters,
     whose name says what is given. A type that holds itself is named, where it is being read, by its key."""
 
-    def __init__(self, front, reads_contents=True):
-        super().__init__(front, reads_contents)
+    def __init__(self, front):
+        super().__init__(front)
+        self.reads_contents = True
         self.reading, self.failed = {}, {}
 
     def use_of(self, module, name):
@@ -148,6 +152,10 @@ class Whole(Objects, Modules):
             return Use(Type("SET", parts=found.parts, added=found.added))
         if head in MORE_STRINGS:
             return Use(Type(head))
+        if head == "Externaltypereference" and definition["type"] == DATE:
+            return Use(Type(DATE))
+        if head in MISSING:
+            raise Refused(f"{'.'.join(path)} is of the type {head}, which a schema file doesn't have")
         return super().without_constraints(definition, module, given, path)
 
     # Types with parameters.
