@@ -1,12 +1,14 @@
 """Holds what a schema file has beyond pages against what asn1ct made of the same text: values of constructed types, tags and
 object sets."""
+from dataclasses import replace
+
 from agree import Agreement
 from literals import Literals, side_of
 from notation import kind
-from whole import DATE, LISTS, RECORDS, Governed
+from whole import LISTS, RECORDS, Governed
 
 NOTHING = "asn1_NOVALUE"
-SIMPLE = ("BOOLEAN", "INTEGER", "ENUMERATED", "BIT STRING", "OCTET STRING")
+SIMPLE = ("BOOLEAN", "INTEGER", "ENUMERATED", "BIT STRING", "OCTET STRING", "OBJECT IDENTIFIER")
 
 
 def texts_of(rows, defaults):
@@ -31,8 +33,6 @@ class SchemaAgreement(Agreement):
         self.modules, self.literals, self.sets = modules, Literals(modules), {}
 
     def use(self, use, node, at, is_whole=False):
-        if use.type.kind == DATE:
-            return      # asn1ct doesn't know it
         super().use(use, node, at, is_whole)
         if isinstance(use, Governed) and use.objects:
             self.note(*use.objects, use.owner)
@@ -49,15 +49,15 @@ class SchemaAgreement(Agreement):
                 self.sets[self.modules.home(node["module"], node["type"]), node["type"]] = owner
 
     def lists(self, of, components, at):
-        super().lists(of, components, at)
+        super().lists(replace(of, parts=self.modules.ordered(of)), components, at)
         if any(part.group for part in of.all_parts):
             return      # pages count a group as one
         sides = components["t"] if isinstance(components, dict) else [components]
         nodes = {it["name"]: it for it in flat(sides) if kind(it) == "ComponentType"}
         for part in of.all_parts:
             tags = nodes.get(part.name, {}).get("tags")
-            if part.tag and isinstance(tags, list):
-                self.say(f"{at}.{part.name}", "the tag", [[*part.tag]], [it["t"] for it in tags])
+            if part.outer and isinstance(tags, list):
+                self.say(f"{at}.{part.name}", "the tag", [[*part.outer]], [it["t"] for it in tags])
 
     def default(self, part, theirs, at):
         if part.use.type.kind in SIMPLE:
@@ -83,7 +83,7 @@ class SchemaAgreement(Agreement):
         if of.kind == "OCTET STRING":
             return self.literals.default(bytes.fromhex(node["b"]), use)
         if of.kind == "OBJECT IDENTIFIER":
-            return self.literals.default(node["t"] if isinstance(node, dict) else node, use)
+            return self.literals.default(tuple(node["t"] if isinstance(node, dict) else node), use)
         return self.literals.value(node, use)
 
     def slot(self, part, node):
@@ -95,7 +95,7 @@ class SchemaAgreement(Agreement):
         """Compares the object sets of open types."""
         for (module, name), owner in self.sets.items():
             at = f"{module}, line {self.modules.defined[module, name]['pos']}: {name}"
-            checked = self.front[module]["checked"].get(name)
+            checked = self.front[module].get("checked", {}).get(name)
             if checked and checked["typespec"]["uniquefname"] not in ("undefined", "no_unique"):
                 node = {"_": "Externaltypereference", "module": module, "type": name}
                 theirs = [[(key, self.theirs(held, owner, key)) for key, held in (it["t"] for it in row["t"][2])]
@@ -123,12 +123,12 @@ class SchemaAgreement(Agreement):
 
 
 def differences_of(modules):
-    """Returns the differences in all that was read of modules, and how many parts were compared."""
+    """Returns what came of the comparison of all that was read of modules."""
     agreement = SchemaAgreement(modules)
     for key in modules.cache:
-        checked = modules.front[key[0]]["checked"].get(key[1])
+        checked = modules.front[key[0]].get("checked", {}).get(key[1])
         if key in modules.defined and checked and checked.get("_") == "typedef" and kind(checked["typespec"]) == "type":
             place = f"{key[0]}, line {modules.defined[key]['pos']}: {key[1]}"
             agreement.use(modules.cache[key], checked["typespec"], place, is_whole=True)
     agreement.compare_sets()
-    return agreement.found, agreement.compared
+    return agreement

@@ -7,10 +7,6 @@ from whole import LISTS, RECORDS
 TIMES = ("UTCTime", "GeneralizedTime")
 # Strings whose values are octets.
 AS_OCTETS = ("UTF8String", "GeneralString", "GraphicString", "TeletexString", "VideotexString", "ObjectDescriptor")
-# The arcs that may stand without a number at the start of an OBJECT IDENTIFIER (X.660), by how many stand before them.
-ARCS = [{"itu-t": 0, "ccitt": 0, "iso": 1, "joint-iso-itu-t": 2, "joint-iso-ccitt": 2},
-        {"recommendation": 0, "question": 1, "administration": 2, "network-operator": 3, "identified-organization": 3,
-         "standard": 0, "registration-authority": 1, "member-body": 2}]
 DEEPEST = 255
 
 
@@ -79,8 +75,7 @@ class Literals:
             codes = self.codes(found)
             return ["characters", str(len(codes)), *map(str, codes)]
         if of.kind == "OBJECT IDENTIFIER":
-            arcs = self.arcs(found)
-            return ["oid", str(len(arcs)), *map(str, arcs)]
+            return ["oid", str(len(found)), *map(str, self.expect(found, tuple))]
         raise Refused(f"a value of {of.kind} isn't taken")
 
     @staticmethod
@@ -92,22 +87,6 @@ class Literals:
 
     def codes(self, found):
         return self.modules.text(found) if isinstance(found, list) else [*self.expect(found, tuple)]
-
-    def arcs(self, node):
-        """Returns the numbers of an OBJECT IDENTIFIER."""
-        found = []
-        for step in self.expect(self.modules.value(node), list):
-            if kind(step) == "NamedNumber":
-                step = parts(step)[1]
-            if isinstance(step, int):
-                found.append(step)
-            elif kind(step) == "Externalvaluereference":
-                known = ARCS[len(found)] if len(found) < len(ARCS) else {}
-                more = [known[step["value"]]] if step["value"] in known else self.arcs(step)
-                found += more
-            else:
-                raise Refused(f"{step} is no arc of an OBJECT IDENTIFIER")
-        return found
 
     def record(self, found, of, depth):
         """Returns the words of a SEQUENCE or a SET: a slot for each part."""

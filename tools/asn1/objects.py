@@ -2,10 +2,10 @@
 from definitions import Definitions
 from notation import Refused, kind, parts
 
-# The one class that every module has (X.681 Annex A).
+# The class that every module has (X.681 Annex A).
+BUILT_IN = "TYPE-IDENTIFIER"
 IDENTIFIER = {"_": "type", "tag": [], "def": "OBJECT IDENTIFIER", "constraint": []}
 TYPE_IDENTIFIER = {
-    "_": "objectclass",
     "fields": [{"t": ["fixedtypevaluefield", "id", IDENTIFIER, "UNIQUE", "MANDATORY"]}, {"t": ["typefield", "Type", "MANDATORY"]}],
     "syntax": {"t": ["WITH SYNTAX", [{"t": ["typefieldreference", "Type"]}, "IDENTIFIED", "BY", {"t": ["valuefieldreference", "id"]}]]},
 }
@@ -51,23 +51,17 @@ def word_of(token):
 class Objects(Definitions):
     """Object classes, objects and sets of the modules."""
 
-    def __init__(self, front):
-        super().__init__(front)
-        self.defined["", "TYPE-IDENTIFIER"] = {"typespec": TYPE_IDENTIFIER, "_": "classdef", "pos": 0}
-        self.automatic[""] = False
-
-    def home(self, module, name):
-        is_built_in = name == "TYPE-IDENTIFIER" and (module, name) not in self.defined and (module, name) not in self.imported
-        return "" if is_built_in else super().home(module, name)
-
     def class_key(self, reference):
         """Returns the module and the name of a class, behind other names for it."""
+        if reference["type"] == BUILT_IN:
+            return reference["module"], BUILT_IN
         module, name = self.home(reference["module"], reference["type"]), reference["type"]
         other = self.defined[module, name]["typespec"]
-        return self.class_key(other["def"]) if kind(other) == "type" and kind(other["def"]) == "Externaltypereference" else (module, name)
+        is_other_name = kind(other) == "type" and kind(other["def"]) == "Externaltypereference"
+        return self.class_key(other["def"]) if is_other_name else (module, name)
 
     def class_of(self, key):
-        return self.defined[key]["typespec"]
+        return TYPE_IDENTIFIER if key[1] == BUILT_IN else self.defined[key]["typespec"]
 
     def field_use(self, owner, name):
         """Returns the type of the values of a field of a class, or None where each object says a type."""

@@ -5,10 +5,11 @@ import tempfile
 from dataclasses import dataclass
 
 from agree_schema import differences_of
-from notation import Refused, kind, parsed, read_modules, without_comments
+from notation import Refused, read, read_modules
+from refusals import all_of
 from table import Place, Table
 from wanted import modules_wanted, name_of
-from whole import DATE, Whole
+from whole import Whole
 
 VERSION = "per_schema 1"
 # Types that stand in one another nest calls.
@@ -23,21 +24,9 @@ class Root:
 
 
 def definitions_of(modules, module):
-    """Returns the names of a module's types without parameters, in the order of the text."""
-    return [name for (home, name), node in modules.defined.items() if home == module and is_type(node)]
-
-
-def is_type(node):
-    return node["_"] == "typedef" and kind(node["typespec"]) == "type" and node["name"] != DATE
-
-
-def with_dates(text):
-    """Returns the text of a module with a definition of DATE where it has one, since asn1ct knows none; on the same lines."""
-    found = without_comments(text)
-    if not re.search(r"(?<![\w-])DATE(?![\w-])", re.sub(r'"[^"\n]*"', "", found)):
-        return text
-    end = [*re.finditer(r"\bEND\b", found)][-1].start()
-    return f"{text[:end]}{DATE} ::= IA5String {text[end:]}"
+    """Returns the names of a module's types without parameters, in the order of the text, less what stands for DATE."""
+    found = [(name, modules.typespec(home, name)) for home, name in modules.defined if home == module]
+    return [name for name, node in found if node and not modules.is_date(node)]
 
 
 def merged(lines):
@@ -89,7 +78,7 @@ class Schema:
         try:
             self.roots.append(Root(module, name, self.table.definition(module, name)))
         except Refused as why:
-            self.refused[module, name] = str(why)
+            self.refused[module, name] = why
 
     def add_all(self, names):
         """Takes all types of modules."""
@@ -102,10 +91,18 @@ class Schema:
         self.roots = [root for root in self.roots if (root.module, root.name) not in self.table.named]
 
     def text(self, releases):
-        """Returns the text of the schema file; refused where one of its types is."""
-        if self.refused:
-            raise Refused("\n".join(dict.fromkeys(self.refused.values())))
+        """Returns the text of the schema file."""
         return text_of(self.table.lines, self.roots, {module: releases.get(module, "-") for module in self.modules.front})
+
+    def judged(self):
+        """Returns what came of the comparison with asn1ct; refused where anything is."""
+        refused = {line: None for why in self.refused.values() for line in str(why).split("\n")}
+        if refused:
+            raise Refused("\n".join(refused))
+        agreement = differences_of(self.modules)
+        if agreement.found:
+            raise Refused("\n".join(["asn1ct reads the modules otherwise:", *agreement.found]))
+        return agreement
 
 
 def releases_of(words):
@@ -119,26 +116,27 @@ def releases_of(words):
 def wanted(given, room):
     """Returns the schema of what the words of a call want."""
     texts = modules_wanted(given.files, given.types, []) if given.types else read_modules(given.files)
-    schema = Schema(parsed({name: with_dates(text) for name, text in texts.items()}, room))
+    front, complaints = read(texts, room)
+    if complaints:
+        raise all_of(complaints)
+    schema = Schema(front)
     for word in given.types.split(",") if given.types else []:
         for home, one in schema.modules.types_of(*name_of(word)):
             schema.add(home, one)
     if not given.types:
-        schema.add_all(schema.modules.front)
+        schema.add_all(front)
     if given.pdus:
         schema.keep_pdus()
     return schema
 
 
 def written(given):
-    """Writes the schema file that the words of a call want, and returns a line on what there is."""
+    """Writes the schema file that the words of a call want, and returns lines on what there is."""
     releases = releases_of(given.release)
     with tempfile.TemporaryDirectory() as room:
         schema = wanted(given, room)
-    text = schema.text(releases)
-    differ, compared = differences_of(schema.modules)
-    if differ:
-        raise Refused("\n".join(["asn1ct reads the modules otherwise:", *differ]))
+    agreement, text = schema.judged(), schema.text(releases)
     with open(given.schema, "w", encoding="utf-8") as file:
         file.write(text)
-    return f"{len(schema.roots)} names, {text.split()[3]} types; {compared} parts agree with asn1ct"
+    said = [f"{len(schema.roots)} names, {text.split()[3]} types; {agreement.compared} parts agree with asn1ct"]
+    return "\n".join([*said, *(f"without asn1ct's judgement: {at}" for at in agreement.unjudged)])

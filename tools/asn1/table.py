@@ -144,13 +144,13 @@ class Table:
     def part(self, of, part, around):
         """Returns the words of a component, a group or an alternative."""
         if part.group is not None:
-            return ["[[", tag_word(part.tag), self.made(lambda: self.group(part.group))]
+            return ["[[", tag_word(part.outer), self.made(lambda: self.group(part.group))]
         with placed(part.module, part.line):
             place = self.of(part.use, around)
             if of.kind == "CHOICE":
-                return [part.name, tag_word(part.tag), place]
+                return [part.name, tag_word(part.outer), place]
             default = self.literals.default(part.default, part.use) if part.presence == "default" else []
-            return [part.name, tag_word(part.tag), PRESENCES[part.presence], place, *default]
+            return [part.name, tag_word(part.outer), PRESENCES[part.presence], place, *default]
 
     def group(self, parts):
         """Returns the line of a group: a SEQUENCE of its components."""

@@ -2,24 +2,19 @@
 tags, and a type of its own for each object set that is given for a parameter."""
 from dataclasses import dataclass, replace
 
+from model import Part, Type, Use
 from notation import Refused, kind, parts, placed
 from objects import Objects
-from resolve import OTHER_NAMES, PLAIN, Modules, Type, Use
+from refusals import all_of
+from resolve import OTHER_NAMES, Modules, known_forms
+from tags import CLASSES, UNIVERSAL, is_by_place
 
 LISTS = ("SEQUENCE OF", "SET OF")
 RECORDS = ("SEQUENCE", "SET")
 # Strings that PER writes as octets, of which there are no pages.
 MORE_STRINGS = ("VideotexString", "ObjectDescriptor")
-UNIVERSAL = {
-    "BOOLEAN": 1, "INTEGER": 2, "BIT STRING": 3, "OCTET STRING": 4, "NULL": 5, "OBJECT IDENTIFIER": 6, "ObjectDescriptor": 7,
-    "ENUMERATED": 10, "UTF8String": 12, "SEQUENCE": 16, "SEQUENCE OF": 16, "SET": 17, "SET OF": 17, "NumericString": 18,
-    "PrintableString": 19, "TeletexString": 20, "VideotexString": 21, "IA5String": 22, "UTCTime": 23, "GeneralizedTime": 24,
-    "GraphicString": 25, "VisibleString": 26, "GeneralString": 27, "BMPString": 30, "DATE": 31,
-}
-# A type that asn1ct doesn't know: to it this is another name (schema.py).
-DATE = "DATE"
 MISSING = ("REAL", "RELATIVE-OID", "EXTERNAL", "EMBEDDED PDV", "CHARACTER STRING", "UniversalString")
-CLASSES = ("UNIVERSAL", "APPLICATION", "CONTEXT", "PRIVATE")
+MORE_TAGS = {"ObjectDescriptor": 7, "VideotexString": 21}
 # How deep types with parameters may stand in one another: behind it, they never end.
 DEEPEST = 100
 
@@ -60,33 +55,39 @@ class Whole(Objects, Modules):
     def __init__(self, front):
         super().__init__(front)
         self.reads_contents = True
-        self.reading, self.failed = {}, {}
+        self.reading = set()
 
     def use_of(self, module, name):
         key = self.home(module, name), name
-        found = self.defined[key]
-        if found["_"] != "typedef" or kind(found["typespec"]) != "type":
-            with placed(key[0], found["pos"]):
+        found = self.typespec(*key)
+        if found is None:
+            with placed(key[0], self.defined[key]["pos"]):
                 raise Refused(f"{name} is no type without parameters")
         return self.once(key, found, {}, (name,))
 
-    def once(self, key, found, given, path):
+    def once(self, key, node, given, path):
         """Returns the use of a definition, which is read once for what is given for its parameters."""
         if key in self.reading:
-            return Use(self.outline(found["typespec"], key[0], given), key, tags=self.tags_of(found["typespec"], given))
-        if key in self.failed:
-            raise self.failed[key]
-        if key not in self.cache:
-            self.reading[key] = found
+            return Use(self.outline(node, key[0], given), key, tags=self.tags_of(node, given))
+        if key not in self.cache and key not in self.failed:
+            self.reading.add(key)
+            before = len(self.refusals.found)
             try:
-                with placed(key[0], found["pos"]):
-                    self.cache[key] = self.type(found["typespec"], key[0], given, path)
+                with placed(key[0], self.defined[key[0], path[0]]["pos"]), known_forms(path[0]):
+                    self.cache[key] = self.type(node, key[0], given, path)
             except Refused as why:
-                self.failed[key] = why
-                raise
+                self.refusals.found.append(why)
             finally:
-                del self.reading[key]
-        return Use(self.cache[key].type, key, tags=self.cache[key].tags)
+                self.reading.remove(key)
+            self.fail(key, self.refusals.found[before:])
+            del self.refusals.found[before:]
+        return Use(self.full(key).type, key, tags=self.full(key).tags)
+
+    def fail(self, key, refused):
+        """Refuses a definition, where anything was refused in it."""
+        if refused:
+            self.cache.pop(key, None)
+            self.failed[key] = all_of(refused)
 
     def full(self, key):
         """Returns what stands at a key that was read, or refuses it again."""
@@ -106,8 +107,8 @@ class Whole(Objects, Modules):
         return sorted(of.parts, key=self.smallest_tag) if of.kind == "CHOICE" else of.parts
 
     def smallest_tag(self, part):
-        if part.tag:
-            return CLASSES.index(part.tag[0]), part.tag[1]
+        if part.outer:
+            return CLASSES.index(part.outer[0]), part.outer[1]
         of = self.whole(part.use)
         return min(map(self.smallest_tag, of.parts)) if of.kind == "CHOICE" and of.parts else (len(CLASSES), 0)
 
@@ -118,20 +119,21 @@ class Whole(Objects, Modules):
             found = Type(head)
         elif head == "Externaltypereference" and node["def"]["type"] not in given:
             home = self.home(node["def"]["module"], node["def"]["type"])
-            found = self.outline(self.defined[home, node["def"]["type"]]["typespec"], home, {})
+            found = self.outline(self.typespec(home, node["def"]["type"]), home, {})
         elif head == "pt":
             home = self.home(parts(node["def"])[0]["module"], parts(node["def"])[0]["type"])
             found = Type(self.outline(self.defined[home, parts(node["def"])[0]["type"]]["typespec"], home, {}).kind)
         else:
             raise Refused("a type is made of itself alone")
-        return Type(found.kind, self.limited(found.limits, node["constraint"], module, given, found.kind))
+        return Type(found.kind, self.limited(found.limits, node["constraint"], module, given, found.kind, {}))
 
     def tags_of(self, node, given):
         """Returns the tags of a type that is being read."""
         if node["tag"]:
             return [(tag["class"], tag["number"]) for tag in node["tag"]]
         if kind(node["def"]) == "Externaltypereference" and node["def"]["type"] not in given:
-            return self.tags_of(self.find(node["def"]["module"], node["def"]["type"])["typespec"], {})
+            home = self.home(node["def"]["module"], node["def"]["type"])
+            return self.tags_of(self.typespec(home, node["def"]["type"]), {})
         return None
 
     def type(self, node, module, given, path=()):
@@ -152,8 +154,6 @@ class Whole(Objects, Modules):
             return Use(Type("SET", parts=found.parts, added=found.added))
         if head in MORE_STRINGS:
             return Use(Type(head))
-        if head == "Externaltypereference" and definition["type"] == DATE:
-            return Use(Type(DATE))
         if head in MISSING:
             raise Refused(f"{'.'.join(path)} is of the type {head}, which a schema file doesn't have")
         return super().without_constraints(definition, module, given, path)
@@ -173,7 +173,8 @@ class Whole(Objects, Modules):
             words.append(self.spelled(*inner[dummy.get("type") or dummy.get("value")]))
         if len(self.reading) > DEEPEST:
             raise Refused(f"{reference['type']} stands in itself, each time with other parameters, without an end")
-        return self.once((home, f"{reference['type']} {{{', '.join(words)}}}"), found, inner, (reference["type"],))
+        key = home, f"{reference['type']} {{{', '.join(words)}}}"
+        return self.once(key, found["typespec"], inner, (reference["type"],))
 
     def given_for(self, node, module, given):
         """Returns what is given for a parameter, and where it stands; behind parameters that it names alone."""
@@ -201,28 +202,23 @@ class Whole(Objects, Modules):
 
     def record(self, nodes, module, given, path):
         root, added = self.listed(nodes, module, given, path)
-        self.tagged(nodes, root, added, module)
+        self.tagged(root, added, module)
         return Type("SEQUENCE", parts=root, added=added)
 
     def choice(self, nodes, module, given, path):
         root, added = self.listed(nodes, module, given, path)
         if added is not None:
             added = [it for part in added for it in (part.group or [part])]
-        self.tagged(nodes, root, added, module)
+        self.tagged(root, added, module)
         return Type("CHOICE", parts=root, added=added)
 
-    def tagged(self, nodes, root, added, module):
+    def tagged(self, root, added, module):
         """Gives parts their tags: by place where none is written (X.680 25.7), a group counted as one, else the outermost."""
         flat = [*root, *(added or [])]
-        is_written = any(kind(node) == "ComponentType" and node["typespec"]["tag"] for node in nodes)
-        for number, part in enumerate(flat):
-            for inner, one in enumerate(part.group or []):
-                one.tag = outermost(one.use) if is_written or not self.automatic[module] else ("CONTEXT", inner)
-            if self.automatic[module] and not is_written:
-                part.tag = ("CONTEXT", number)
-            else:
-                part.tag = None if part.group else outermost(part.use)
-
+        by_place = is_by_place(flat, self.automatic[module])
+        for parts_there in [flat, *(part.group or [] for part in flat)]:
+            for number, part in enumerate(parts_there):
+                part.outer = ("CONTEXT", number) if by_place else outermost(part)
 
     @staticmethod
     def group_type(found):
@@ -230,8 +226,9 @@ class Whole(Objects, Modules):
         return Type("SEQUENCE", parts=found)
 
 
-def outermost(use):
-    """Returns the outermost tag of a type where it is used, or None for an untagged CHOICE and an open type."""
-    if use.tags:
-        return use.tags[0]
-    return ("UNIVERSAL", UNIVERSAL[use.type.kind]) if use.type.kind in UNIVERSAL else None
+def outermost(part: Part):
+    """Returns the class and number of a part's outermost tag; None of an untagged CHOICE, an open type and a group."""
+    if part.group is not None:
+        return None
+    number = {**UNIVERSAL, **MORE_TAGS}.get(part.use.type.kind)
+    return part.use.tags[0] if part.use.tags else None if number is None else ("UNIVERSAL", number)
