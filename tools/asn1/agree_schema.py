@@ -69,7 +69,10 @@ class SchemaAgreement(Agreement):
         """Returns the words of a value of asn1ct."""
         of = self.modules.whole(use)
         if of.kind in RECORDS:
-            slots = [self.slot(part, it) for part, it in zip(of.all_parts, node["t"][1:])]
+            root = sorted(of.parts, key=self.modules.smallest_tag) if of.kind == "SET" else of.parts
+            names = [it.name for part in [*root, *(of.added or [])] for it in (part.group or [part])]
+            given = dict(zip(names, node["t"][1:]))
+            slots = [self.slot(part, given) for part in of.all_parts]
             return ["record", str(len(slots)), *sum(slots, [])]
         if of.kind in LISTS:
             return ["list", str(len(node)), *(word for it in node for word in self.words(it, of.element))]
@@ -86,9 +89,13 @@ class SchemaAgreement(Agreement):
             return self.literals.default(tuple(node["t"] if isinstance(node, dict) else node), use)
         return self.literals.value(node, use)
 
-    def slot(self, part, node):
-        if node != NOTHING:
-            return self.words(node, part.use)
+    def slot(self, part, given):
+        if part.group is not None:
+            slots = [self.slot(it, given) for it in part.group]
+            is_there = any(given[it.name] != NOTHING for it in part.group)
+            return ["record", str(len(slots)), *sum(slots, [])] if is_there else ["absent"]
+        if given[part.name] != NOTHING:
+            return self.words(given[part.name], part.use)
         return self.literals.default(part.default, part.use) if part.presence == "default" else ["absent"]
 
     def compare_sets(self):

@@ -27,6 +27,18 @@ TYPE_IDENTIFIER = {"_": "typedef", "pos": 0, "name": "TYPE-IDENTIFIER", "typespe
 ]}}
 
 
+def steps_of(nodes):
+    """Gives the arcs of an OBJECT IDENTIFIER, of which the parser takes `{ home 5 }` for a component and its value."""
+    for node in nodes:
+        if kind(node) == "NamedNumber":
+            yield parts(node)[1]
+        elif isinstance(node, dict) and "t" in node and kind(node["t"][0]) == "seqtag":
+            tag = node["t"][0]
+            yield from ({"_": "Externalvaluereference", "pos": tag["pos"], "module": tag["module"], "value": tag["val"]}, node["t"][1])
+        else:
+            yield node
+
+
 class Bits(str):
     """The bits of a string, as a text of the digits 0 and 1."""
 
@@ -133,8 +145,7 @@ class Definitions:
     def arcs(self, node):
         """Returns the numbers of an OBJECT IDENTIFIER (X.680 32)."""
         found, steps = [], self.value(node)
-        for step in steps if isinstance(steps, list) else [None]:
-            step = parts(step)[1] if kind(step) == "NamedNumber" else step
+        for step in steps_of(steps) if isinstance(steps, list) else [None]:
             known = ARCS[len(found)] if len(found) < len(ARCS) else {}
             if isinstance(step, int):
                 found.append(step)

@@ -98,9 +98,7 @@ class Literals:
 
     def slot(self, part, given, depth):
         if part.group is not None:
-            inner = [self.slot(it, given, depth + 1) for it in part.group]
-            is_there = any(words != ["absent"] and it.presence != "default" for it, words in zip(part.group, inner))
-            return ["record", str(len(inner)), *sum(inner, [])] if is_there else ["absent"]
+            return self.group(part.group, given, depth)
         if part.name in given:
             return self.value(given.pop(part.name), part.use, depth)
         if part.presence == "default":
@@ -108,6 +106,14 @@ class Literals:
         if part.presence == "required":
             raise Refused(f"a value has no {part.name}")
         return ["absent"]
+
+    def group(self, parts_there, given, depth):
+        """Returns the words of a group: it is absent where each of its components is, or is at its default (X.691 19.9)."""
+        if not any(part.name in given for part in parts_there):
+            return ["absent"]
+        slots = [self.slot(part, given, depth + 1) for part in parts_there]
+        left_out = [["absent"] if it.presence != "default" else self.slot(it, {}, depth + 1) for it in parts_there]
+        return ["absent"] if slots == left_out else ["record", str(len(slots)), *sum(slots, [])]
 
     def chosen(self, found, of, depth):
         """Returns the words of a CHOICE, whose root alternatives stand in the order of their tags."""

@@ -96,9 +96,8 @@ class Schema:
 
     def judged(self):
         """Returns what came of the comparison with asn1ct; refused where anything is."""
-        refused = {line: None for why in self.refused.values() for line in str(why).split("\n")}
-        if refused:
-            raise Refused("\n".join(refused))
+        if self.refused:
+            raise all_of(self.refused.values())
         agreement = differences_of(self.modules)
         if agreement.found:
             raise Refused("\n".join(["asn1ct reads the modules otherwise:", *agreement.found]))

@@ -28,6 +28,18 @@ class Governed(Use):
     chooser: str = ""           # the component beside it whose value says which object it is
 
 
+class Several(Refused):
+    """Several refusals, each with its place."""
+
+    @property
+    def place(self):
+        return None
+
+    @place.setter
+    def place(self, _):
+        """They have theirs."""
+
+
 def reference_of(node):
     """Returns the definition that a type names and nothing else, or None."""
     is_bare = kind(node) == "type" and not node["tag"] and not node["constraint"]
@@ -87,7 +99,7 @@ class Whole(Objects, Modules):
         """Refuses a definition, where anything was refused in it."""
         if refused:
             self.cache.pop(key, None)
-            self.failed[key] = all_of(refused)
+            self.failed[key] = refused[0] if len(refused) == 1 else Several(str(all_of(refused)))
 
     def full(self, key):
         """Returns what stands at a key that was read, or refuses it again."""
