@@ -7,6 +7,7 @@ from dataclasses import dataclass
 from agree_schema import differences_of
 from notation import Refused, read, read_modules
 from refusals import all_of
+from schema_rules import File
 from table import Place, Table
 from wanted import modules_wanted, name_of
 from whole import Whole
@@ -135,6 +136,9 @@ def written(given):
     with tempfile.TemporaryDirectory() as room:
         schema = wanted(given, room)
     agreement, text = schema.judged(), schema.text(releases)
+    faults = File(text).faults
+    if faults:
+        raise Refused("\n".join(["the schema file would break its rules, by its lines:", *faults]))
     with open(given.schema, "w", encoding="utf-8") as file:
         file.write(text)
     said = [f"{len(schema.roots)} names, {text.split()[3]} types; {agreement.compared} parts agree with asn1ct"]

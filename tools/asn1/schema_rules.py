@@ -1,4 +1,4 @@
-"""Reads a schema file by the rules of docs/SCHEMA-FILE.md alone, and says which line breaks one, for tools/asn1/test."""
+"""Reads a schema file by the rules of docs/SCHEMA-FILE.md alone, and says which line breaks one, before it is written."""
 import re
 from dataclasses import dataclass, field
 
@@ -178,8 +178,11 @@ class File:
         readers = [self.module] * counts[0] + [self.type] * counts[1] + [self.root] * counts[2]
         for number, (read, line) in enumerate(zip(readers, lines[1:]), 2):
             self.tried(number, read, Words(line, counts[1]))
+        finite = self.finite()
         for place, line in enumerate(self.types):
             self.tried(place + 2 + counts[0], self.judge, line)
+            if place not in finite:
+                self.faults.append(f"{place + 2 + counts[0]}: it needs itself")
 
     def tried(self, number, read, *given):
         try:
@@ -204,6 +207,24 @@ class File:
         self.types[-1] = words.type()
 
     # What can be judged behind the last line.
+
+    def finite(self):
+        """Returns the places of types that have a value."""
+        found, before = set(), None
+        while found != before:
+            before = set(found)
+            found |= {place for place, line in enumerate(self.types) if self.has_value(line, found)}
+        return found
+
+    @staticmethod
+    def has_value(line, found):
+        if line.kind in ("sequence", "set"):
+            return all(part.presence in "og" or part.place in found for part in line.parts)
+        if line.kind == "choice":
+            return any(part.place in found for part in line.parts)
+        if line.kind == "containing" or line.kind in ("sequence_of", "set_of") and line.size[0] > 0:
+            return line.place in found
+        return True
 
     def judge(self, line):
         if line.kind == "enumerated":
