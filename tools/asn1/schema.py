@@ -5,7 +5,7 @@ import tempfile
 from dataclasses import dataclass
 
 from agree_schema import differences_of
-from notation import Refused, read, read_modules
+from notation import Refused, kind, read, read_modules
 from refusals import all_of
 from schema_rules import File
 from table import Place, Table
@@ -26,8 +26,8 @@ class Root:
 
 def definitions_of(modules, module):
     """Returns the names of a module's types without parameters, in the order of the text, less what stands for DATE."""
-    found = [(name, modules.typespec(home, name)) for home, name in modules.defined if home == module]
-    return [name for name, node in found if node and not modules.is_date(node)]
+    found = [(name, node) for (home, name), node in modules.defined.items() if home == module and node["_"] == "typedef"]
+    return [name for name, node in found if kind(node["typespec"]) == "type" and not modules.is_date(node["typespec"])]
 
 
 def merged(lines):
