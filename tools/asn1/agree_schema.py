@@ -118,7 +118,8 @@ class SchemaAgreement(Agreement):
         for name, node in fields.items():
             use = self.modules.field_use(owner, name)
             of = node["def"] if kind(node) == "type" else node
-            found.append((name, self.literals.value(node, use) if use else of["type"] if kind(of) == "Externaltypereference" else kind(of)))
+            said = of["type"] if kind(of) == "Externaltypereference" else kind(of)
+            found.append((name, self.literals.value(node, use) if use else said))
         return found
 
     def theirs(self, node, owner, name):
