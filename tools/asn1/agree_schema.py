@@ -1,7 +1,5 @@
 """Holds what a schema file has beyond pages against what asn1ct made of the same text: values of constructed types, tags and
 object sets."""
-from dataclasses import replace
-
 from agree import Agreement
 from literals import Literals, side_of
 from notation import kind
@@ -48,8 +46,11 @@ class SchemaAgreement(Agreement):
             else:
                 self.sets[self.modules.home(node["module"], node["type"]), node["type"]] = owner
 
+    def root_of(self, of):
+        return self.modules.ordered(of)
+
     def lists(self, of, components, at):
-        super().lists(replace(of, parts=self.modules.ordered(of)), components, at)
+        super().lists(of, components, at)
         if any(part.group for part in of.all_parts):
             return      # pages count a group as one
         sides = components["t"] if isinstance(components, dict) else [components]
@@ -118,7 +119,8 @@ class SchemaAgreement(Agreement):
         for name, node in fields.items():
             use = self.modules.field_use(owner, name)
             of = node["def"] if kind(node) == "type" else node
-            found.append((name, self.literals.value(node, use) if use else of["type"] if kind(of) == "Externaltypereference" else kind(of)))
+            said = of["type"] if kind(of) == "Externaltypereference" else kind(of)
+            found.append((name, self.literals.value(node, use) if use else said))
         return found
 
     def theirs(self, node, owner, name):

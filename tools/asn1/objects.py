@@ -5,9 +5,13 @@ from notation import Refused, kind, parts
 # The class that every module has (X.681 Annex A).
 BUILT_IN = "TYPE-IDENTIFIER"
 IDENTIFIER = {"_": "type", "tag": [], "def": "OBJECT IDENTIFIER", "constraint": []}
+SYNTAX = [{"t": ["typefieldreference", "Type"]}, "IDENTIFIED", "BY", {"t": ["valuefieldreference", "id"]}]
 TYPE_IDENTIFIER = {
-    "fields": [{"t": ["fixedtypevaluefield", "id", IDENTIFIER, "UNIQUE", "MANDATORY"]}, {"t": ["typefield", "Type", "MANDATORY"]}],
-    "syntax": {"t": ["WITH SYNTAX", [{"t": ["typefieldreference", "Type"]}, "IDENTIFIED", "BY", {"t": ["valuefieldreference", "id"]}]]},
+    "fields": [
+        {"t": ["fixedtypevaluefield", "id", IDENTIFIER, "UNIQUE", "MANDATORY"]},
+        {"t": ["typefield", "Type", "MANDATORY"]},
+    ],
+    "syntax": {"t": ["WITH SYNTAX", SYNTAX]},
 }
 
 

@@ -33,10 +33,11 @@ def found(words, folder):
 # An import that isn't used, of what isn't there: Wireshark writes it out where it stands.
 UNUSED = (r"\bSetupRelease,", "")
 HEADER = "ItsPduHeader ::= SEQUENCE { protocolVersion INTEGER (0..255), messageID INTEGER (0..255), stationID StationID }"
+IMPORT = "IMPORTS MobilityInformation FROM S1AP-IEs;"
 WITHOUT_IMPORT = "; without an import that is used nowhere"
 KNOWN = [
     Protocol("NGAP", "ngap/*.asn"),
-    Protocol("S1AP", "s1ap/*.asn", "", {"S1AP-SonTransfer-IEs.asn": (r"\bBEGIN\b", "BEGIN IMPORTS MobilityInformation FROM S1AP-IEs;")},
+    Protocol("S1AP", "s1ap/*.asn", "", {"S1AP-SonTransfer-IEs.asn": (r"\bBEGIN\b", f"BEGIN {IMPORT}")},
              "; with an import that it lacks"),
     Protocol("X2AP", "x2ap/*.asn"),
     Protocol("XnAP", "xnap/*.asn"),

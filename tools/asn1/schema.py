@@ -68,10 +68,12 @@ def text_of(lines, roots, releases):
 
 
 class Schema:
-    """The table of the types that are wanted, by their roots, and the refusals of those that aren't taken."""
+    """The table of the types that are wanted, by their roots, and the refusals of those that aren't taken. `complaints` are
+    asn1ct's."""
 
-    def __init__(self, front):
+    def __init__(self, front, complaints=()):
         sys.setrecursionlimit(MOST_CALLS)
+        self.complaints = complaints
         self.modules = Whole(front)
         self.table, self.roots, self.refused = Table(self.modules), [], {}
 
@@ -97,8 +99,10 @@ class Schema:
 
     def judged(self):
         """Returns what came of the comparison with asn1ct; refused where anything is."""
-        if self.refused:
-            raise all_of(self.refused.values())
+        places = {why.place for why in self.refused.values()}
+        refused = [*self.refused.values(), *(why for why in self.complaints if why.place not in places)]
+        if refused:
+            raise all_of(refused)
         agreement = differences_of(self.modules)
         if agreement.found:
             raise Refused("\n".join(["asn1ct reads the modules otherwise:", *agreement.found]))
@@ -117,9 +121,7 @@ def wanted(given, room):
     """Returns the schema of what the words of a call want."""
     texts = modules_wanted(given.files, given.types, []) if given.types else read_modules(given.files)
     front, complaints = read(texts, room)
-    if complaints:
-        raise all_of(complaints)
-    schema = Schema(front)
+    schema = Schema(front, complaints)
     for word in given.types.split(",") if given.types else []:
         for home, one in schema.modules.types_of(*name_of(word)):
             schema.add(home, one)

@@ -6,7 +6,14 @@ PLAIN = """boolean null object_identifier utc_time generalized_time date utf8_st
 videotex_string object_descriptor""".split()
 SIZED = ("octet_string", "bit_string", "named_bits")
 LETTERED = ("ia5_string", "visible_string", "printable_string", "numeric_string", "bmp_string", "universal_string")
-OCTETS = ("octet_string", "utf8_string", "general_string", "graphic_string", "teletex_string", "videotex_string", "object_descriptor")
+OCTETS = ("octet_string", "utf8_string", "general_string", "graphic_string", "teletex_string", "videotex_string",
+          "object_descriptor")
+# The types of which each sort of value is one.
+TYPES = {
+    "true": ["boolean"], "false": ["boolean"], "null": ["null"], "int": ["integer"], "item": ["enumerated"], "octets": OCTETS,
+    "bits": ["bit_string", "named_bits"], "oid": ["object_identifier"], "list": ["sequence_of", "set_of"],
+    "characters": [*LETTERED, "utc_time", "generalized_time"], "record": ["sequence", "set"], "chosen": ["choice"],
+}
 NUMBER = re.compile(r"0|-?[1-9][0-9]*")
 NAME = re.compile(r"[A-Za-z][A-Za-z0-9-]*")
 TAG = re.compile(r"-|[uacp](0|[1-9][0-9]*)")
@@ -101,7 +108,7 @@ class Words:
         if head == "item":
             return [head, self.word("root|added"), self.count()]
         if head == "octets":
-            return [head, self.word("-|([0-9a-f]{2})+")]
+            return [head, bytes.fromhex(self.word("-|([0-9a-f]{2})+").replace("-", ""))]
         if head == "bits":
             return [head, self.word("-|[01]+").replace("-", "")]
         if head in ("characters", "oid"):
@@ -262,16 +269,12 @@ class File:
         of, head = self.types[place], value[0]
         if of.kind == "containing":
             return self.expect(value, of.place)
-        kinds = {"true": ["boolean"], "false": ["boolean"], "null": ["null"], "int": ["integer"], "item": ["enumerated"],
-                 "octets": OCTETS, "bits": ["bit_string", "named_bits"], "oid": ["object_identifier"],
-                 "characters": [*LETTERED, "utc_time", "generalized_time"], "list": ["sequence_of", "set_of"],
-                 "record": ["sequence", "set"], "chosen": ["choice"]}
-        if of.kind not in kinds.get(head, []):
+        if of.kind not in TYPES.get(head, []):
             raise Wrong(f"{head} is no value of {of.kind}")
         if head == "int":
             self.within(of.bounds, value[1])
-        elif head in ("bits", "list") or head == "octets" and of.kind == "octet_string":
-            self.within(of.size, len(value[1].replace("-", "")) // (2 if head == "octets" else 1) if head != "list" else len(value[1]))
+        elif of.kind in (*SIZED, *LETTERED, "sequence_of", "set_of"):
+            self.within(of.size, len(value[1]))
         if head == "list":
             return [self.expect(it, of.place) for it in value[1]]
         if head == "record":

@@ -20,7 +20,8 @@ REFUSED = [
     ("D ::= SEQUENCE { a NULL, inner D OPTIONAL }", ""),
     ("E ::= SEQUENCE { a SEQUENCE { x BOOLEAN } DEFAULT { } }", "a value has no x"),
     ("K ::= CLASS { &id INTEGER UNIQUE, &Type } WITH SYNTAX { &id IS &Type }", ""),
-    ("Ks K ::= { { 1 IS NULL } | { 1 IS BOOLEAN } }", ""),
+    ("Ks K ::= { { 1 IS NULL } | { 1 IS BOOLEAN } }",
+     "asn1ct: object set with a UNIQUE field value of '1' is used more than once"),
     ("F ::= SEQUENCE { i K.&id ({ Ks }), t K.&Type ({ Ks } { @i }) }", "two objects of a set have the same id, int 1"),
 ]
 # Lines of Example.schema, changed, and what the rules say of them.
@@ -84,20 +85,20 @@ def past_pages(top):
     """Gives what is wrong with lists that are too long for a page."""
     items = ", ".join(f"i{number}" for number in range(300))
     parts = ", ".join(f"p{number} NULL" for number in range(100))
-    text, said = compiled(top, f"Long DEFINITIONS AUTOMATIC TAGS ::= BEGIN\nE ::= ENUMERATED {{ {items} }}\nS ::= SEQUENCE {{ {parts} }}\nEND\n")
+    text, said = compiled(top, "Long", [f"E ::= ENUMERATED {{ {items} }}", f"S ::= SEQUENCE {{ {parts} }}"])
     yield f"\nenumerated 300 - {items.replace(',', '')}\n" not in text and f"300 items aren't taken: {said}"
     yield "\nsequence 100 - p0 c0 r 2 " not in text and f"100 components aren't taken: {said}"
 
 
-def compiled(top, text):
+def compiled(top, name, lines):
+    """Returns the same of a module of these lines."""
     with open(f"{top}/made.asn", "w", encoding="utf-8") as file:
-        file.write(text)
+        file.write("\n".join([f"{name} DEFINITIONS AUTOMATIC TAGS ::= BEGIN", *lines, "END", ""]))
     return written(top, ["--all", f"{top}/made.asn"])
 
 
 def refusals(top):
     """Gives what is wrong with how types are refused: all at once, each once, and nothing is written."""
-    lines = "\n".join(line for line, _ in REFUSED)
-    text, said = compiled(top, f"Bad DEFINITIONS AUTOMATIC TAGS ::= BEGIN\n{lines}\nEND\n")
+    text, said = compiled(top, "Bad", [line for line, _ in REFUSED])
     expected = [f"Bad, line {number}: {reason}" for number, (_, reason) in enumerate(REFUSED, 2) if reason]
     yield (text, said) != ("", "\n".join([f"asn1: {expected[0]}", *expected[1:], ""])) and f"Bad.asn is refused otherwise: {said}"

@@ -1,8 +1,7 @@
 """The table of types of a schema file (docs/SCHEMA-FILE.md): a line of words a type, in which types are named by their places."""
 from dataclasses import dataclass
 
-from constraints import LETTERS
-from literals import AS_OCTETS, Literals
+from literals import Literals
 from notation import Refused, kind, placed
 from objects import type_node
 from whole import LISTS, RECORDS, Governed
@@ -139,7 +138,8 @@ class Table:
         """Returns the line of a SEQUENCE, a SET or a CHOICE."""
         around = of if of.kind in RECORDS else around
         head = [of.kind.lower(), count(of.parts), count(of.added)]
-        return [*head, *(word for part in [*self.modules.ordered(of), *(of.added or [])] for word in self.part(of, part, around))]
+        parts = [*self.modules.ordered(of), *(of.added or [])]
+        return [*head, *(word for part in parts for word in self.part(of, part, around))]
 
     def part(self, of, part, around):
         """Returns the words of a component, a group or an alternative."""

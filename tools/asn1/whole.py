@@ -66,7 +66,7 @@ class Whole(Objects, Modules):
 
     def __init__(self, front):
         super().__init__(front)
-        self.reads_contents = True
+        self.reads_contents = self.refusals.goes_on = True
         self.reading = set()
 
     def use_of(self, module, name):
