@@ -27,12 +27,17 @@ class Alias(Page):
     def lines(self):
         item, of = self.item, self.item.type
         target = self.rust(item.target) if item.target else self.held(of)
-        lines = [*self.doc(), f"pub type {item.rust} = {target};", ""]
+        name, limits = self.items.limited_names(item)
+        lines = [*self.doc(), f"pub type {item.rust} = {f'Constrained<{target}, {limits}>' if item.is_bound else target};", ""]
         if LIBRARY & set(re.findall(r"\w+", target)):
             self.imports.use(PAGE, "*")
         if of.kind in ("INTEGER", "BIT STRING") and not (item.target and "/" in item.key[1]):
             lines += [line for name, number in of.names.items() for line in self.constant(name, number)]
-        return [*lines, *self.limited()] if item.is_limited and of.limits else lines
+        if not item.is_limited or not of.limits:
+            return lines
+        if not item.is_bound:
+            lines += [f"/// `{item.rust}` under its constraints.", f"pub type {name} = Constrained<{item.rust}, {limits}>;", ""]
+        return [*lines, *self.limits(limits)]
 
     def constant(self, name, number):
         """Returns the lines of a named number or bit."""
@@ -43,16 +48,14 @@ class Alias(Page):
         called = untaken(f"{constant(rust)}_{constant(name)}", self.taken)
         return [f"/// {what}", f"pub const {called}: {width} = {grouped(number)};", ""]
 
-    def limited(self):
-        """Returns the lines of the type under its constraints."""
+    def limits(self, name):
+        """Returns the lines of its constraints, as a type of this name."""
         of, rust = self.item.type, self.item.rust
         self.imports.use(PAGE, "*")
-        name = self.items.limited_name(self.item)
         bounds, words = self.bounds(of.limits), limit_words(of, self.imports)
         called = untaken(f"LIMITS_OF_{constant(rust)}", self.taken)
-        limits = filled(templates.LIMITS, rust=rust, limited=name, limits=f"{name[7:]}Limits", constant=called,
-                        bounds=bounds, words=words)
-        return [*self.letter_lines(), *limits, ""]
+        lines = filled(templates.LIMITS, rust=rust, limits=name, constant=called, bounds=bounds, words=words)
+        return [*self.letter_lines(), *lines, ""]
 
 
 def number_type(held, number):

@@ -19,6 +19,30 @@ READINGS = {
     "Named": ((1, 5, False), None, None), "InSet": ((3, 9, False), None, None), "Exception": ((1, 4, True), None, None),
     "Unioned": ((70000, 2199023255552, False), None, None),
 }
+# Lines that its schema has, of types that were others or none.
+WORDS = """
+marked_letters = ia5_string any
+    visible_string any ∷  -- code
+gap_bits = bit_string (size 5 to 5)
+gap_octets = octet_string (size 2 to 2)
+gap_left = integer u8 (2 to 3)
+excepted = integer u8 (0 to 20)
+all_excepted = integer u8 (0 to 6)
+marked_size = printable_string (extensible (size 2 to 5))
+marked_list = sequence_of (extensible (size 2 to 5)) boolean
+below = integer u8 (0 to 5)
+past = integer u8 (0 to 5)
+wide = extensible_enumerated 256 1
+open_ = integer u8 (1 to 11)
+within = integer u8 (0 to 3)
+named = integer u8 (1 to 5)
+    default (whole (pos 4)) (integer u8 (0 to 9)) ∷  -- a
+in_set = integer u8 (3 to 9)
+exception = integer big (extensible (1 to 4))
+unioned = integer u64 (70000 to 2199023255552)
+"""
+# Of which a list alone has a name under their constraints.
+NOT_WANTED = ("Small",)
 
 
 @dataclass
@@ -44,13 +68,13 @@ WRONG = {
 
 
 def names():
-    """Returns the types of the sample, each with its module."""
+    """Returns the types of the sample that are wanted, each with its module."""
     found, module = [], None
     with open(PATH, encoding="utf-8") as file:
         for line in file:
             module = line.split()[0] if "DEFINITIONS" in line else module
             name = re.match(r"([A-Z]\w*) (?:INTEGER )?::=", line)
-            found += [f"{module}.{name[1]}"] if name else []
+            found += [f"{module}.{name[1]}"] if name and name[1] not in NOT_WANTED else []
     return found
 
 

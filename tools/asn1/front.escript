@@ -13,7 +13,8 @@
 %%
 %% asn1ct makes one range of a size that has several, and a list of each number of a union, and ends at a fault of its own.
 %% Functions of its check are replaced in memory: here it keeps the ranges, and goes on behind a definition where it ended.
-%% It ends behind its check (`abs`), when it has saved what it made, and doesn't list it.
+%% It ends behind its check (`abs`), when it has saved what it made, and doesn't list it. A folder that the environment's
+%% ASN1_KEPT names keeps the code with these.
 -mode(compile).
 
 main([Folder, Out, Seconds, Words | Names]) ->
@@ -128,14 +129,32 @@ in_check() ->
 
 %% Replaces functions by those of these texts. The former ones are left, with `_here` behind their names.
 replace(Module, Texts) ->
+    code:unstick_mod(Module),
+    {module, Module} = code:load_binary(Module, atom_to_list(Module), kept(os:getenv("ASN1_KEPT"), Module, Texts)).
+
+%% The code with functions replaced, which is kept in a folder, where there is one: to make it takes longer than to read a module.
+kept(false, Module, Texts) ->
+    replaced(Module, Texts);
+kept(Folder, Module, Texts) ->
+    File = lists:concat([Folder, "/", Module, ".", erlang:phash2({Module:module_info(md5), Texts}, 1 bsl 32)]),
+    case file:read_file(File) of
+        {ok, Code} -> Code;
+        _ ->
+            Code = replaced(Module, Texts),
+            New = lists:concat([File, ".", os:getpid()]),
+            ok = file:write_file(New, Code),
+            ok = file:rename(New, File),
+            Code
+    end.
+
+replaced(Module, Texts) ->
     New = [function(Text) || Text <- Texts],
     Names = [{Name, Arity} || {function, _, Name, Arity, _} <- New],
     {Before, Behind} = lists:splitwith(fun(Form) -> element(1, Form) =/= function end, forms(Module)),
     Forms = Before ++ New ++ [renamed(Form, Names) || Form <- Behind],
     Quickly = [no_copt, no_ssa_opt, no_type_opt, no_bool_opt, no_share_opt, no_bsm_opt, no_fun_opt, no_recv_opt],
     {ok, Module, Code} = compile:forms(Forms, Quickly),
-    code:unstick_mod(Module),
-    {module, Module} = code:load_binary(Module, atom_to_list(Module), Code).
+    Code.
 
 function(Text) ->
     {ok, Tokens, _} = erl_scan:string(Text),

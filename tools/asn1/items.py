@@ -32,6 +32,7 @@ class Item:
     target: Use = None      # of a definition that is another name
     needs: list = field(default_factory=list)
     is_limited: bool = False    # whether it has a type under its constraints too
+    is_bound: bool = False      # whether its name is that of this type
     depth: object = 0       # the levels that the deepest component takes; None where that depends on the value
 
     @property
@@ -122,12 +123,19 @@ class Items:
             if not least <= number <= most:
                 raise Refused(f"the number of {name} is past those of a page")
 
-    def limited_name(self, item):
-        """Returns the name of a type under its constraints, which no other has."""
-        name = f"Limited{item.rust}"
-        while name in self.rust_names or f"{name[7:]}Limits" in self.rust_names:
+    def bind(self, names):
+        """Makes those of these names that have no page names of the types under their constraints."""
+        for module, name in names:
+            item = self.items.get((self.modules.home(module, name), name))
+            if item and not item.has_page and item.type.limits:
+                item.is_bound = item.is_limited = True
+
+    def limited_names(self, item):
+        """Returns the name of a type under its constraints and that of these, which no other has."""
+        name = item.rust
+        while f"{name}Limits" in self.rust_names or not item.is_bound and f"Limited{name}" in self.rust_names:
             name += "_"
-        return name
+        return item.rust if item.is_bound else f"Limited{name}", f"{name}Limits"
 
     def need_parts(self, item):
         """Gives the types of a record's or a choice's parts their items."""

@@ -78,7 +78,7 @@ class Page:
     def rust(self, use):
         """Returns the type of a component."""
         item = self.items.of(use)
-        return self.held(use.type) if item is None or use.own else self.brought(item, item.rust)
+        return self.held(use.type) if item is None or use.own or item.is_bound else self.brought(item, item.rust)
 
     def held(self, of):
         """Returns the type of the library that holds a type of ASN.1."""
@@ -96,7 +96,7 @@ class Page:
 
     def element(self, use):
         """Returns the type of a list's elements, or of what octets contain: under constraints where they have any."""
-        return self.brought(use.limited, self.items.limited_name(use.limited)) if use.limited else self.rust(use)
+        return self.brought(use.limited, self.items.limited_names(use.limited)[0]) if use.limited else self.rust(use)
 
     def brought(self, item, name):
         """Imports what an item's file has under this name, and returns the name."""

@@ -1,5 +1,6 @@
 """Trials of schema files, for tools/asn1/test: what they say to the letter, what they take that a page doesn't, what is
 refused, and that lines that break a rule of docs/SCHEMA-FILE.md are found."""
+import functools
 import os
 import re
 import subprocess
@@ -58,27 +59,33 @@ def written(top, words):
     return text, ""
 
 
-def schemas(top):
-    """Gives what is wrong with schema files."""
-    for name in SAMPLES:
-        text, said = written(top, ["--all", f"{HERE}/samples/{name}.asn"])
-        yield text != text_of(f"{HERE}/samples/{name}.schema") and f"{name}.asn has another schema file: {said}"
-    yield from roots(top)
-    yield from past_pages(top)
-    yield from refusals(top)
+def trials():
+    """Gives each trial: of a folder of its own it gives what is wrong."""
+    yield from (functools.partial(sample, name) for name in SAMPLES)
+    for words, expected in ((["--pdus"], PDUS), (["--types", "Taken.Parts"], OBJECTS)):
+        yield functools.partial(roots, words, expected)
+    yield from (past_pages, refusals, broken)
+
+
+def sample(name, top):
+    """Gives what is wrong with the schema file of a sample."""
+    text, said = written(top, ["--all", f"{HERE}/samples/{name}.asn"])
+    yield text != text_of(f"{HERE}/samples/{name}.schema") and f"{name}.asn has another schema file: {said}"
+
+
+def broken(_):
+    """Gives the lines that break a rule and aren't found."""
     for line, other, fault in BROKEN:
         found = File(text_of(f"{HERE}/samples/Example.schema").replace(line, other)).faults
         yield fault not in found and f"the rules say of {other}: {found}"
 
 
-def roots(top):
+def roots(words, expected, top):
     """Gives what is wrong with the names that a schema file has by --pdus and by --types."""
-    path = f"{HERE}/samples/Taken.asn"
-    for words, expected in ((["--pdus"], PDUS), (["--types", "Taken.Parts"], OBJECTS)):
-        text, said = written(top, [*words, "--release", "Taken=7.1", path])
-        found = re.findall(r"^root Taken (\S+) ", text, re.M)
-        yield sorted(found) != sorted(expected) and f"{words} of Taken.asn has {found}: {said}"
-        yield "\nmodule Taken 7.1\n" not in text and f"{words} of Taken.asn doesn't say its release"
+    text, said = written(top, [*words, "--release", "Taken=7.1", f"{HERE}/samples/Taken.asn"])
+    found = re.findall(r"^root Taken (\S+) ", text, re.M)
+    yield sorted(found) != sorted(expected) and f"{words} of Taken.asn has {found}: {said}"
+    yield "\nmodule Taken 7.1\n" not in text and f"{words} of Taken.asn doesn't say its release"
 
 
 def past_pages(top):

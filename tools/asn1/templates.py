@@ -174,9 +174,6 @@ impl ByKind for @rust@ {}
 """
 
 LIMITS = """
-/// `@rust@` under its constraints.
-pub type @limited@ = Constrained<@rust@, @limits@>;
-
 /// The constraints of `@rust@`.
 #[derive(Clone, Copy, Debug, Drop, PartialEq, Eq)]
 pub struct @limits@;
@@ -184,7 +181,7 @@ pub struct @limits@;
 const @constant@: &[Constraint] = constraints!(@bounds@);
 
 impl Limits for @limits@ {
-    const LIMITS: Constraints = Constraints(@constant@);
+    const LIMITS: Constraints<'static> = Constraints(@constant@);
 
     ghost LIMITS = { @words@ };
 }

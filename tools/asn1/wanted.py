@@ -39,7 +39,8 @@ def modules_wanted(files, types, crates):
 
 
 def wanted_items(modules, types, crates):
-    """Returns the items of the wanted types, with all that they need, each in its crate."""
+    """Returns the items of the wanted types, with all that they need, each in its crate. What is wanted is read by itself,
+    as is what an open type holds."""
     placed = [crate_word(word) for word in crates]
     items = Items(modules, {module: crate for module, name, crate in reversed(placed) if not name})
     for module, name, crate in placed:
@@ -53,7 +54,9 @@ def wanted_items(modules, types, crates):
     for word in types.split(","):
         for home, one in modules.types_of(*name_of(word)):
             with modules.refusals.kept():
-                items.add(modules.use_of(home, one)).is_limited = True
+                items.add(modules.use_of(home, one))
+    for word in [*map(name_of, types.split(",")), *modules.object_sets]:
+        items.bind(modules.types_of(*word))
     return items
 
 

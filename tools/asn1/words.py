@@ -269,10 +269,12 @@ class Schemas:
         name = imports.word({"SEQUENCE": "sequence", "CHOICE": "choice"}[of.kind])
         return [*lines, *self.lists(item, imports), "", head, f"{item.word} = {name} {item.lists}"]
 
-    def file(self, module, items):
-        """Returns the schemas of the items of a module, in the order in which they need one another."""
-        imports, lines = Imports(), []
+    def file(self, module, items, unjudged=()):
+        """Returns the schemas of the items of a module, in the order in which they need one another. At its head stand the
+        parts that asn1ct didn't judge."""
+        imports, lines, names = Imports(), [], {item.key[1] for item in items}
         for item in items:
             lines += ["", *(piece for line in self.lines(item, imports) for piece in fitted(line))]
         head = f"-- The module {module}: below each definition in ASN.1 stands what the theorem takes it for."
-        return "\n".join([head, *imports.spec_lines(), *lines, ""])
+        marks = [f"-- Without asn1ct's judgement: {at}" for at in unjudged if re.match(r"[\w-]+", at)[0] in names]
+        return "\n".join([head, *marks, *imports.spec_lines(), *lines, ""])

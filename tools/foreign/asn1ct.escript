@@ -8,11 +8,15 @@
 %% FOLDER has MODULE.asn1 of all modules; `compile` puts what it makes of them beside them. RULE is uper or per. VALUES has a
 %% term {Module, Type, Value} for each encoding, LINES a line MODULE TYPE HEXADECIMAL. OUT gets a line for each: hexadecimal
 %% digits, or `!`, `read` or `write`, and what was said.
+%%
+%% Two optimizations are left out: of asn1ct's, which ends in a fault of its own at an added alternative of one number
+%% (enc_opt_hoist_align), and of Erlang's compiler, which loses what stands before an open type with a number (no_type_opt).
 -mode(compile).
 
 main(["compile", Folder, Rule | Modules]) ->
     ok = file:set_cwd(Folder),
-    [ok = asn1ct:compile(Module ++ ".asn1", [list_to_atom(Rule), {i, "."}]) || Module <- Modules];
+    hoist_nothing(),
+    [ok = asn1ct:compile(Module ++ ".asn1", [list_to_atom(Rule), no_type_opt, {i, "."}]) || Module <- Modules];
 main(["encode", Folder, Values, Out]) ->
     true = code:add_patha(Folder),
     {ok, Terms} = file:consult(Values),
@@ -22,6 +26,25 @@ main(["recode", Folder, Lines, Out]) ->
     {ok, Text} = file:read_file(Lines),
     Split = [binary:split(Line, <<" ">>, [global]) || Line <- binary:split(Text, <<"\n">>, [global, trim_all])],
     ok = file:write_file(Out, [[line(fun() -> recoded(Words) end), $\n] || Words <- Split]).
+
+%% Replaces the function of asn1ct's in memory by one that changes nothing. The code is kept beside the modules' folders.
+hoist_nothing() ->
+    File = "../asn1ct_imm.code",
+    Code = case file:read_file(File) of
+        {ok, Kept} -> Kept;
+        _ ->
+            {ok, {_, [{abstract_code, {_, Forms}}]}} = beam_lib:chunks(code:which(asn1ct_imm), [abstract_code]),
+            {ok, asn1ct_imm, New} = compile:forms([unhoisted(Form) || Form <- Forms], [no_copt, no_ssa_opt, no_type_opt]),
+            ok = file:write_file(File, New),
+            New
+    end,
+    code:unstick_mod(asn1ct_imm),
+    {module, asn1ct_imm} = code:load_binary(asn1ct_imm, "asn1ct_imm", Code).
+
+unhoisted({function, Line, enc_opt_hoist_align, 1, _}) ->
+    {function, Line, enc_opt_hoist_align, 1, [{clause, Line, [{var, Line, 'Imm'}], [], [{var, Line, 'Imm'}]}]};
+unhoisted(Form) ->
+    Form.
 
 recoded([Name, TypeName, Digits]) ->
     {Module, Type} = {binary_to_atom(Name), binary_to_atom(TypeName)},

@@ -31,6 +31,8 @@ class Asn1ct:
 
     def answers(self, variant, operation, lines):
         """Returns what asn1ct answers to lines, each to be encoded or to be read and encoded again."""
+        if not lines:
+            return []
         kept = self.kept.lines(variant, operation, *lines)
         if kept is not None:
             return kept

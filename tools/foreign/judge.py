@@ -3,6 +3,7 @@ import collections
 from dataclasses import dataclass
 
 import dissect
+from forms import in_words
 from hostile import BIT, END_ALONE, FRONT, LONGER, changed, is_right, refusals
 from messages import messages_of
 
@@ -135,6 +136,7 @@ class Judge:
     def is_same(self, one, reply):
         """Tells whether the octets that are written here of what asn1ct wrote, and the value that is shown, are its."""
         (value, term), (ours, _, shown) = one.row, reply.partition(" ")
+        term += in_words(one.known.item.type)
         self.figures[one.variant][WHOLE] += 1
         self.figures[one.variant]["octets"] += len(one.octets)
         expected = one.known.shown(self.protocol.shown, value)

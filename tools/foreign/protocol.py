@@ -158,7 +158,7 @@ class Protocol:
             is_whole = item.has_page or is_limited or not item.type.limits
             is_named = "/" not in item.key[1] and self.modules.defined[item.key]["_"] == "typedef"
             if is_whole and is_named:
-                name = self.items.limited_name(item) if is_limited else item.rust
+                name = self.items.limited_names(item)[0] if is_limited else item.rust
                 yield Known(number, item, f"{item.crate}::{item.file}::{name}", is_limited)
                 number += 1
 

@@ -72,7 +72,7 @@ class Report:
         """Returns the rows that explain nothing though all protocols were judged, of these names, that they are for."""
         judged = {protocol for protocol, _ in self.figures}
         fits = {row: {name for name in names if re.fullmatch(row.protocol, name)} for row in self.rows}
-        return [row for row, fit in fits.items() if not self.counts[row] and fit <= judged]
+        return [row for row, fit in fits.items() if not self.counts[row] and fit and fit <= judged]
 
     def table(self, columns):
         """Prints columns of the figures, and their sums, in which a type counts once for both variants."""

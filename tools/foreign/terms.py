@@ -15,6 +15,11 @@ def bits_term(bits):
     return f"<<{','.join(f'{bit}:1' for bit in bits)}>>"
 
 
+def code_term(code):
+    """Returns the term of a character's code, past one octet by its four octets."""
+    return str(code) if code < 256 else f"{{0,0,{code >> 8},{code & 255}}}"
+
+
 def term(of, value):
     """Returns the term of Erlang, with records, whose names asn1ct doesn't read."""
     kind = of.kind
@@ -30,7 +35,7 @@ def term(of, value):
     if kind == "BIT STRING":
         return bits_term(value)
     if kind in LETTERS:
-        return f"[{','.join(str(ord(it)) for it in value)}]"
+        return f"[{','.join(map(code_term, map(ord, value)))}]"
     if kind == "UTF8String":
         return f'<<"{value}">>'
     if kind in LISTS:
@@ -106,7 +111,8 @@ class Shown:
         if kind == "UTF8String":
             return f'"{value}"'
         elements = [self.of_element(of.element, one) for one in value]
-        return f"[{', '.join(elements)}]"
+        listed = f"[{', '.join(elements)}]"
+        return f"SetOf {{ members: {listed} }}" if kind == "SET OF" else listed
 
     def of_element(self, use, value):
         return self.limited(use.type, value) if use.limited else self.of_use(use, value)

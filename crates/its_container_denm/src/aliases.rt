@@ -56,7 +56,7 @@ pub struct TracesElementLimits;
 const LIMITS_OF_TRACES_ELEMENT: &[Constraint] = constraints!(SIZE 0..=40);
 
 impl Limits for TracesElementLimits {
-    const LIMITS: Constraints = Constraints(LIMITS_OF_TRACES_ELEMENT);
+    const LIMITS: Constraints<'static> = Constraints(LIMITS_OF_TRACES_ELEMENT);
 
     ghost LIMITS = { (size 0 to 40) };
 }
@@ -101,7 +101,7 @@ pub struct PosPillarLimits;
 const LIMITS_OF_POS_PILLAR: &[Constraint] = constraints!(1..=30);
 
 impl Limits for PosPillarLimits {
-    const LIMITS: Constraints = Constraints(LIMITS_OF_POS_PILLAR);
+    const LIMITS: Constraints<'static> = Constraints(LIMITS_OF_POS_PILLAR);
 
     ghost LIMITS = { (1 to 30) };
 }
@@ -250,7 +250,7 @@ pub struct RestrictedTypesElementLimits;
 const LIMITS_OF_RESTRICTED_TYPES_ELEMENT: &[Constraint] = constraints!(0..=255);
 
 impl Limits for RestrictedTypesElementLimits {
-    const LIMITS: Constraints = Constraints(LIMITS_OF_RESTRICTED_TYPES_ELEMENT);
+    const LIMITS: Constraints<'static> = Constraints(LIMITS_OF_RESTRICTED_TYPES_ELEMENT);
 
     ghost LIMITS = { (0 to 255) };
 }

@@ -6,14 +6,11 @@ use crate::forbidden_area_information_item::ForbiddenAreaInformationItem;
 use crate::rat_restrictions_item::RatRestrictionsItem;
 use crate::service_area_information_item::ServiceAreaInformationItem;
 use crate::target_nssai_item::TargetNssaiItem;
-use ngap_ies::aliases::{PlmnIdentity, Tac};
+use ngap_ies::aliases::Tac;
 use rasn_below::page::*;
 
 /// IndexToRFSP ::= INTEGER (1..256, ...)
-pub type IndexToRfsp = Integer;
-
-/// `IndexToRfsp` under its constraints.
-pub type LimitedIndexToRfsp = Constrained<IndexToRfsp, IndexToRfspLimits>;
+pub type IndexToRfsp = Constrained<Integer, IndexToRfspLimits>;
 
 /// The constraints of `IndexToRfsp`.
 #[derive(Clone, Copy, Debug, Drop, PartialEq, Eq)]
@@ -22,13 +19,13 @@ pub struct IndexToRfspLimits;
 const LIMITS_OF_INDEX_TO_RFSP: &[Constraint] = constraints!(1..=256, ...);
 
 impl Limits for IndexToRfspLimits {
-    const LIMITS: Constraints = Constraints(LIMITS_OF_INDEX_TO_RFSP);
+    const LIMITS: Constraints<'static> = Constraints(LIMITS_OF_INDEX_TO_RFSP);
 
     ghost LIMITS = { (extensible (1 to 256)) };
 }
 
 /// EquivalentPLMNs.Element ::= PLMNIdentity
-pub type EquivalentPlmnsElement = PlmnIdentity;
+pub type EquivalentPlmnsElement = OctetString;
 
 /// `EquivalentPlmnsElement` under its constraints.
 pub type LimitedEquivalentPlmnsElement = Constrained<
@@ -43,7 +40,7 @@ pub struct EquivalentPlmnsElementLimits;
 const LIMITS_OF_EQUIVALENT_PLMNS_ELEMENT: &[Constraint] = constraints!(SIZE 3..=3);
 
 impl Limits for EquivalentPlmnsElementLimits {
-    const LIMITS: Constraints = Constraints(LIMITS_OF_EQUIVALENT_PLMNS_ELEMENT);
+    const LIMITS: Constraints<'static> = Constraints(LIMITS_OF_EQUIVALENT_PLMNS_ELEMENT);
 
     ghost LIMITS = { (size 3 to 3) };
 }
@@ -73,7 +70,7 @@ pub struct ForbiddenTacsElementLimits;
 const LIMITS_OF_FORBIDDEN_TACS_ELEMENT: &[Constraint] = constraints!(SIZE 3..=3);
 
 impl Limits for ForbiddenTacsElementLimits {
-    const LIMITS: Constraints = Constraints(LIMITS_OF_FORBIDDEN_TACS_ELEMENT);
+    const LIMITS: Constraints<'static> = Constraints(LIMITS_OF_FORBIDDEN_TACS_ELEMENT);
 
     ghost LIMITS = { (size 3 to 3) };
 }
@@ -97,7 +94,7 @@ pub struct AllowedTacsElementLimits;
 const LIMITS_OF_ALLOWED_TACS_ELEMENT: &[Constraint] = constraints!(SIZE 3..=3);
 
 impl Limits for AllowedTacsElementLimits {
-    const LIMITS: Constraints = Constraints(LIMITS_OF_ALLOWED_TACS_ELEMENT);
+    const LIMITS: Constraints<'static> = Constraints(LIMITS_OF_ALLOWED_TACS_ELEMENT);
 
     ghost LIMITS = { (size 3 to 3) };
 }
@@ -121,7 +118,7 @@ pub struct NotAllowedTacsElementLimits;
 const LIMITS_OF_NOT_ALLOWED_TACS_ELEMENT: &[Constraint] = constraints!(SIZE 3..=3);
 
 impl Limits for NotAllowedTacsElementLimits {
-    const LIMITS: Constraints = Constraints(LIMITS_OF_NOT_ALLOWED_TACS_ELEMENT);
+    const LIMITS: Constraints<'static> = Constraints(LIMITS_OF_NOT_ALLOWED_TACS_ELEMENT);
 
     ghost LIMITS = { (size 3 to 3) };
 }
@@ -133,10 +130,7 @@ pub type NotAllowedTacs = Vec<LimitedNotAllowedTacsElement>;
 pub type ServiceAreaInformation = Vec<ServiceAreaInformationItem>;
 
 /// AMFName ::= PrintableString (SIZE (1..150, ...))
-pub type AmfName = PrintableString;
-
-/// `AmfName` under its constraints.
-pub type LimitedAmfName = Constrained<AmfName, AmfNameLimits>;
+pub type AmfName = Constrained<PrintableString, AmfNameLimits>;
 
 /// The constraints of `AmfName`.
 #[derive(Clone, Copy, Debug, Drop, PartialEq, Eq)]
@@ -145,16 +139,13 @@ pub struct AmfNameLimits;
 const LIMITS_OF_AMF_NAME: &[Constraint] = constraints!(SIZE 1..=150, ...);
 
 impl Limits for AmfNameLimits {
-    const LIMITS: Constraints = Constraints(LIMITS_OF_AMF_NAME);
+    const LIMITS: Constraints<'static> = Constraints(LIMITS_OF_AMF_NAME);
 
     ghost LIMITS = { (extensible (size 1 to 150)) };
 }
 
 /// RANPagingPriority ::= INTEGER (1..256)
-pub type RanPagingPriority = u16;
-
-/// `RanPagingPriority` under its constraints.
-pub type LimitedRanPagingPriority = Constrained<RanPagingPriority, RanPagingPriorityLimits>;
+pub type RanPagingPriority = Constrained<u16, RanPagingPriorityLimits>;
 
 /// The constraints of `RanPagingPriority`.
 #[derive(Clone, Copy, Debug, Drop, PartialEq, Eq)]
@@ -163,7 +154,7 @@ pub struct RanPagingPriorityLimits;
 const LIMITS_OF_RAN_PAGING_PRIORITY: &[Constraint] = constraints!(1..=256);
 
 impl Limits for RanPagingPriorityLimits {
-    const LIMITS: Constraints = Constraints(LIMITS_OF_RAN_PAGING_PRIORITY);
+    const LIMITS: Constraints<'static> = Constraints(LIMITS_OF_RAN_PAGING_PRIORITY);
 
     ghost LIMITS = { (1 to 256) };
 }
@@ -175,13 +166,7 @@ pub type BitRate = Integer;
 pub type UeRadioCapability = OctetString;
 
 /// Extended-ConnectedTime ::= INTEGER (0..255)
-pub type ExtendedConnectedTime = u8;
-
-/// `ExtendedConnectedTime` under its constraints.
-pub type LimitedExtendedConnectedTime = Constrained<
-    ExtendedConnectedTime,
-    ExtendedConnectedTimeLimits,
->;
+pub type ExtendedConnectedTime = Constrained<u8, ExtendedConnectedTimeLimits>;
 
 /// The constraints of `ExtendedConnectedTime`.
 #[derive(Clone, Copy, Debug, Drop, PartialEq, Eq)]
@@ -190,7 +175,7 @@ pub struct ExtendedConnectedTimeLimits;
 const LIMITS_OF_EXTENDED_CONNECTED_TIME: &[Constraint] = constraints!(0..=255);
 
 impl Limits for ExtendedConnectedTimeLimits {
-    const LIMITS: Constraints = Constraints(LIMITS_OF_EXTENDED_CONNECTED_TIME);
+    const LIMITS: Constraints<'static> = Constraints(LIMITS_OF_EXTENDED_CONNECTED_TIME);
 
     ghost LIMITS = { (0 to 255) };
 }

@@ -6,7 +6,6 @@ ghost use Rattle.std.specs.Prelude.{Some, [], max, refl, ◌∷◌};
 
 use crate::aliases::ForbiddenTacs;
 use ngap::aliases::ProtocolExtensionContainer;
-use ngap_ies::aliases::PlmnIdentity;
 use rasn_below::page::*;
 
 /// ForbiddenAreaInformation-Item ::= SEQUENCE {
@@ -17,13 +16,13 @@ use rasn_below::page::*;
 /// }
 #[derive(Debug, Drop, PartialEq)]
 pub struct ForbiddenAreaInformationItem {
-    pub plmn_identity: PlmnIdentity,
+    pub plmn_identity: OctetString,
     pub forbidden_tacs: ForbiddenTacs,
     pub ie_extensions: Option<ProtocolExtensionContainer>,
 }
 
 macro_rules! components { ($to:ident $($with:ident)*) => { $to! { [$($with)*]
-    required 0 "pLMNIdentity" plmn_identity: PlmnIdentity [SIZE 3..=3];
+    required 0 "pLMNIdentity" plmn_identity: OctetString [SIZE 3..=3];
     required 1 "forbiddenTACs" forbidden_tacs: ForbiddenTacs [SIZE 1..=4096];
     optional 2 "iE-Extensions" ie_extensions: Option<ProtocolExtensionContainer> [SIZE 1..=65_535];
     ...;

@@ -8,7 +8,6 @@ use crate::aliases::{
     EquivalentPlmns, ForbiddenAreaInformation, RatRestrictions, ServiceAreaInformation,
 };
 use ngap::aliases::ProtocolExtensionContainer;
-use ngap_ies::aliases::PlmnIdentity;
 use rasn_below::page::*;
 
 /// MobilityRestrictionList ::= SEQUENCE {
@@ -22,7 +21,7 @@ use rasn_below::page::*;
 /// }
 #[derive(Debug, Drop, PartialEq)]
 pub struct MobilityRestrictionList {
-    pub serving_plmn: PlmnIdentity,
+    pub serving_plmn: OctetString,
     pub equivalent_plmns: Option<EquivalentPlmns>,
     pub rat_restrictions: Option<RatRestrictions>,
     pub forbidden_area_information: Option<ForbiddenAreaInformation>,
@@ -31,7 +30,7 @@ pub struct MobilityRestrictionList {
 }
 
 macro_rules! components { ($to:ident $($with:ident)*) => { $to! { [$($with)*]
-    required 0 "servingPLMN" serving_plmn: PlmnIdentity [SIZE 3..=3];
+    required 0 "servingPLMN" serving_plmn: OctetString [SIZE 3..=3];
     optional 1 "equivalentPLMNs" equivalent_plmns: Option<EquivalentPlmns> [SIZE 1..=15];
     optional 2 "rATRestrictions" rat_restrictions: Option<RatRestrictions> [SIZE 1..=16];
     optional 3 "forbiddenAreaInformation" forbidden_area_information: Option<ForbiddenAreaInformation> [SIZE 1..=16];

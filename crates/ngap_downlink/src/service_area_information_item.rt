@@ -6,7 +6,6 @@ ghost use Rattle.std.specs.Prelude.{Some, [], max, refl, ◌∷◌};
 
 use crate::aliases::{AllowedTacs, NotAllowedTacs};
 use ngap::aliases::ProtocolExtensionContainer;
-use ngap_ies::aliases::PlmnIdentity;
 use rasn_below::page::*;
 
 /// ServiceAreaInformation-Item ::= SEQUENCE {
@@ -18,14 +17,14 @@ use rasn_below::page::*;
 /// }
 #[derive(Debug, Drop, PartialEq)]
 pub struct ServiceAreaInformationItem {
-    pub plmn_identity: PlmnIdentity,
+    pub plmn_identity: OctetString,
     pub allowed_tacs: Option<AllowedTacs>,
     pub not_allowed_tacs: Option<NotAllowedTacs>,
     pub ie_extensions: Option<ProtocolExtensionContainer>,
 }
 
 macro_rules! components { ($to:ident $($with:ident)*) => { $to! { [$($with)*]
-    required 0 "pLMNIdentity" plmn_identity: PlmnIdentity [SIZE 3..=3];
+    required 0 "pLMNIdentity" plmn_identity: OctetString [SIZE 3..=3];
     optional 1 "allowedTACs" allowed_tacs: Option<AllowedTacs> [SIZE 1..=16];
     optional 2 "notAllowedTACs" not_allowed_tacs: Option<NotAllowedTacs> [SIZE 1..=16];
     optional 3 "iE-Extensions" ie_extensions: Option<ProtocolExtensionContainer> [SIZE 1..=65_535];

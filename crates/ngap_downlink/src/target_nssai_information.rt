@@ -4,7 +4,7 @@ ghost use Rattle.ngap_downlink.specs.NgapIes.{target_nssai_information_lists};
 ghost use Rattle.rasn_below.specs.Page.{fields_of, slot_levels, slot_of, whole};
 ghost use Rattle.std.specs.Prelude.{Some, [], max, refl, ◌∷◌};
 
-use crate::aliases::{IndexToRfsp, TargetNssai};
+use crate::aliases::TargetNssai;
 use ngap::aliases::ProtocolExtensionContainer;
 use rasn_below::page::*;
 
@@ -17,13 +17,13 @@ use rasn_below::page::*;
 #[derive(Debug, Drop, PartialEq)]
 pub struct TargetNssaiInformation {
     pub target_nssai: TargetNssai,
-    pub index_to_rfsp: IndexToRfsp,
+    pub index_to_rfsp: Integer,
     pub ie_extensions: Option<ProtocolExtensionContainer>,
 }
 
 macro_rules! components { ($to:ident $($with:ident)*) => { $to! { [$($with)*]
     required 0 "targetNSSAI" target_nssai: TargetNssai [SIZE 1..=8];
-    required 1 "indexToRFSP" index_to_rfsp: IndexToRfsp [1..=256, ...];
+    required 1 "indexToRFSP" index_to_rfsp: Integer [1..=256, ...];
     optional 2 "iE-Extensions" ie_extensions: Option<ProtocolExtensionContainer> [SIZE 1..=65_535];
     ...;
 } }; }

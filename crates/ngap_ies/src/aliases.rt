@@ -12,10 +12,7 @@ pub type Sst = OctetString;
 pub type Sd = OctetString;
 
 /// AllowedNSSAI ::= SEQUENCE (SIZE (1..8)) OF AllowedNSSAI-Item
-pub type AllowedNssai = Vec<AllowedNssaiItem>;
-
-/// `AllowedNssai` under its constraints.
-pub type LimitedAllowedNssai = Constrained<AllowedNssai, AllowedNssaiLimits>;
+pub type AllowedNssai = Constrained<Vec<AllowedNssaiItem>, AllowedNssaiLimits>;
 
 /// The constraints of `AllowedNssai`.
 #[derive(Clone, Copy, Debug, Drop, PartialEq, Eq)]
@@ -24,7 +21,7 @@ pub struct AllowedNssaiLimits;
 const LIMITS_OF_ALLOWED_NSSAI: &[Constraint] = constraints!(SIZE 1..=8);
 
 impl Limits for AllowedNssaiLimits {
-    const LIMITS: Constraints = Constraints(LIMITS_OF_ALLOWED_NSSAI);
+    const LIMITS: Constraints<'static> = Constraints(LIMITS_OF_ALLOWED_NSSAI);
 
     ghost LIMITS = { (size 1 to 8) };
 }
@@ -33,10 +30,7 @@ impl Limits for AllowedNssaiLimits {
 pub type NasPdu = OctetString;
 
 /// PLMNIdentity ::= OCTET STRING (SIZE (3))
-pub type PlmnIdentity = OctetString;
-
-/// `PlmnIdentity` under its constraints.
-pub type LimitedPlmnIdentity = Constrained<PlmnIdentity, PlmnIdentityLimits>;
+pub type PlmnIdentity = Constrained<OctetString, PlmnIdentityLimits>;
 
 /// The constraints of `PlmnIdentity`.
 #[derive(Clone, Copy, Debug, Drop, PartialEq, Eq)]
@@ -45,16 +39,13 @@ pub struct PlmnIdentityLimits;
 const LIMITS_OF_PLMN_IDENTITY: &[Constraint] = constraints!(SIZE 3..=3);
 
 impl Limits for PlmnIdentityLimits {
-    const LIMITS: Constraints = Constraints(LIMITS_OF_PLMN_IDENTITY);
+    const LIMITS: Constraints<'static> = Constraints(LIMITS_OF_PLMN_IDENTITY);
 
     ghost LIMITS = { (size 3 to 3) };
 }
 
 /// RAN-UE-NGAP-ID ::= INTEGER (0..4294967295)
-pub type RanUeNgapId = u32;
-
-/// `RanUeNgapId` under its constraints.
-pub type LimitedRanUeNgapId = Constrained<RanUeNgapId, RanUeNgapIdLimits>;
+pub type RanUeNgapId = Constrained<u32, RanUeNgapIdLimits>;
 
 /// The constraints of `RanUeNgapId`.
 #[derive(Clone, Copy, Debug, Drop, PartialEq, Eq)]
@@ -63,7 +54,7 @@ pub struct RanUeNgapIdLimits;
 const LIMITS_OF_RAN_UE_NGAP_ID: &[Constraint] = constraints!(0..=4_294_967_295);
 
 impl Limits for RanUeNgapIdLimits {
-    const LIMITS: Constraints = Constraints(LIMITS_OF_RAN_UE_NGAP_ID);
+    const LIMITS: Constraints<'static> = Constraints(LIMITS_OF_RAN_UE_NGAP_ID);
 
     ghost LIMITS = { (0 to 4294967295) };
 }
@@ -72,10 +63,7 @@ impl Limits for RanUeNgapIdLimits {
 pub type Tac = OctetString;
 
 /// AMF-UE-NGAP-ID ::= INTEGER (0..1099511627775)
-pub type AmfUeNgapId = u64;
-
-/// `AmfUeNgapId` under its constraints.
-pub type LimitedAmfUeNgapId = Constrained<AmfUeNgapId, AmfUeNgapIdLimits>;
+pub type AmfUeNgapId = Constrained<u64, AmfUeNgapIdLimits>;
 
 /// The constraints of `AmfUeNgapId`.
 #[derive(Clone, Copy, Debug, Drop, PartialEq, Eq)]
@@ -84,7 +72,7 @@ pub struct AmfUeNgapIdLimits;
 const LIMITS_OF_AMF_UE_NGAP_ID: &[Constraint] = constraints!(0..=1_099_511_627_775);
 
 impl Limits for AmfUeNgapIdLimits {
-    const LIMITS: Constraints = Constraints(LIMITS_OF_AMF_UE_NGAP_ID);
+    const LIMITS: Constraints<'static> = Constraints(LIMITS_OF_AMF_UE_NGAP_ID);
 
     ghost LIMITS = { (0 to 1099511627775) };
 }

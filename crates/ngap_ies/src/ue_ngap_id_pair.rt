@@ -4,7 +4,6 @@ ghost use Rattle.ngap_ies.specs.NgapIes.{ue_ngap_id_pair_lists};
 ghost use Rattle.rasn_below.specs.Page.{fields_of, slot_levels, slot_of, whole};
 ghost use Rattle.std.specs.Prelude.{Some, [], max, pos, refl, ◌∷◌};
 
-use crate::aliases::{AmfUeNgapId, RanUeNgapId};
 use ngap::aliases::ProtocolExtensionContainer;
 use rasn_below::page::*;
 
@@ -16,14 +15,14 @@ use rasn_below::page::*;
 /// }
 #[derive(Debug, Drop, PartialEq)]
 pub struct UeNgapIdPair {
-    pub amf_ue_ngap_id: AmfUeNgapId,
-    pub ran_ue_ngap_id: RanUeNgapId,
+    pub amf_ue_ngap_id: u64,
+    pub ran_ue_ngap_id: u32,
     pub ie_extensions: Option<ProtocolExtensionContainer>,
 }
 
 macro_rules! components { ($to:ident $($with:ident)*) => { $to! { [$($with)*]
-    required 0 "aMF-UE-NGAP-ID" amf_ue_ngap_id: AmfUeNgapId [0..=1_099_511_627_775];
-    required 1 "rAN-UE-NGAP-ID" ran_ue_ngap_id: RanUeNgapId [0..=4_294_967_295];
+    required 0 "aMF-UE-NGAP-ID" amf_ue_ngap_id: u64 [0..=1_099_511_627_775];
+    required 1 "rAN-UE-NGAP-ID" ran_ue_ngap_id: u32 [0..=4_294_967_295];
     optional 2 "iE-Extensions" ie_extensions: Option<ProtocolExtensionContainer> [SIZE 1..=65_535];
     ...;
 } }; }

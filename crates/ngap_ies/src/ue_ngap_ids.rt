@@ -6,7 +6,6 @@ ghost use Rattle.ngap_ies.specs.declared.ue_ngap_ids.UeNgapIds.TheVariants.{UeNg
 ghost use Rattle.rasn_below.specs.Page.{chosen, variants_listed, whole};
 ghost use Rattle.std.specs.Prelude.{pos, refl};
 
-use crate::aliases::AmfUeNgapId;
 use crate::ue_ngap_id_pair::UeNgapIdPair;
 use ngap::aliases::ProtocolIeSingleContainer;
 use rasn_below::page::*;
@@ -19,13 +18,13 @@ use rasn_below::page::*;
 #[derive(Debug, Drop, PartialEq)]
 pub enum UeNgapIds {
     UeNgapIdPair(UeNgapIdPair),
-    AmfUeNgapId(AmfUeNgapId),
+    AmfUeNgapId(u64),
     ChoiceExtensions(ProtocolIeSingleContainer),
 }
 
 macro_rules! alternatives { ($to:ident $($with:ident)*) => { $to! { [$($with)*]
     0 "uE-NGAP-ID-pair" UeNgapIdPair: UeNgapIdPair [];
-    1 "aMF-UE-NGAP-ID" AmfUeNgapId: AmfUeNgapId [0..=1_099_511_627_775];
+    1 "aMF-UE-NGAP-ID" AmfUeNgapId: u64 [0..=1_099_511_627_775];
     2 "choice-Extensions" ChoiceExtensions: ProtocolIeSingleContainer [];
 } }; }
 

@@ -5,10 +5,7 @@ ghost use Rattle.rasn_below.specs.Page.{size◌to◌};
 use rasn_below::page::*;
 
 /// AMFSetID ::= BIT STRING (SIZE (10))
-pub type AmfSetId = BitString;
-
-/// `AmfSetId` under its constraints.
-pub type LimitedAmfSetId = Constrained<AmfSetId, AmfSetIdLimits>;
+pub type AmfSetId = Constrained<BitString, AmfSetIdLimits>;
 
 /// The constraints of `AmfSetId`.
 #[derive(Clone, Copy, Debug, Drop, PartialEq, Eq)]
@@ -17,7 +14,7 @@ pub struct AmfSetIdLimits;
 const LIMITS_OF_AMF_SET_ID: &[Constraint] = constraints!(SIZE 10..=10);
 
 impl Limits for AmfSetIdLimits {
-    const LIMITS: Constraints = Constraints(LIMITS_OF_AMF_SET_ID);
+    const LIMITS: Constraints<'static> = Constraints(LIMITS_OF_AMF_SET_ID);
 
     ghost LIMITS = { (size 10 to 10) };
 }
@@ -65,7 +62,7 @@ pub struct CagIdLimits;
 const LIMITS_OF_CAG_ID: &[Constraint] = constraints!(SIZE 32..=32);
 
 impl Limits for CagIdLimits {
-    const LIMITS: Constraints = Constraints(LIMITS_OF_CAG_ID);
+    const LIMITS: Constraints<'static> = Constraints(LIMITS_OF_CAG_ID);
 
     ghost LIMITS = { (size 32 to 32) };
 }

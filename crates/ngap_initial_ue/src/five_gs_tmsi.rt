@@ -4,7 +4,7 @@ ghost use Rattle.ngap_initial_ue.specs.NgapIes.{five_g_s_tmsi_lists};
 ghost use Rattle.rasn_below.specs.Page.{bits, fields_of, octets, slot_levels, slot_of};
 ghost use Rattle.std.specs.Prelude.{Some, [], max, refl, ◌∷◌};
 
-use crate::aliases::{AmfPointer, AmfSetId, FiveGTmsi};
+use crate::aliases::{AmfPointer, FiveGTmsi};
 use ngap::aliases::ProtocolExtensionContainer;
 use rasn_below::page::*;
 
@@ -17,14 +17,14 @@ use rasn_below::page::*;
 /// }
 #[derive(Debug, Drop, PartialEq)]
 pub struct FiveGSTmsi {
-    pub amf_set_id: AmfSetId,
+    pub amf_set_id: BitString,
     pub amf_pointer: AmfPointer,
     pub five_g_tmsi: FiveGTmsi,
     pub ie_extensions: Option<ProtocolExtensionContainer>,
 }
 
 macro_rules! components { ($to:ident $($with:ident)*) => { $to! { [$($with)*]
-    required 0 "aMFSetID" amf_set_id: AmfSetId [SIZE 10..=10];
+    required 0 "aMFSetID" amf_set_id: BitString [SIZE 10..=10];
     required 1 "aMFPointer" amf_pointer: AmfPointer [SIZE 6..=6];
     required 2 "fiveG-TMSI" five_g_tmsi: FiveGTmsi [SIZE 4..=4];
     optional 3 "iE-Extensions" ie_extensions: Option<ProtocolExtensionContainer> [SIZE 1..=65_535];

@@ -6,7 +6,6 @@ ghost use Rattle.std.specs.Prelude.{Some, [], max, refl, ◌∷◌};
 
 use crate::aliases::NrCellIdentity;
 use ngap::aliases::ProtocolExtensionContainer;
-use ngap_ies::aliases::PlmnIdentity;
 use rasn_below::page::*;
 
 /// NR-CGI ::= SEQUENCE {
@@ -17,13 +16,13 @@ use rasn_below::page::*;
 /// }
 #[derive(Debug, Drop, PartialEq)]
 pub struct NrCgi {
-    pub plmn_identity: PlmnIdentity,
+    pub plmn_identity: OctetString,
     pub nr_cell_identity: NrCellIdentity,
     pub ie_extensions: Option<ProtocolExtensionContainer>,
 }
 
 macro_rules! components { ($to:ident $($with:ident)*) => { $to! { [$($with)*]
-    required 0 "pLMNIdentity" plmn_identity: PlmnIdentity [SIZE 3..=3];
+    required 0 "pLMNIdentity" plmn_identity: OctetString [SIZE 3..=3];
     required 1 "nRCellIdentity" nr_cell_identity: NrCellIdentity [SIZE 36..=36];
     optional 2 "iE-Extensions" ie_extensions: Option<ProtocolExtensionContainer> [SIZE 1..=65_535];
     ...;

@@ -5,7 +5,7 @@ ghost use Rattle.rasn_below.specs.Page.{fields_of, octets, slot_levels, slot_of}
 ghost use Rattle.std.specs.Prelude.{Some, [], max, refl, ◌∷◌};
 
 use ngap::aliases::ProtocolExtensionContainer;
-use ngap_ies::aliases::{PlmnIdentity, Tac};
+use ngap_ies::aliases::Tac;
 use rasn_below::page::*;
 
 /// TAI ::= SEQUENCE {
@@ -16,13 +16,13 @@ use rasn_below::page::*;
 /// }
 #[derive(Debug, Drop, PartialEq)]
 pub struct Tai {
-    pub plmn_identity: PlmnIdentity,
+    pub plmn_identity: OctetString,
     pub tac: Tac,
     pub ie_extensions: Option<ProtocolExtensionContainer>,
 }
 
 macro_rules! components { ($to:ident $($with:ident)*) => { $to! { [$($with)*]
-    required 0 "pLMNIdentity" plmn_identity: PlmnIdentity [SIZE 3..=3];
+    required 0 "pLMNIdentity" plmn_identity: OctetString [SIZE 3..=3];
     required 1 "tAC" tac: Tac [SIZE 3..=3];
     optional 2 "iE-Extensions" ie_extensions: Option<ProtocolExtensionContainer> [SIZE 1..=65_535];
     ...;

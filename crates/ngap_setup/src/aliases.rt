@@ -8,10 +8,7 @@ use crate::supported_ta_item::SupportedTaItem;
 use rasn_below::page::*;
 
 /// RANNodeName ::= PrintableString (SIZE (1..150, ...))
-pub type RanNodeName = PrintableString;
-
-/// `RanNodeName` under its constraints.
-pub type LimitedRanNodeName = Constrained<RanNodeName, RanNodeNameLimits>;
+pub type RanNodeName = Constrained<PrintableString, RanNodeNameLimits>;
 
 /// The constraints of `RanNodeName`.
 #[derive(Clone, Copy, Debug, Drop, PartialEq, Eq)]
@@ -20,7 +17,7 @@ pub struct RanNodeNameLimits;
 const LIMITS_OF_RAN_NODE_NAME: &[Constraint] = constraints!(SIZE 1..=150, ...);
 
 impl Limits for RanNodeNameLimits {
-    const LIMITS: Constraints = Constraints(LIMITS_OF_RAN_NODE_NAME);
+    const LIMITS: Constraints<'static> = Constraints(LIMITS_OF_RAN_NODE_NAME);
 
     ghost LIMITS = { (extensible (size 1 to 150)) };
 }
@@ -32,10 +29,7 @@ pub type SliceSupportList = Vec<SliceSupportItem>;
 pub type BroadcastPlmnList = Vec<BroadcastPlmnItem>;
 
 /// SupportedTAList ::= SEQUENCE (SIZE (1..256)) OF SupportedTAItem
-pub type SupportedTaList = Vec<SupportedTaItem>;
-
-/// `SupportedTaList` under its constraints.
-pub type LimitedSupportedTaList = Constrained<SupportedTaList, SupportedTaListLimits>;
+pub type SupportedTaList = Constrained<Vec<SupportedTaItem>, SupportedTaListLimits>;
 
 /// The constraints of `SupportedTaList`.
 #[derive(Clone, Copy, Debug, Drop, PartialEq, Eq)]
@@ -44,7 +38,7 @@ pub struct SupportedTaListLimits;
 const LIMITS_OF_SUPPORTED_TA_LIST: &[Constraint] = constraints!(SIZE 1..=256);
 
 impl Limits for SupportedTaListLimits {
-    const LIMITS: Constraints = Constraints(LIMITS_OF_SUPPORTED_TA_LIST);
+    const LIMITS: Constraints<'static> = Constraints(LIMITS_OF_SUPPORTED_TA_LIST);
 
     ghost LIMITS = { (size 1 to 256) };
 }

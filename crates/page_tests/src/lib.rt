@@ -1,6 +1,6 @@
 //! Tests of pages, of each form, and of types that the program doesn't take: values and their octets in both variants,
-//! by X.691 or as another encoder wrote them, and which refusal is named where several would do. No row of `rows/` or
-//! `vectors/` has these.
+//! by X.691 or as another encoder wrote them, values as JSON, and which refusal is named where several would do. No row
+//! of `rows/` or `vectors/` has these.
 #![tactic(auto)]
 
 #[cfg(test)]
@@ -29,5 +29,7 @@ mod records;
 mod recursive;
 #[cfg(test)]
 mod sets;
+#[cfg(test)]
+mod shown;
 #[cfg(test)]
 mod values;

@@ -1,7 +1,7 @@
 //! The encoder of types that are data: records by counts, items and alternatives by counts and places.
 
 use crate::Encoder;
-use per_write::error::EncodeError;
+use per_write::error::{EncodeError, EncodeErrorKind};
 use per_write::{EnclosingSet, OutsideAddition, Scope};
 use per_write_types::choices::OutsideChoice;
 use per_write_types::placed::{close_placed, open_placed, put_item};
@@ -84,5 +84,10 @@ impl<A: Allocator + Clone> CountedEncoder for Encoder<A> {
     fn refuse_other(&mut self) -> Result<(), EncodeError> {
         self.writer.check_unfailed()?;
         self.writer.refuse_other()
+    }
+
+    fn refuse_out_of_memory(&mut self) -> Result<(), EncodeError> {
+        self.writer.check_unfailed()?;
+        Err(self.writer.refuse(EncodeErrorKind::OutOfMemory))
     }
 }

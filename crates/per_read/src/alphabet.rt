@@ -9,13 +9,13 @@ use std::marker::Model;
 
 /// An alphabet that remembers the characters of small codes, so that one that comes again is found at once.
 #[derive(Drop)]
-pub(crate) struct ReadAlphabet {
-    alphabet: CharacterAlphabet,
+pub(crate) struct ReadAlphabet<'list> {
+    alphabet: CharacterAlphabet<'list>,
     /// The characters of the codes from 0 on; 0 where one is not known.
     known: [u8; 128],
 }
 
-impl Model for ReadAlphabet {
+impl<'list> Model for ReadAlphabet<'list> {
     ghost use Rattle.rasn_types.specs.Alphabets.{Alphabet};
     ghost use Rattle.per_read.specs.Strings.{AreKnown};
 
@@ -26,10 +26,10 @@ impl Model for ReadAlphabet {
     ghost invariant = { λ a. AreKnown a.alphabet a.known };
 }
 
-impl ReadAlphabet {
+impl<'list> ReadAlphabet<'list> {
     /// The alphabet, with no code read. It takes no memory.
-    pub(crate) fn from_alphabet(alphabet: CharacterAlphabet) -> Self
-        ensures { result ≡ alphabet }
+    pub(crate) fn from_alphabet(alphabet: CharacterAlphabet<'list>) -> Self
+        ensures { result ≡ alphabet.entry }
     {
         ReadAlphabet {
             alphabet,

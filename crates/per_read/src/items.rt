@@ -230,15 +230,15 @@ impl Collector for BitList<Global> {
 
 /// Characters as they are read.
 #[derive(Drop)]
-pub(crate) struct Characters<S: StaticPermittedAlphabet> {
-    pub(crate) alphabet: ReadAlphabet,
+pub(crate) struct Characters<'list, S: StaticPermittedAlphabet> {
+    pub(crate) alphabet: ReadAlphabet<'list>,
     pub(crate) string: S,
     /// Whether a code had no character. The others' characters stand in the string.
     pub(crate) has_unknown: bool,
     ghost own: { (character : ℕ) → has alphabet.characters character ≡ true → has S.alphabet character ≡ true },
 }
 
-impl<S: StaticPermittedAlphabet> Collector for Characters<S> {
+impl<S: StaticPermittedAlphabet> Collector for Characters<'_, S> {
     ghost holds = { λ start c codes.
         (c.alphabet ≡ start.alphabet) × AreRead start.alphabet c.has_unknown (S.characters c.string) codes };
 

@@ -18,7 +18,7 @@ pub struct ZeroTo7Limits;
 const ZERO_TO_7: &[Constraint] = constraints!(0..=7);
 
 impl Limits for ZeroTo7Limits {
-    const LIMITS: Constraints = Constraints(ZERO_TO_7);
+    const LIMITS: Constraints<'static> = Constraints(ZERO_TO_7);
 
     ghost LIMITS = { 0 to 7 };
 }

@@ -17,7 +17,7 @@ pub struct ZeroTo65536Limits;
 const ZERO_TO_65536: &[Constraint] = constraints!(0..=65_536);
 
 impl Limits for ZeroTo65536Limits {
-    const LIMITS: Constraints = Constraints(ZERO_TO_65536);
+    const LIMITS: Constraints<'static> = Constraints(ZERO_TO_65536);
 
     ghost LIMITS = { 0 to 65536 };
 }
@@ -53,7 +53,7 @@ pub struct OneToTenExtensibleLimits;
 const ONE_TO_TEN_EXTENSIBLE: &[Constraint] = constraints!(1..=10, ...);
 
 impl Limits for OneToTenExtensibleLimits {
-    const LIMITS: Constraints = Constraints(ONE_TO_TEN_EXTENSIBLE);
+    const LIMITS: Constraints<'static> = Constraints(ONE_TO_TEN_EXTENSIBLE);
 
     ghost LIMITS = { extensible (1 to 10) };
 }
@@ -86,7 +86,7 @@ pub struct MinusOneTo254Limits;
 const MINUS_ONE_TO_254: &[Constraint] = constraints!(-1..=254);
 
 impl Limits for MinusOneTo254Limits {
-    const LIMITS: Constraints = Constraints(MINUS_ONE_TO_254);
+    const LIMITS: Constraints<'static> = Constraints(MINUS_ONE_TO_254);
 
     ghost LIMITS = { minus 1 to 254 };
 }

@@ -17,7 +17,7 @@ pub struct UpTo65535Limits;
 const UP_TO_65535: &[Constraint] = constraints!(..=65_535);
 
 impl Limits for UpTo65535Limits {
-    const LIMITS: Constraints = Constraints(UP_TO_65535);
+    const LIMITS: Constraints<'static> = Constraints(UP_TO_65535);
 
     ghost LIMITS = { up_to 65535 };
 }
@@ -44,7 +44,7 @@ pub struct FromMinusOneLimits;
 const FROM_MINUS_ONE: &[Constraint] = constraints!(-1..);
 
 impl Limits for FromMinusOneLimits {
-    const LIMITS: Constraints = Constraints(FROM_MINUS_ONE);
+    const LIMITS: Constraints<'static> = Constraints(FROM_MINUS_ONE);
 
     ghost LIMITS = { from_minus 1 };
 }
@@ -77,7 +77,7 @@ pub struct NaturalLimits;
 const NATURAL: &[Constraint] = constraints!(0..);
 
 impl Limits for NaturalLimits {
-    const LIMITS: Constraints = Constraints(NATURAL);
+    const LIMITS: Constraints<'static> = Constraints(NATURAL);
 
     ghost LIMITS = { from 0 };
 }

@@ -18,7 +18,7 @@ pub struct ShortVisibleLimits;
 const ONE_TO_THREE_EXTENSIBLE: &[Constraint] = constraints!(SIZE 1..=3, ...);
 
 impl Limits for ShortVisibleLimits {
-    const LIMITS: Constraints = Constraints(ONE_TO_THREE_EXTENSIBLE);
+    const LIMITS: Constraints<'static> = Constraints(ONE_TO_THREE_EXTENSIBLE);
 
     ghost LIMITS = { extensible (size 1 to 3) };
 }
@@ -47,7 +47,7 @@ const A_TO_E: &[u32] = &[65, 66, 67, 68, 69];
 const LETTERS_A_TO_E: &[Constraint] = constraints!(FROM A_TO_E, SIZE 1..=20);
 
 impl Limits for LettersAToELimits {
-    const LIMITS: Constraints = Constraints(LETTERS_A_TO_E);
+    const LIMITS: Constraints<'static> = Constraints(LETTERS_A_TO_E);
 
     ghost LIMITS = { of_characters (from_to 5 65) (size 1 to 20) };
 }
@@ -82,7 +82,7 @@ const X: &[u32] = &[120];
 const ONLY_X: &[Constraint] = constraints!(FROM X);
 
 impl Limits for OnlyXLimits {
-    const LIMITS: Constraints = Constraints(ONLY_X);
+    const LIMITS: Constraints<'static> = Constraints(ONLY_X);
 
     ghost LIMITS = { of_characters (120 ∷ []) any };
 }

@@ -50,7 +50,7 @@ impl AsnType for Filter {
 
     ghost IS_CHOICE = { true };
 
-    const CONSTRAINTS: Constraints = Constraints::NONE;
+    const CONSTRAINTS: Constraints<'static> = Constraints::NONE;
 
     ghost CONSTRAINTS = { no_constraints };
 

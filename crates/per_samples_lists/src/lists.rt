@@ -21,7 +21,7 @@ pub struct NullsLimits;
 const ONE_TO_300: &[Constraint] = constraints!(SIZE 1..=300);
 
 impl Limits for NullsLimits {
-    const LIMITS: Constraints = Constraints(ONE_TO_300);
+    const LIMITS: Constraints<'static> = Constraints(ONE_TO_300);
 
     ghost LIMITS = { size 1 to 300 };
 }

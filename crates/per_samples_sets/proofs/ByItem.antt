@@ -3,7 +3,7 @@ use Rattle.std.proofs.Common.{◌≡◌, refl, sym, ap, subst, ◌∙◌, ℕ, L
 use Rattle.rasn_below.specs.Values.{Value, truth}
 use Rattle.rasn_below.specs.Components.{fields_in, parts_of}
 use Rattle.rasn_below.specs.Types.{canonised, canonised_slots, in_tag_order, TagTree, smallest, Presence, optional, Schema, no_parts}
-use Rattle.rasn_below.specs.Calls.{DecoderRules, left_out, Gathers, gathers_end, gathers_gap, gathers_item, IsMade, StandsAt, stands_behind, stands_first}
+use Rattle.rasn_below.specs.Calls.{Codec, DecoderRules, left_out, Gathers, gathers_end, gathers_gap, gathers_item, IsMade, StandsAt, stands_behind, stands_first}
 use Rattle.per_samples_sets.specs.Each.{none, set_each, set_each_contents, with_items}
 use Rattle.per_samples_sets.specs.declared.set_each.Item.{Item}
 use Rattle.per_samples_sets.specs.declared.set_each.SetEach.{SetEach}
@@ -43,10 +43,10 @@ made_of n (gathers_gap {r = t} i (gathers_item f (gathers_gap {r = u} j gathers_
 made_of n (gathers_gap {r = t} i (gathers_gap {r = u} j (gathers_item g gathers_end))) = rw (g, left_out_is t i, left_out_is u j) refl
 made_of n (gathers_gap {r = t} i (gathers_gap {r = u} j (gathers_gap {r = v} k gathers_end))) = rw (left_out_is t i, left_out_is u j, left_out_is v k) refl
 
-pub made : {E S : Type 0} (rules : DecoderRules E S) (n : ℕ) (xs ys zs : List Item) (rs : List (Option Value)) (r : Result SetEach E)
+pub made : {E S : Type 0} (rules : DecoderRules E S) (codec : Codec) (n : ℕ) (xs ys zs : List Item) (rs : List (Option Value)) (r : Result SetEach E)
     → Gathers place slot (in_tag_order (fields_in set_each)) (canonised (parts_of set_each n)) xs rs → map place ys ≡ [] → zs ≡ xs ++ ys
-    → r ≡ Ok (with_items none zs) → IsMade rules (parts_of set_each n) set_each_contents (λ (x : SetEach). []) rs (map slot ys) r
-made rules n xs [] zs rs r a d e f =
-    subst (λ q. IsMade rules (parts_of set_each n) set_each_contents (λ (x : SetEach). []) rs [] q) (sym f)
+    → r ≡ Ok (with_items none zs) → IsMade rules codec (parts_of set_each n) set_each_contents (λ (x : SetEach). []) rs (map slot ys) r
+made rules codec n xs [] zs rs r a d e f =
+    subst (λ q. IsMade rules codec (parts_of set_each n) set_each_contents (λ (x : SetEach). []) rs [] q) (sym f)
     (ap (λ ws. canonised_slots (parts_of set_each n) (set_each_contents (with_items none ws))) (e ∙ append-nil xs) ∙ made_of n a, refl)
-made rules n xs (y ∷ ys) zs rs r a d e f = absurd cc
+made rules codec n xs (y ∷ ys) zs rs r a d e f = absurd cc

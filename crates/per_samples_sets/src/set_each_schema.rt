@@ -45,7 +45,7 @@ impl AsnType for SetEach {
 
     const IS_CHOICE: bool = false;
 
-    const CONSTRAINTS: Constraints = Constraints::NONE;
+    const CONSTRAINTS: Constraints<'static> = Constraints::NONE;
 
     ghost CONSTRAINTS = { no_constraints };
 

@@ -48,7 +48,7 @@ impl AsnType for SetPair {
 
     const IS_CHOICE: bool = false;
 
-    const CONSTRAINTS: Constraints = Constraints::NONE;
+    const CONSTRAINTS: Constraints<'static> = Constraints::NONE;
 
     ghost CONSTRAINTS = { no_constraints };
 

@@ -50,7 +50,7 @@ pub(crate) fn encoding_of<P: Part>(
 #[derive(Drop)]
 struct Limited<'a, T> {
     value: &'a T,
-    constraints: &'static [Constraint],
+    constraints: &'static [Constraint<'static>],
 }
 
 impl<'a, T: Encode> Part for Limited<'a, T> {
@@ -64,7 +64,7 @@ impl<'a, T: Encode> Part for Limited<'a, T> {
 pub(crate) fn written_of<T: Encode>(
     alloc: Global,
     value: &T,
-    constraints: &'static [Constraint],
+    constraints: &'static [Constraint<'static>],
 ) -> Result<Vec<u8>, EncodeError> {
     encoding_of(
         alloc,
@@ -75,7 +75,7 @@ pub(crate) fn written_of<T: Encode>(
 
 fn take<T: Decode, D: AnyDecoder>(
     decoder: &mut D,
-    constraints: &'static [Constraint],
+    constraints: &'static [Constraint<'static>],
 ) -> Result<T, D::Error> {
     T::decode_with_constraints(decoder, &Constraints::new(constraints))
 }
@@ -84,7 +84,7 @@ fn take<T: Decode, D: AnyDecoder>(
 pub(crate) fn read_of<T: Decode>(
     alloc: Global,
     octets: &[u8],
-    constraints: &'static [Constraint],
+    constraints: &'static [Constraint<'static>],
 ) -> Result<T, DecodeError> {
     take(&mut unaligned(alloc, octets), constraints)
 }

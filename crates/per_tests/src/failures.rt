@@ -139,7 +139,7 @@ fn reads_nothing_behind_a_call_out_of_turn(rt: HostRuntime) {
 
 const NONE: Identifier = Identifier::EMPTY;
 
-const ZERO_TO_SEVEN: Constraints = Constraints(constraints!(0..=7));
+const ZERO_TO_SEVEN: Constraints<'static> = Constraints(constraints!(0..=7));
 
 const SIZE_3: Constraints = Constraints(constraints!(SIZE 3..=3));
 
@@ -161,7 +161,7 @@ fn refusal_of_number<E: AnyEncoder>(alloc: Global, encoder: &mut E) -> Option<E:
 
 const A_TO_E: &[u32] = &[65, 66, 67, 68, 69];
 
-const FROM_A_TO_E: Constraints = Constraints(constraints!(FROM A_TO_E));
+const FROM_A_TO_E: Constraints<'static> = Constraints(constraints!(FROM A_TO_E));
 
 /// Why an encoder refuses "F" where the characters are those from A to E.
 fn refusal_of_text<E: AnyEncoder>(alloc: Global, encoder: &mut E) -> Option<E::Error> {

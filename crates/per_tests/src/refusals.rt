@@ -30,7 +30,11 @@ const FIVE: &[Constraint] = constraints!(FROM A_TO_E, SIZE 1..=20);
 const ONE_OF_FIVE: &[Constraint] = constraints!(FROM A_TO_E, SIZE 1..=1);
 
 /// Octets that are read as no value of a type under constraints, and why.
-type Row = (&'static [Constraint], &'static [u8], DecodeErrorKind);
+type Row = (
+    &'static [Constraint<'static>],
+    &'static [u8],
+    DecodeErrorKind,
+);
 
 fn numbers() -> [Row; 3] {
     [

@@ -10,7 +10,7 @@ use std::process::Abort;
 use std::test::Fail;
 
 /// Constraints, and octets in the UNALIGNED variant of a value under them.
-type Rows = &'static [(&'static [Constraint], &'static [u8])];
+type Rows = &'static [(&'static [Constraint<'static>], &'static [u8])];
 
 /// Octets under sizes (X.691 17): a count in 16 bits, one without such a bound, none, and one below an upper bound
 /// alone.

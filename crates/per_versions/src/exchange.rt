@@ -1,11 +1,11 @@
 //! From a value of one type, through its octets, to a value of another version.
 
-ghost use Rattle.std.specs.Prelude.{◌≡◌};
+ghost use Rattle.std.specs.Prelude.{◌≡◌, IfErr, IfOk};
 ghost use Rattle.rasn_schema.specs.Lawful.{IsLawfulType};
 ghost use Rattle.per_core.specs.Versions.{NewerType};
 ghost use Rattle.per_versions.specs.Kept.{KeepsToI128};
 ghost use Rattle.rasn_per.specs.Calls.{Decoded, Encoded};
-ghost use Rattle.per_versions.specs.Exchanges.{Exchanges, PassesOn};
+ghost use Rattle.per_versions.specs.Exchanges.{Exchanges, IsKept, IsPassedOn};
 ghost use Rattle.per_versions.specs.Readings.{IsReadByNewer, IsReadByOlder};
 ghost use Rattle.per_versions.specs.declared.exchange.ExchangeError.TheVariants as Faults;
 
@@ -120,16 +120,17 @@ pub fn read_by_newer_under_constraints<New: Decode, Old: Encode>(
 }
 
 /// What a relay makes of octets in the variant of one codec, in that of another or the same: the canonical octets of
-/// the value that they spell (X.691, 11.1, 19.9). Of a lawful type that keeps to the numbers of an `i128` it refuses,
-/// memory aside, only octets that spell no value.
+/// the value that they spell, whatever the type (X.691, 11.1, 19.9). Of a lawful type that keeps to the numbers of an
+/// `i128` it refuses, memory aside, only octets that spell no value.
 pub fn pass_on<T: Encode + Decode>(
     alloc: Global,
     from: Codec,
     to: Codec,
     octets: &[u8],
 ) -> Result<Vec<u8>, ExchangeError>
-    ensures { let type = T.schema T.CONSTRAINTS in IsLawfulType type → KeepsToI128 type →
-        PassesOn from to type octets.now result }
+    ensures passed { IfOk result (λ others. IsPassedOn from to (T.schema T.CONSTRAINTS) octets.now others.items) }
+    ensures kept { let type = T.schema T.CONSTRAINTS in IsLawfulType type → KeepsToI128 type →
+        IfErr result (IsKept from type octets.now) }
 {
     what_was_decoded_is_encoded::<T>();
     what_was_decoded_is_encoded_canonically::<T>();

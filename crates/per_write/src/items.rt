@@ -138,7 +138,7 @@ impl<B: Allocator> Items for Flags<'_, B> {
 #[derive(Drop)]
 pub(crate) struct Characters<'a, S> {
     pub(crate) string: &'a S,
-    pub(crate) alphabet: CharacterAlphabet,
+    pub(crate) alphabet: CharacterAlphabet<'a>,
 }
 
 impl<S: StaticPermittedAlphabet> Items for Characters<'_, S> {

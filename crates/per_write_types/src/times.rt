@@ -27,7 +27,7 @@ use std::alloc::Allocator;
 #[derive(Drop)]
 struct Text<'a> {
     characters: &'a [u8],
-    alphabet: CharacterAlphabet,
+    alphabet: CharacterAlphabet<'a>,
 }
 
 impl Items for Text<'_> {

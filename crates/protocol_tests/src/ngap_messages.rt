@@ -13,15 +13,15 @@ use ngap::protocol_ie_field::ProtocolIeField;
 use ngap::tables::*;
 use ngap::ue_context_release_command::UeContextReleaseCommand;
 use ngap_downlink::aliases::{
-    LimitedAllowedTacsElement, LimitedAmfName, LimitedEquivalentPlmnsElement,
-    LimitedForbiddenTacsElement, LimitedIndexToRfsp, LimitedRanPagingPriority,
+    AmfName, IndexToRfsp, LimitedAllowedTacsElement, LimitedEquivalentPlmnsElement,
+    LimitedForbiddenTacsElement, RanPagingPriority,
 };
 use ngap_downlink::forbidden_area_information_item::ForbiddenAreaInformationItem;
 use ngap_downlink::mobility_restriction_list::MobilityRestrictionList;
 use ngap_downlink::rat_restrictions_item::RatRestrictionsItem;
 use ngap_downlink::service_area_information_item::ServiceAreaInformationItem;
 use ngap_downlink::ue_aggregate_maximum_bit_rate::UeAggregateMaximumBitRate;
-use ngap_ies::aliases::{LimitedAllowedNssai, LimitedAmfUeNgapId, LimitedRanUeNgapId, NasPdu};
+use ngap_ies::aliases::{AllowedNssai, AmfUeNgapId, NasPdu, PlmnIdentity, RanUeNgapId};
 use ngap_ies::allowed_nssai_item::AllowedNssaiItem;
 use ngap_ies::cause::Cause;
 use ngap_ies::cause_radio_network::CauseRadioNetwork;
@@ -36,7 +36,7 @@ use ngap_initial_ue::user_location_information_nr::UserLocationInformationNr;
 use ngap_node::global_gnb_id::GlobalGnbId;
 use ngap_node::global_ran_node_id::GlobalRanNodeId;
 use ngap_node::gnb_id::GnbId;
-use ngap_setup::aliases::{LimitedRanNodeName, LimitedSupportedTaList};
+use ngap_setup::aliases::{RanNodeName, SupportedTaList};
 use ngap_setup::broadcast_plmn_item::BroadcastPlmnItem;
 use ngap_setup::extended_ran_node_name::ExtendedRanNodeName;
 use ngap_setup::paging_drx::PagingDrx;
@@ -231,7 +231,7 @@ fn gnb<R: Abort>(trial: &Trial<R>, octets: &[u8], len: usize) -> GlobalRanNodeId
 }
 
 /// The area, where the network has these slices.
-fn area<R: Abort>(trial: &Trial<R>, slices: Vec<SliceSupportItem>) -> LimitedSupportedTaList {
+fn area<R: Abort>(trial: &Trial<R>, slices: Vec<SliceSupportItem>) -> SupportedTaList {
     let network = BroadcastPlmnItem {
         plmn_identity: trial.string(PLMN),
         tai_slice_support_list: slices,
@@ -242,7 +242,7 @@ fn area<R: Abort>(trial: &Trial<R>, slices: Vec<SliceSupportItem>) -> LimitedSup
         broadcast_plmn_list: trial.one(network),
         ie_extensions: None,
     };
-    LimitedSupportedTaList::new(trial.one(area))
+    SupportedTaList::new(trial.one(area))
 }
 
 fn expect_setup<R: Abort>(trial: &Trial<R>, all: &[ProtocolIeField]) {
@@ -255,7 +255,7 @@ fn expect_setup<R: Abort>(trial: &Trial<R>, all: &[ProtocolIeField]) {
         &node,
     );
     let id = NG_SETUP_REQUEST_IES_RAN_NODE_NAME;
-    let name: LimitedRanNodeName = trial.read(element(trial, all, 1, id, Criticality::Ignore));
+    let name: RanNodeName = trial.read(element(trial, all, 1, id, Criticality::Ignore));
     trial.expect_octets(name.value.as_bytes(), "gnb-west 7".as_bytes());
     let slices = trial.two(
         supported(slice(trial, &[0x01])),
@@ -355,7 +355,7 @@ const REGISTRATION: &[u8] = &[
 ];
 
 fn expect_initial<R: Abort>(trial: &Trial<R>, all: &[ProtocolIeField]) {
-    let number = LimitedRanUeNgapId::new(1);
+    let number = RanUeNgapId::new(1);
     expect_reject(
         trial,
         all,
@@ -444,17 +444,17 @@ fn mobility<R: Abort>(trial: &Trial<R>) -> MobilityRestrictionList {
 }
 
 /// The slice that a terminal may use.
-fn allowed<R: Abort>(trial: &Trial<R>) -> LimitedAllowedNssai {
+fn allowed<R: Abort>(trial: &Trial<R>) -> AllowedNssai {
     let item = AllowedNssaiItem {
         s_nssai: second_slice(trial),
         ie_extensions: None,
     };
-    LimitedAllowedNssai::new(trial.one(item))
+    AllowedNssai::new(trial.one(item))
 }
 
 /// The identifiers of a terminal at both ends, who had it before, and how it is paged.
 fn expect_terminal<R: Abort>(trial: &Trial<R>, all: &[ProtocolIeField]) {
-    let above = LimitedAmfUeNgapId::new(1_099_511_627_775);
+    let above = AmfUeNgapId::new(1_099_511_627_775);
     expect_reject(
         trial,
         all,
@@ -462,7 +462,7 @@ fn expect_terminal<R: Abort>(trial: &Trial<R>, all: &[ProtocolIeField]) {
         DOWNLINK_NAS_TRANSPORT_IES_AMF_UE_NGAP_ID,
         &above,
     );
-    let below = LimitedRanUeNgapId::new(4_294_967_295);
+    let below = RanUeNgapId::new(4_294_967_295);
     expect_reject(
         trial,
         all,
@@ -471,9 +471,9 @@ fn expect_terminal<R: Abort>(trial: &Trial<R>, all: &[ProtocolIeField]) {
         &below,
     );
     let id = DOWNLINK_NAS_TRANSPORT_IES_AMF_NAME;
-    let old: LimitedAmfName = trial.read(element(trial, all, 2, id, Criticality::Reject));
+    let old: AmfName = trial.read(element(trial, all, 2, id, Criticality::Reject));
     trial.expect_octets(old.value.as_bytes(), "old-amf".as_bytes());
-    let priority = LimitedRanPagingPriority::new(256);
+    let priority = RanPagingPriority::new(256);
     expect_ignore(
         trial,
         all,
@@ -490,7 +490,7 @@ fn expect_rights<R: Abort>(trial: &Trial<R>, all: &[ProtocolIeField]) {
     let mobility = mobility(trial);
     let id = DOWNLINK_NAS_TRANSPORT_IES_MOBILITY_RESTRICTION_LIST;
     expect_ignore(trial, all, 5, id, &mobility);
-    let profile = LimitedIndexToRfsp::new(Integer::from(256));
+    let profile = IndexToRfsp::new(Integer::from(256));
     expect_ignore(
         trial,
         all,
@@ -565,4 +565,15 @@ fn an_element_of_another_release_keeps_its_octets(rt: HostRuntime) {
         protocol_ies: trial.one(unknown),
     };
     trial.expect_coded(&message, UNKNOWN_ELEMENT);
+}
+
+/// What an object set names is under its constraints by that name.
+#[test]
+fn an_element_of_a_wrong_size_is_refused(rt: HostRuntime) {
+    let trial = Trial::new(&rt, rt.alloc(), Codec::Aper);
+    trial.expect_coded(&PlmnIdentity::new(trial.string(PLMN)), PLMN);
+    let four = PlmnIdentity::new(trial.string(&[0x62, 0xf2, 0x10, 0x00]));
+    if let Ok(octets) = trial.encode(&four) {
+        trial.fail(octets.as_slice());
+    }
 }

@@ -2,7 +2,7 @@
 
 use crate::expected::Trial;
 use rasn_below::types::Codec;
-use s1ap::aliases::{LimitedEnBname, LimitedPlmNidentity, LimitedSupportedTas};
+use s1ap::aliases::{EnBname, LimitedPlmNidentity, SupportedTas};
 use s1ap::criticality::Criticality;
 use s1ap::enb_id::EnbId;
 use s1ap::global_enb_id::GlobalEnbId;
@@ -87,7 +87,7 @@ fn station<R: Abort>(trial: &Trial<R>) -> GlobalEnbId {
 }
 
 /// The area of two networks.
-fn area<R: Abort>(trial: &Trial<R>) -> LimitedSupportedTas {
+fn area<R: Abort>(trial: &Trial<R>) -> SupportedTas {
     let first = LimitedPlmNidentity::new(trial.string(&[0x62, 0xf2, 0x10]));
     let second = LimitedPlmNidentity::new(trial.string(&[0x21, 0xf3, 0x54]));
     let area = SupportedTasItem {
@@ -95,7 +95,7 @@ fn area<R: Abort>(trial: &Trial<R>) -> LimitedSupportedTas {
         broadcast_plmns: trial.two(first, second),
         ie_extensions: None,
     };
-    LimitedSupportedTas::new(trial.one(area))
+    SupportedTas::new(trial.one(area))
 }
 
 fn expect_setup<R: Abort>(trial: &Trial<R>, all: &[ProtocolIeField]) {
@@ -104,7 +104,7 @@ fn expect_setup<R: Abort>(trial: &Trial<R>, all: &[ProtocolIeField]) {
     trial.expect_coded(&station(trial), octets);
     let id = S1_SETUP_REQUEST_IES_EN_BNAME;
     let octets = element(trial, all, 1, id, Criticality::Ignore);
-    let name: LimitedEnBname = trial.read(octets);
+    let name: EnBname = trial.read(octets);
     trial.expect_octets(name.value.as_bytes(), "eNB Eurecom LTEBox".as_bytes());
     let id = S1_SETUP_REQUEST_IES_SUPPORTED_TAS;
     let octets = element(trial, all, 2, id, Criticality::Reject);

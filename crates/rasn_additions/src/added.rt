@@ -43,7 +43,7 @@ pub trait EncodeAdditionCells {
     fn encode_addition_cells<E: Encoder>(
         &self,
         fields: &[Field],
-        constraints: &[&'static [Constraint]],
+        constraints: &[&'static [Constraint<'static>]],
         encoder: &mut E,
     ) -> Result<(), E::Error>
         ensures { WritesAdditions E.rules (Self.additions self.now (map shape_of fields.now) constraints.now)
@@ -68,7 +68,7 @@ pub trait DecodeAdditionCells {
     fn decode_addition_cells<D: Decoder>(
         &self,
         fields: &[Field],
-        constraints: &[&'static [Constraint]],
+        constraints: &[&'static [Constraint<'static>]],
         decoder: &mut D,
     ) -> Result<Self::Values, D::Error>
         ensures { TakesAdditions D.rules (Self.additions self.now (map shape_of fields.now) constraints.now)
@@ -82,7 +82,7 @@ pub struct AddedTo<T, P> {
     /// The record.
     pub of: PhantomData<T>,
     /// The constraints of the additions, in their order.
-    pub constraints: &'static [&'static [Constraint]],
+    pub constraints: &'static [&'static [Constraint<'static>]],
     /// The additions.
     pub cells: P,
 }
@@ -94,7 +94,7 @@ pub struct ListedAdditions<P> {
     /// The lists of the record's fields.
     pub fields: FieldLists,
     /// The constraints of the additions, in their order.
-    pub constraints: &'static [&'static [Constraint]],
+    pub constraints: &'static [&'static [Constraint<'static>]],
     /// The additions.
     pub cells: P,
 }
@@ -119,7 +119,7 @@ impl EncodeAdditionCells for End {
     fn encode_addition_cells<E: Encoder>(
         &self,
         _: &[Field],
-        _: &[&'static [Constraint]],
+        _: &[&'static [Constraint<'static>]],
         encoder: &mut E,
     ) -> Result<(), E::Error> {
         let _ = encoder;
@@ -142,7 +142,7 @@ impl<C: EncodeAddition, N: EncodeAdditionCells> EncodeAdditionCells for Cell<C, 
     fn encode_addition_cells<E: Encoder>(
         &self,
         fields: &[Field],
-        constraints: &[&'static [Constraint]],
+        constraints: &[&'static [Constraint<'static>]],
         encoder: &mut E,
     ) -> Result<(), E::Error> {
         let tag = first_tag(fields, <C::Of as AsnType>::TAG);
@@ -199,7 +199,7 @@ impl DecodeAdditionCells for End {
     fn decode_addition_cells<D: Decoder>(
         &self,
         _: &[Field],
-        _: &[&'static [Constraint]],
+        _: &[&'static [Constraint<'static>]],
         decoder: &mut D,
     ) -> Result<(), D::Error> {
         let _ = decoder;
@@ -218,7 +218,7 @@ impl<C: DecodeAddition, N: DecodeAdditionCells> DecodeAdditionCells for Cell<C, 
     fn decode_addition_cells<D: Decoder>(
         &self,
         fields: &[Field],
-        constraints: &[&'static [Constraint]],
+        constraints: &[&'static [Constraint<'static>]],
         decoder: &mut D,
     ) -> Result<(C::Value, N::Values), D::Error> {
         let tag = first_tag(fields, <C::Of as AsnType>::TAG);

@@ -172,18 +172,18 @@ impl<T> Extensible<T> {
 
 /// A constraint of a type (X.680 49).
 #[derive(Clone, Copy, Debug, PartialEq, Eq)]
-pub enum Constraint {
+pub enum Constraint<'list> {
     /// Bounds of a number (X.680 51.4).
     Value(Extensible<Bounded<i128>>),
     /// Bounds of the count of characters, octets, bits or elements (X.680 51.5).
     Size(Extensible<Bounded<usize>>),
     /// The characters that a string may have, as a set (X.680 51.7).
-    PermittedAlphabet(Extensible<&'static [u32]>),
+    PermittedAlphabet(Extensible<&'list [u32]>),
     /// An extension marker with no constraint. The packed encoding rules see none.
     Extensible,
 }
 
-impl Constraint {
+impl<'list> Constraint<'list> {
     ghost use Rattle.rasn_constraints.specs.Constraints.{stated_value, stated_size, stated_alphabet, listed_alphabet};
 
     /// The bounds of a number, where it states these.
@@ -207,7 +207,7 @@ impl Constraint {
     }
 
     /// The permitted characters, where it states these.
-    pub fn as_permitted_alphabet(&self) -> Option<Extensible<&'static [u32]>>
+    pub fn as_permitted_alphabet(&self) -> Option<Extensible<&'list [u32]>>
         ensures { option_map listed_alphabet result ≡ stated_alphabet self.now }
     {
         match self {
@@ -219,9 +219,9 @@ impl Constraint {
 
 /// The constraints of a type. The first of each kind is in use.
 #[derive(Drop)]
-pub struct Constraints(pub &'static [Constraint]);
+pub struct Constraints<'list>(pub &'list [Constraint<'list>]);
 
-impl Model for Constraints {
+impl<'list> Model for Constraints<'list> {
     ghost use Rattle.rasn_constraints.specs.Constraints.{Effective, effective};
 
     ghost Value = { Effective };
@@ -229,14 +229,14 @@ impl Model for Constraints {
     ghost view = { λ c. effective c.0.now };
 }
 
-impl Constraints {
+impl<'list> Constraints<'list> {
     ghost use Rattle.rasn_constraints.specs.Constraints.{effective, listed_alphabet};
 
     /// No constraint.
-    pub const NONE: Constraints = Constraints(&[]);
+    pub const NONE: Constraints<'static> = Constraints(&[]);
 
     /// The constraints of a list.
-    pub const fn new(constraints: &'static [Constraint]) -> Constraints
+    pub const fn new(constraints: &'list [Constraint<'list>]) -> Constraints<'list>
         ensures { result ≡ effective constraints.now }
     {
         Constraints(constraints)
@@ -268,7 +268,7 @@ impl Constraints {
     }
 
     /// The first permitted alphabet, where there is one.
-    pub fn permitted_alphabet(&self) -> Option<Extensible<&'static [u32]>>
+    pub fn permitted_alphabet(&self) -> Option<Extensible<&'list [u32]>>
         ensures { option_map listed_alphabet result ≡ self.now.alphabet }
     {
         for constraint in self.0 {

@@ -77,7 +77,7 @@ impl<T, O: AsnType> AsnType for EncodingOf<T, O> {
 
     ghost IS_CHOICE = { O.IS_CHOICE };
 
-    const CONSTRAINTS: Constraints = O::CONSTRAINTS;
+    const CONSTRAINTS: Constraints<'static> = O::CONSTRAINTS;
 
     ghost CONSTRAINTS = { O.CONSTRAINTS };
 

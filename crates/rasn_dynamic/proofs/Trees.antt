@@ -1,5 +1,5 @@
 -- What a run-time value is, by its outermost level.
-use Rattle.std.proofs.Common.{◌≡◌, refl, sym, ap, ap₂, ◌∙◌, subst, ℕ, suc, ◌≤◌, Bool, true, false, List, [], ◌∷◌, map, Option, Some, None, arith}
+use Rattle.std.proofs.Common.{◌≡◌, refl, sym, ap, ap₂, ◌∙◌, subst, ℕ, zero, suc, ◌<◌, ◌≤◌, length, get_or, Bool, true, false, List, [], ◌∷◌, map, Option, Some, None, arith}
 use Rattle.std.specs.Prelude.{max}
 use Rattle.rasn_types.specs.Values.{Value as Content, alternative, bag_of}
 use Rattle.rasn_schema.specs.Lists.{deepest, list_value}
@@ -123,11 +123,11 @@ pub not_bag : (v : Value) → Unbag v
 not_bag = ind-Value Unbag (λ x y is. unbag_roll x)
 
 abbrev Unfields : Value → Type 0
-Unfields v = ((y : _) → v ≡ TheViews.Fields y → ⊥) → NotFields (value_of v)
+Unfields v = ((y z : _) → v ≡ TheViews.Fields y z → ⊥) → NotFields (value_of v)
 
 unfields_roll : (x : Value-F Value) → Unfields (roll-Value x)
 unfolding bag_of
-unfields_roll (Fields y) h = absurd (h y (rolls-Fields y))
+unfields_roll (Fields y z) h = absurd (h y z (rolls-Fields y z))
 unfields_roll x h = subst NotFields (sym (ap there (roll_slot x))) (λ o ps qs mark. refl)
 
 pub not_fields : (v : Value) → Unfields v
@@ -159,11 +159,11 @@ elements_value v x e = ap value_of e ∙ ap there (roll_slot (Elements x)) ∙ a
 pub elements_levels : (v : Value) (x : _) → v ≡ roll-Value (Elements x) → levels_of v ≡ suc (deepest levels_of x.items)
 elements_levels v x e = ap levels_of e ∙ roll_levels (Elements x) ∙ ap suc (deepest_there x.items)
 
-pub fields_value : (v : Value) (x : _) → v ≡ roll-Value (Fields x) → value_of v ≡ record_value (map slot_of x.items) []
-fields_value v x e = ap value_of e ∙ ap there (roll_slot (Fields x))
+pub fields_value : (v : Value) (x y : _) → v ≡ roll-Value (Fields x y) → value_of v ≡ record_value (map slot_of x.items) (map slot_of y.items)
+fields_value v x y e = ap value_of e ∙ ap there (roll_slot (Fields x y))
 
-pub fields_levels : (v : Value) (x : _) → v ≡ roll-Value (Fields x) → levels_of v ≡ suc (deepest levels_of x.items)
-fields_levels v x e = ap levels_of e ∙ roll_levels (Fields x) ∙ ap suc (deepest_there x.items)
+pub fields_levels : (v : Value) (x y : _) → v ≡ roll-Value (Fields x y) → levels_of v ≡ suc (max (deepest levels_of x.items) (deepest levels_of y.items))
+fields_levels v x y e = ap levels_of e ∙ roll_levels (Fields x y) ∙ ap₂ (λ a b. suc (max a b)) (deepest_there x.items) (deepest_there y.items)
 
 pub alternative_value : (v : Value) (p x : _) → v ≡ roll-Value (Alternative p x) → value_of v ≡ alternative (side_of p) (index_in p) (value_of x.value)
 alternative_value v p x e = ap value_of e ∙ ap there (roll_slot (Alternative p x))
@@ -174,26 +174,41 @@ alternative_levels v p x e = ap levels_of e ∙ roll_levels (Alternative p x)
 pub alternative_slot : (p x : _) → slot_of (TheViews.Alternative p x) ≡ Some (alternative (side_of p) (index_in p) (value_of x.value))
 alternative_slot p x = ap slot_of (sym (rolls-Alternative p x)) ∙ roll_slot (Alternative p x)
 
+pub bag_value : (v : Value) (x : _) → v ≡ roll-Value (Bag x) → value_of v ≡ bag_of (map value_of x.items)
+bag_value v x e = ap value_of e ∙ ap there (roll_slot (Bag x)) ∙ ap bag_of (all_there x.items)
+
+pub bag_levels : (v : Value) (x : _) → v ≡ roll-Value (Bag x) → levels_of v ≡ suc (deepest levels_of x.items)
+bag_levels v x e = ap levels_of e ∙ roll_levels (Bag x) ∙ ap suc (deepest_there x.items)
+
 -- a value that takes no level isn't one that is cut off
 abbrev Uncut : Value → Type 0
 Uncut v = levels_of v ≤ 0 → is_of_kind Schemas.cut (value_of v) ≡ false
 
 uncut_roll : (x : Value-F Value) → Uncut (roll-Value x)
 unfolding bag_of
-uncut_roll (Fields y) h = absurd (omega (arith, h, fields_levels (roll-Value (Fields y)) y refl))
+uncut_roll (Fields y z) h = absurd (omega (arith, h, fields_levels (roll-Value (Fields y z)) y z refl))
 uncut_roll x h = subst (λ v. is_of_kind Schemas.cut v ≡ false) (sym (ap there (roll_slot x))) refl
 
 pub not_cut : (v : Value) → levels_of v ≤ 0 → is_of_kind Schemas.cut (value_of v) ≡ false
 not_cut = ind-Value Uncut (λ x y is. uncut_roll x)
 
+-- an element takes no more levels than the deepest
+pub deepest_at : (vs : List Value) (i : ℕ) (v : Value) → i < length vs → v ≡ get_or vs i v → levels_of v ≤ deepest levels_of vs
+deepest_at [] i v l e = absurd (omega (arith, l))
+deepest_at (w ∷ vs) zero v l e = subst (λ u. levels_of u ≤ max (levels_of w) (deepest levels_of vs)) (sym e) (omega arith)
+deepest_at (w ∷ vs) (suc i) v l e = let h = deepest_at vs i v (omega (arith, l)) e in omega (arith, h)
+
 pub absent_slot : slot_of TheVariants.Absent ≡ None
 absent_slot = ap slot_of (sym rolls-Absent) ∙ roll_slot Absent
 
-pub fields_slot : (x : _) → slot_of (TheViews.Fields x) ≡ Some (record_value (map slot_of x.items) [])
-fields_slot x = ap slot_of (sym (rolls-Fields x)) ∙ roll_slot (Fields x)
+pub fields_slot : (x y : _) → slot_of (TheViews.Fields x y) ≡ Some (record_value (map slot_of x.items) (map slot_of y.items))
+fields_slot x y = ap slot_of (sym (rolls-Fields x y)) ∙ roll_slot (Fields x y)
 
 pub elements_slot : (x : _) → slot_of (TheViews.Elements x) ≡ Some (list_value (map value_of x.items))
 elements_slot x = ap slot_of (sym (rolls-Elements x)) ∙ roll_slot (Elements x) ∙ ap (λ vs. Some (list_value vs)) (all_there x.items)
+
+pub bag_slot : (x : _) → slot_of (TheViews.Bag x) ≡ Some (bag_of (map value_of x.items))
+bag_slot x = ap slot_of (sym (rolls-Bag x)) ∙ roll_slot (Bag x) ∙ ap (λ vs. Some (bag_of vs)) (all_there x.items)
 
 -- what is there is its value
 pub slot_there : (v : Value) (w : Content) → slot_of v ≡ Some w → slot_of v ≡ Some (value_of v)

@@ -1,3 +1,5 @@
+pub mod Names
+pub mod OneAddition
 pub mod Reads
 pub mod Types
 pub mod Values

@@ -1,5 +1,5 @@
 -- The values of the grammar that run-time values are.
-use Rattle.std.specs.Prelude.{◌≡◌, ℕ, suc, Bool, true, false, List, [], ◌∷◌, map, Option, Some, None}
+use Rattle.std.specs.Prelude.{◌≡◌, ℕ, suc, max, Bool, true, false, List, [], ◌∷◌, map, Option, Some, None}
 use Rattle.rasn_types.specs.Contents.{TextKind, TimeKind}
 use Rattle.rasn_types.specs.Values
 use Rattle.rasn_types.specs.Values.{truth, nothing, whole, octets, bits, characters, bag_of, alternative}
@@ -32,7 +32,7 @@ slot_step (Bits bs) = Some (bits bs)
 slot_step (Characters cs) = Some (characters cs)
 slot_step (Elements v) = Some (list_value (map there v.items))
 slot_step (Bag v) = Some (bag_of (map there v.items))
-slot_step (Fields v) = Some (record_value v.items [])
+slot_step (Fields v w) = Some (record_value v.items w.items)
 slot_step (Alternative p v) = Some (alternative (side_of p) (index_in p) (there v.value))
 
 -- what a value is: absent or there
@@ -47,7 +47,7 @@ value_of v = there (slot_of v)
 abbrev pub levels_step : Value-F ℕ → ℕ
 levels_step (Elements v) = suc (deepest (λ n. n) v.items)
 levels_step (Bag v) = suc (deepest (λ n. n) v.items)
-levels_step (Fields v) = suc (deepest (λ n. n) v.items)
+levels_step (Fields v w) = suc (max (deepest (λ n. n) v.items) (deepest (λ n. n) w.items))
 levels_step (Alternative p v) = suc v.value
 levels_step _ = 0
 

@@ -1,20 +1,21 @@
--- What the calls owe that write components of a table of types.
+-- What the calls owe that write components and additions of a table of types.
 use Rattle.std.specs.Prelude.{◌≡◌, ℕ, Bool, true, false, ◌&&◌, List, [], ◌∷◌, Option, Some, None}
-use Rattle.std.specs.Prelude.{Result, Ok, Err, OnErr, option_map}
+use Rattle.std.specs.Prelude.{Result, Ok, Err, OnErr}
 use Rattle.rasn_types.specs.Values.{Side, Value}
-use Rattle.rasn_schema.specs.Normal.{normal}
+use Rattle.rasn_schema.specs.Normal.{normal, settle}
 use Rattle.rasn_schema.specs.Schemas
-use Rattle.rasn_schema.specs.Schemas.{Schema}
+use Rattle.rasn_schema.specs.Schemas.{group, Schema}
 use Rattle.rasn_schema.specs.AtDepths.{AtDepths}
 use Rattle.rasn_traits.specs.Calls.{EncoderRules}
 use Rattle.rasn_traits.specs.Counted.{OpensPlaced}
-use Rattle.rasn_traits.specs.Scopes.{WrittenPart}
+use Rattle.rasn_traits.specs.Additions.{AdditionWritten, WrittenAddition}
+use Rattle.rasn_dynamic.specs.OneAddition.{normal_addition}
 use Rattle.rasn_schema.specs.declared.items.Place.{Place}
 use Rattle.rasn_dynamic.specs.declared.types.Alternative.{Alternative}
 use Rattle.rasn_dynamic.specs.declared.types.Choice.{Choice}
 use Rattle.rasn_dynamic.specs.declared.types.Component.{Component}
 use Rattle.rasn_dynamic.specs.declared.types.Presence.{Presence}
-use Rattle.rasn_dynamic.specs.declared.types.Presence.TheVariants.{Required, Optional}
+use Rattle.rasn_dynamic.specs.declared.types.Presence.TheVariants.{Required, Optional, Group}
 use Rattle.rasn_dynamic.specs.Types.{alternative_counts, standing}
 
 -- whether a component may be absent, or there, as it is
@@ -22,6 +23,7 @@ abbrev pub may_stand : Presence → Option Value → Bool
 may_stand Required None = false
 may_stand Required (Some v) = true
 may_stand Optional s = true
+may_stand Group s = true
 
 -- whether what stands for components is as many, and there where it has to be
 abbrev pub fit : List Component → List (Option Value) → Bool
@@ -30,11 +32,29 @@ fit [] (s ∷ ss) = false
 fit (c ∷ cs) [] = false
 fit (c ∷ cs) (s ∷ ss) = may_stand c.presence s && fit cs ss
 
--- A call that writes one component, at each depth that holds it: an error leaves the encoder failed, and the variant
--- stays.
-pub record WritesOne {E X : Type 0} (rules : EncoderRules E X) (p : Schemas.Presence) (schema : ℕ → Schema) (k : ℕ)
-    (slot : Option Value) (x : X) (result : Result (Unit {0}) E) (y : X) : Type 0 where
-  pub law : AtDepths schema k (λ s. WrittenPart rules p s (option_map (normal s) slot) x result y)
+-- A call that writes one component, or one addition, at each depth that holds it: an error leaves the encoder failed,
+-- and the variant stays.
+pub record WritesOne {E X : Type 0} (rules : EncoderRules E X)
+    (Written : Schemas.Presence → Schema → Option Value → X → Result (Unit {0}) E → X → Type 0)
+    (p : Schemas.Presence) (schema : ℕ → Schema) (k : ℕ) (slot : Option Value) (x : X) (result : Result (Unit {0}) E)
+    (y : X) : Type 0 where
+  pub law : AtDepths schema k (λ s. Written p s (normal_addition p s slot) x result y)
+  pub fails : OnErr result (rules.failed y ≡ true)
+  pub kept : rules.codec y ≡ rules.codec x
+
+-- A call that gives an addition as its value in an open type, at each depth that holds it: an error leaves the encoder
+-- failed, and the variant stays.
+pub record GivesOpen {E X : Type 0} (rules : EncoderRules E X) (schema : ℕ → Schema) (k : ℕ) (v : Value) (x : X)
+    (result : Result (Unit {0}) E) (y : X) : Type 0 where
+  pub law : AtDepths schema k (λ s. AdditionWritten rules s (normal s v) x result y)
+  pub fails : OnErr result (rules.failed y ≡ true)
+  pub kept : rules.codec y ≡ rules.codec x
+
+-- A call that gives an addition group in an open type, or as absent where it holds nothing (X.691 19.9), at each depth
+-- that holds it: an error leaves the encoder failed, and the variant stays.
+pub record GivesSettled {E X : Type 0} (rules : EncoderRules E X) (schema : ℕ → Schema) (k : ℕ) (v : Value) (x : X)
+    (result : Result (Unit {0}) E) (y : X) : Type 0 where
+  pub law : AtDepths schema k (λ s. WrittenAddition rules group s (settle group s (normal s v)) x result y)
   pub fails : OnErr result (rules.failed y ≡ true)
   pub kept : rules.codec y ≡ rules.codec x
 

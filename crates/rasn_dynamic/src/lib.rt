@@ -2,6 +2,8 @@
 //! decoder of counted calls.
 #![tactic(auto)]
 
+mod characters;
+pub mod copying;
 pub mod read;
 pub mod read_simple;
 pub mod types;

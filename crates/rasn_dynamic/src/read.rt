@@ -1,24 +1,29 @@
 //! How values are read by a table of types.
 
 ghost use Rattle.std.specs.Prelude.{◌≡◌, ◌++◌, ◌∷◌, [], true, false, map, slice_get, IfSome, Some};
+ghost use Rattle.rasn_schema.specs.Bags.{set_at};
 ghost use Rattle.rasn_schema.specs.Choices.{one_level_in};
+ghost use Rattle.rasn_schema.specs.Fields.{tag_of};
 ghost use Rattle.rasn_schema.specs.Forms.{is_size_marked, size_of};
 ghost use Rattle.rasn_schema.specs.Lists.{list_at, list_value};
-ghost use Rattle.rasn_schema.specs.Records.{no_additions, record_at};
-ghost use Rattle.rasn_schema.specs.Schemas.{listed, optional};
+ghost use Rattle.rasn_schema.specs.Schemas.{leaf, optional, Schema};
+ghost use Rattle.rasn_traits.specs.AdditionsRead.{TakesAddition, TakesAdditions};
 ghost use Rattle.rasn_traits.specs.Boxes.{Holds};
 ghost use Rattle.rasn_traits.specs.Calls.{Reads};
 ghost use Rattle.rasn_traits.specs.Optionals.{ReadsComponent};
-ghost use Rattle.rasn_traits.specs.Scopes.{TakesParts};
-ghost use Rattle.rasn_dynamic.specs.Reads.{ReadsBoxed, ReadsValue};
-ghost use Rattle.rasn_dynamic.specs.Types.{choice_of, parts_at, presence_of, schema_at, standing};
+ghost use Rattle.rasn_dynamic.specs.OneAddition.{ReadsOneAddition};
+ghost use Rattle.rasn_dynamic.specs.Reads.{OpensNext, OpensWithin, ReadsBoxed, ReadsValue, TakesRoot};
+ghost use Rattle.rasn_dynamic.specs.Types.{choice_of, contained_at, grouped, in_root, of_size, parts_at, plain_at};
+ghost use Rattle.rasn_dynamic.specs.Types.{presence_of, record_schema, schema_at, standing};
 ghost use Rattle.rasn_dynamic.specs.Values.{slot_of, value_of};
 
 use crate::read_simple::{decode_nothing, decode_simple};
-use crate::types::{Choice, Component, Kind, Presence, kind_at, presence_bit_count};
+use crate::types::{
+    Choice, Component, Kind, Presence, Record, SizeBounds, kind_at, presence_bit_count,
+};
 use crate::values::Value;
+use rasn_constraints::constraints::{Constraint, Constraints};
 use rasn_schema::items::Place;
-use rasn_schema::schema::Constraints;
 use rasn_traits::counted::CountedDecoder;
 use rasn_types::types::Tag;
 
@@ -51,10 +56,60 @@ fn decode_kind<D: CountedDecoder>(
         decoder.old result decoder.new }
 {
     match kind {
+        Kind::Containing(of) => decode_containing(decoder, kinds, *of),
+        _ => decode_plain(decoder, kinds, kind),
+    }
+}
+
+/// Reads octets that contain a value: that value, by itself.
+#[cycle(reading)]
+fn decode_containing<D: CountedDecoder>(
+    decoder: &mut D,
+    kinds: &[Kind],
+    of: usize,
+) -> Result<Value, D::Error>
+    ensures { ReadsValue D.rules (Schema.containing (contained_at kinds.now of (D.rules.levels decoder.old)))
+        decoder.old result decoder.new }
+{
+    let outside = open_octets(decoder)?;
+    let value = decode_contained(decoder, kinds, of)?;
+    decoder.close_contents(outside)?;
+    Ok(value)
+}
+
+/// Reads the value that stands within octets which contain it.
+#[cycle(reading)]
+fn decode_contained<D: CountedDecoder>(
+    decoder: &mut D,
+    kinds: &[Kind],
+    place: usize,
+) -> Result<Value, D::Error>
+    ensures { ReadsValue D.rules (contained_at kinds.now place (D.rules.levels decoder.old))
+        decoder.old result decoder.new }
+{
+    match kind_at(kinds, place) {
+        None => decode_nothing(decoder),
+        Some(kind) => decode_plain(decoder, kinds, kind),
+    }
+}
+
+/// Reads a value of a type that isn't octets which contain one.
+#[cycle(reading)]
+fn decode_plain<D: CountedDecoder>(
+    decoder: &mut D,
+    kinds: &[Kind],
+    kind: &Kind,
+) -> Result<Value, D::Error>
+    ensures { ReadsValue D.rules (plain_at kinds.now kind.now (D.rules.levels decoder.old))
+        decoder.old result decoder.new }
+{
+    match kind {
         Kind::Simple(simple) => decode_simple(decoder, simple),
-        Kind::List(of, constraints) => decode_list(decoder, kinds, *of, constraints),
-        Kind::Record(components) => decode_record(decoder, kinds, components),
+        Kind::List(of, size) => decode_list(decoder, kinds, *of, size),
+        Kind::SetOf(of, size) => decode_set_of(decoder, kinds, *of, size),
+        Kind::Record(record) => decode_record(decoder, kinds, record),
         Kind::Choice(choice) => decode_choice(decoder, kinds, choice),
+        Kind::Containing(_) => decode_nothing(decoder),
     }
 }
 
@@ -64,14 +119,30 @@ fn decode_list<D: CountedDecoder>(
     decoder: &mut D,
     kinds: &[Kind],
     of: usize,
-    constraints: &Constraints,
+    size: &SizeBounds,
 ) -> Result<Value, D::Error>
-    ensures { let size = size_of constraints.now in
-        ReadsValue D.rules (list_at (schema_at kinds.now of) size (is_size_marked constraints.now)
+    ensures { let constraints = of_size size.now in
+        ReadsValue D.rules (list_at (schema_at kinds.now of) (size_of constraints) (is_size_marked constraints)
         (D.rules.levels decoder.old)) decoder.old result decoder.new }
 {
-    let values = decode_elements(decoder, kinds, of, constraints)?;
+    let values = decode_elements(decoder, kinds, of, size)?;
     Ok(Value::Elements(values))
+}
+
+/// Reads a SET OF: its members in whatever order (X.691 22).
+#[cycle(reading)]
+fn decode_set_of<D: CountedDecoder>(
+    decoder: &mut D,
+    kinds: &[Kind],
+    of: usize,
+    size: &SizeBounds,
+) -> Result<Value, D::Error>
+    ensures { let constraints = of_size size.now in
+        ReadsValue D.rules (set_at (schema_at kinds.now of) (size_of constraints) (is_size_marked constraints)
+        (D.rules.levels decoder.old)) decoder.old result decoder.new }
+{
+    let values = decode_elements(decoder, kinds, of, size)?;
+    Ok(Value::Bag(values))
 }
 
 /// Reads the elements of a SEQUENCE OF.
@@ -80,13 +151,14 @@ fn decode_elements<D: CountedDecoder>(
     decoder: &mut D,
     kinds: &[Kind],
     of: usize,
-    constraints: &Constraints,
+    size: &SizeBounds,
 ) -> Result<Vec<Value>, D::Error>
-    ensures { let size = size_of constraints.now in
-        Reads D.rules (list_at (schema_at kinds.now of) size (is_size_marked constraints.now)
+    ensures { let constraints = of_size size.now in
+        Reads D.rules (list_at (schema_at kinds.now of) (size_of constraints) (is_size_marked constraints)
         (D.rules.levels decoder.old)) (λ xs. list_value (map value_of xs.items)) decoder.old result decoder.new }
 {
-    let mut list = decoder.open_list(Tag::SEQUENCE, constraints)?;
+    let stated = [Constraint::Size(*size)];
+    let mut list = decoder.open_list(Tag::SEQUENCE, &Constraints::new(&stated))?;
     let mut values = Vec::new(decoder.alloc());
     while decoder.next_element(&mut list)? {
         let value = decode_value(decoder, kinds, of)?;
@@ -102,16 +174,20 @@ fn decode_elements<D: CountedDecoder>(
 fn decode_record<D: CountedDecoder>(
     decoder: &mut D,
     kinds: &[Kind],
-    components: &[Component],
+    record: &Record,
 ) -> Result<Value, D::Error>
-    ensures { ReadsValue D.rules (record_at listed (parts_at kinds.now components.now) false no_additions
-        (D.rules.levels decoder.old)) decoder.old result decoder.new }
+    ensures { ReadsValue D.rules (record_schema kinds.now record.now (D.rules.levels decoder.old))
+        decoder.old result decoder.new }
 {
+    let components = record.root();
+    let additions = record.behind();
     let bits = presence_bit_count(components);
-    let outside = decoder.open_record(Tag::SEQUENCE, bits, None)?;
-    let values = decode_components(decoder, kinds, components)?;
+    let count = record.added_count();
+    let outside = decoder.open_record(Tag::SEQUENCE, bits, count)?;
+    let root = decode_components(decoder, kinds, components)?;
+    let added = decode_additions(decoder, kinds, additions)?;
     decoder.close_sequence(outside)?;
-    Ok(Value::Fields(values))
+    Ok(Value::Fields(root, added))
 }
 
 /// Reads the root components of a SEQUENCE in turn.
@@ -121,8 +197,7 @@ fn decode_components<D: CountedDecoder>(
     kinds: &[Kind],
     components: &[Component],
 ) -> Result<Vec<Value>, D::Error>
-    ensures { TakesParts D.rules (parts_at kinds.now components.now) (λ xs. map slot_of xs.items)
-        decoder.old result decoder.new }
+    ensures { TakesRoot D.rules (parts_at in_root kinds.now components.now) decoder.old result decoder.new }
 {
     let mut values = Vec::new(decoder.alloc());
     for component in components {
@@ -141,12 +216,13 @@ fn decode_component<D: CountedDecoder>(
     kinds: &[Kind],
     component: &Component,
 ) -> Result<Value, D::Error>
-    ensures { ReadsComponent D.rules (presence_of component.now.presence)
+    ensures { ReadsComponent D.rules (presence_of false component.now.presence)
         (schema_at kinds.now component.now.of (D.rules.levels decoder.old)) slot_of decoder.old result decoder.new }
 {
     match component.presence {
         Presence::Required => decode_value(decoder, kinds, component.of),
         Presence::Optional => decode_optional(decoder, kinds, component.of),
+        Presence::Group => decode_optional(decoder, kinds, component.of),
     }
 }
 
@@ -222,6 +298,80 @@ fn boxed<D: CountedDecoder>(decoder: &mut D, value: Value) -> Result<Box<Value>,
         Ok(boxed) => Ok(boxed),
         Err(_) => Err(decoder.out_of_memory()),
     }
+}
+
+/// Reads the additions of a SEQUENCE in turn.
+#[cycle(reading)]
+fn decode_additions<D: CountedDecoder>(
+    decoder: &mut D,
+    kinds: &[Kind],
+    components: &[Component],
+) -> Result<Vec<Value>, D::Error>
+    ensures { TakesAdditions D.rules (parts_at (grouped kinds.now) kinds.now components.now)
+        (λ xs. map slot_of xs.items) decoder.old result decoder.new }
+{
+    let mut values = Vec::new(decoder.alloc());
+    for component in components {
+        let value = decode_addition(decoder, kinds, component)?;
+        if !push_value(&mut values, value) {
+            return Err(decoder.out_of_memory());
+        }
+    }
+    Ok(values)
+}
+
+/// Reads an addition: its value in an open type, or as absent.
+#[cycle(reading)]
+fn decode_addition<D: CountedDecoder>(
+    decoder: &mut D,
+    kinds: &[Kind],
+    component: &Component,
+) -> Result<Value, D::Error>
+    ensures { ReadsOneAddition D.rules (leaf (tag_of component.now.tag))
+        (presence_of (grouped kinds.now component.now) component.now.presence)
+        (schema_at kinds.now component.now.of (D.rules.levels decoder.old)) slot_of decoder.old result decoder.new }
+{
+    let value = decode_open(decoder, kinds, component.of)?;
+    if value.is_there() {
+        return Ok(value);
+    }
+    match component.presence {
+        Presence::Required => Err(decoder.required_extension_not_present(component.tag)),
+        Presence::Optional => Ok(value),
+        Presence::Group => Ok(value),
+    }
+}
+
+/// Reads the value of the next addition in its open type, or that it isn't there.
+#[cycle(reading)]
+fn decode_open<D: CountedDecoder>(
+    decoder: &mut D,
+    kinds: &[Kind],
+    place: usize,
+) -> Result<Value, D::Error>
+    ensures { TakesAddition D.rules (schema_at kinds.now place (D.rules.levels decoder.old)) slot_of
+        decoder.old result decoder.new }
+{
+    let Some(outside) = open_next(decoder)? else {
+        return Ok(Value::Absent);
+    };
+    let value = decode_value(decoder, kinds, place)?;
+    decoder.close_addition(outside)?;
+    Ok(value)
+}
+
+/// Opens the open type of the next addition, which takes no level, where it is there.
+fn open_next<D: CountedDecoder>(decoder: &mut D) -> Result<Option<D::Addition>, D::Error>
+    ensures { OpensNext D.rules D.opens_addition decoder.old result decoder.new }
+{
+    decoder.open_addition()
+}
+
+/// Opens octets that contain a value, which takes no level.
+fn open_octets<D: CountedDecoder>(decoder: &mut D) -> Result<D::Contents, D::Error>
+    ensures { OpensWithin D.rules D.opens_contents decoder.old result decoder.new }
+{
+    decoder.open_contents(Tag::OCTET_STRING)
 }
 
 /// Puts a value behind others, where there is memory for it.

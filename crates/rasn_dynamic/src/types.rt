@@ -2,11 +2,19 @@
 
 ghost use Rattle.std.specs.Prelude.{◌≡◌, ℕ, MatchOption, None, Some, count_by, option_map, slice_get};
 ghost use Rattle.rasn_schema.specs.Levels.{Levelled};
-ghost use Rattle.rasn_dynamic.specs.Types.{alternative_counts, behind, counts_of, is_not_required, schema_at, standing};
+ghost use Rattle.rasn_dynamic.specs.Names.{name_at, place_of};
+ghost use Rattle.rasn_dynamic.specs.Types.{added_count, alternative_counts, behind, counts_of, has_required};
+ghost use Rattle.rasn_dynamic.specs.Types.{is_not_required, required_in, schema_at, standing};
 
+use rasn_constraints::constraints::{Bounded, Extensible};
 use rasn_schema::items::{ItemCounts, Place};
-use rasn_schema::schema::Constraints;
 use rasn_types::types::Tag;
+
+/// The bounds of a number, and whether they have an extension marker (X.680 51.4, 52).
+pub type NumberBounds = Extensible<Bounded<i128>>;
+
+/// The bounds of a count, and whether they have an extension marker (X.680 51.5, 52).
+pub type SizeBounds = Extensible<Bounded<usize>>;
 
 /// A type in which no other type stands.
 #[derive(Drop)]
@@ -15,18 +23,53 @@ pub enum Simple {
     Boolean,
     /// NULL (X.691 18).
     Null,
-    /// INTEGER (X.691 13).
-    Integer(Constraints),
+    /// INTEGER (X.691 13) within bounds.
+    Integer(NumberBounds),
     /// ENUMERATED (X.691 14), by its items.
     Enumerated(Items),
-    /// OCTET STRING (X.691 17).
-    OctetString(Constraints),
-    /// BIT STRING (X.691 16).
-    BitString(Constraints),
-    /// BIT STRING whose bits have names (X.680 22.7).
-    NamedBits(Constraints),
+    /// OCTET STRING (X.691 17) of a size.
+    OctetString(SizeBounds),
+    /// BIT STRING (X.691 16) of a size.
+    BitString(SizeBounds),
+    /// BIT STRING whose bits have names (X.680 22.7), of a size.
+    NamedBits(SizeBounds),
+    /// A character string whose characters all take as many bits (X.691 30.1).
+    Characters(CharacterString),
+    /// UTF8String (X.691 30.6).
+    Utf8,
+    /// A character string whose octets may be any: GeneralString, GraphicString, TeletexString, VideotexString and
+    /// ObjectDescriptor (X.691 30.6).
+    Text,
+    /// OBJECT IDENTIFIER (X.691 24).
+    ObjectIdentifier,
     /// An open type whose type isn't told (X.691 11.2).
     Open,
+}
+
+/// A character string whose characters all take as many bits, of a size.
+#[derive(Drop)]
+pub struct CharacterString {
+    /// Whose characters it has.
+    pub of: CharacterType,
+    /// How many characters it has.
+    pub size: SizeBounds,
+    /// The characters that it may have, where not all of its type (X.680 51.7), in any order.
+    pub alphabet: Option<Vec<u32>>,
+}
+
+/// The types of such strings (X.680 41).
+#[derive(Clone, Copy, Debug, PartialEq, Eq)]
+pub enum CharacterType {
+    /// VisibleString.
+    Visible,
+    /// IA5String.
+    Ia5,
+    /// PrintableString.
+    Printable,
+    /// NumericString.
+    Numeric,
+    /// BMPString.
+    Bmp,
 }
 
 /// The items of an ENUMERATED by their names (X.680 20).
@@ -45,6 +88,9 @@ pub enum Presence {
     Required,
     /// It may be absent.
     Optional,
+    /// It is an addition group (X.680 25.1): its type is a SEQUENCE, and one that holds nothing is absent (X.691 19.9).
+    /// In the root, and where its type isn't a SEQUENCE, it is taken as `Optional`.
+    Group,
 }
 
 /// A component of a record.
@@ -85,12 +131,25 @@ pub struct Choice {
 pub enum Kind {
     /// A type in which no other type stands.
     Simple(Simple),
-    /// SEQUENCE OF (X.691 20): the place of its elements' type, and its constraints.
-    List(usize, Constraints),
-    /// SEQUENCE (X.691 19) without an extension marker.
-    Record(Vec<Component>),
+    /// SEQUENCE OF (X.691 20): the place of its elements' type, and its size.
+    List(usize, SizeBounds),
+    /// SET OF (X.691 22): the place of its members' type, and its size.
+    SetOf(usize, SizeBounds),
+    /// SEQUENCE (X.691 19).
+    Record(Record),
     /// CHOICE (X.691 23).
     Choice(Choice),
+    /// Octets that contain a value (X.682 11): the place of its type, which isn't itself such octets.
+    Containing(usize),
+}
+
+/// The components of a record (X.680 25).
+#[derive(Drop)]
+pub struct Record {
+    /// Those of its root.
+    pub root: Vec<Component>,
+    /// Its additions, where it has an extension marker.
+    pub additions: Option<Vec<Component>>,
 }
 
 /// A table of types.
@@ -113,11 +172,10 @@ pub struct Name {
 
 impl Types {
     /// The place of the type with a name: the first, where there are more.
-    pub fn place(&self, name: &str) -> Option<usize> {
-        self.names
-            .iter()
-            .find(|entry| entry.name.as_str() == name)
-            .map(|entry| entry.place)
+    pub fn place(&self, name: &str) -> Option<usize>
+        ensures { result ≡ place_of self.now.names.items name.now }
+    {
+        first_place(&self.names, name)
     }
 }
 
@@ -133,6 +191,41 @@ impl Items {
         ItemCounts {
             roots: self.roots.len(),
             addeds,
+        }
+    }
+
+    /// The name of the item at a place, where one stands there.
+    pub fn name(&self, place: Place) -> Option<&str>
+        ensures { option_map (λ n. n.now) result ≡ name_at self.now place }
+    {
+        match place {
+            Place::Root(index) => Some(self.roots.get(index)?.as_str()),
+            Place::Added(index) => Some(self.behind().get(index)?.as_str()),
+        }
+    }
+
+    /// The names of the items behind the extension marker, of which there are none without one.
+    pub fn behind(&self) -> &[String]
+        ensures { result.now ≡ behind self.now.addeds }
+    {
+        match &self.addeds {
+            Some(names) => names,
+            None => &[],
+        }
+    }
+}
+
+/// The place of the first of some types that has a name.
+fn first_place(names: &[Name], name: &str) -> Option<usize>
+    ensures { result ≡ place_of names.now name.now }
+{
+    match names {
+        [] => None,
+        [entry, others @ ..] => {
+            if entry.name.as_str() == name {
+                return Some(entry.place);
+            }
+            first_place(others, name)
         }
     }
 }
@@ -171,6 +264,42 @@ impl Choice {
     }
 }
 
+impl Record {
+    /// The components of its root.
+    pub fn root(&self) -> &[Component]
+        ensures { result.now ≡ self.now.root.items }
+    {
+        self.root.as_slice()
+    }
+
+    /// Its additions, of which there are none without an extension marker.
+    pub fn behind(&self) -> &[Component]
+        ensures { result.now ≡ behind self.now.additions }
+    {
+        match &self.additions {
+            Some(list) => list,
+            None => &[],
+        }
+    }
+
+    /// How many additions there are behind an extension marker, where it has one.
+    pub fn added_count(&self) -> Option<usize>
+        ensures { result ≡ added_count self.now.additions }
+    {
+        match &self.additions {
+            Some(list) => Some(list.len()),
+            None => None,
+        }
+    }
+
+    /// Whether a component of its root has to be there.
+    pub fn has_required(&self) -> bool
+        ensures { result ≡ has_required self.now }
+    {
+        presence_bit_count(&self.root) < self.root.len()
+    }
+}
+
 /// How many components have a presence bit (X.691 19.2).
 pub(crate) fn presence_bit_count(components: &[Component]) -> usize
     ensures { result ≡ count_by (λ c. is_not_required c.presence) components.now }
@@ -187,6 +316,16 @@ pub fn are_levelled(types: &Types)
     ensures { (place : ℕ) → Levelled (schema_at types.now.kinds.items place) }
 {
     let _ = types;
+}
+
+/// Whether a root component of the SEQUENCE at a place of a table has to be there, where one stands there.
+pub(crate) fn required_in(kinds: &[Kind], place: usize) -> Option<bool>
+    ensures { result ≡ required_in (slice_get kinds.now place) }
+{
+    match kind_at(kinds, place)? {
+        Kind::Record(record) => Some(record.has_required()),
+        _ => None,
+    }
 }
 
 /// What stands at a place of a table.

@@ -1,9 +1,16 @@
 //! Values whose type isn't told by Rust.
 
+ghost use Rattle.std.specs.Prelude.{◌≡◌, map, option_map};
+ghost use Rattle.rasn_dynamic.specs.Names.{slot_named};
+ghost use Rattle.rasn_dynamic.specs.Values.{slot_of};
+
+use crate::types::Component;
 use rasn_schema::items::Place;
 use rasn_strings::strings::BmpString;
+use rasn_types::ber::{BerError, object_identifier_as_bytes, object_identifier_from_bytes};
 use rasn_types::bit_string::BitString;
 use rasn_types::types::{Any, Integer};
+use std::alloc::Global;
 
 /// A value of any type, or none.
 #[derive(Drop)]
@@ -18,7 +25,8 @@ pub enum Value {
     Integer(Integer),
     /// Of ENUMERATED: where its item stands.
     Item(Place),
-    /// Of each type whose values are octets: OCTET STRING, and an open type.
+    /// Of each type whose values are octets: OCTET STRING, an open type, UTF8String, the texts of any octets, and
+    /// OBJECT IDENTIFIER by its contents octets (X.690 8.19).
     Octets(Any),
     /// Of BIT STRING.
     Bits(BitString),
@@ -28,20 +36,21 @@ pub enum Value {
     Elements(Vec<Value>),
     /// Of SET OF.
     Bag(Vec<Value>),
-    /// Of SEQUENCE: its root components.
-    Fields(Vec<Value>),
+    /// Of SEQUENCE and SET: its root components, and its additions.
+    Fields(Vec<Value>, Vec<Value>),
     /// Of CHOICE: where its alternative stands, and the value of this.
     Alternative(Place, Box<Value>),
 }
 
 impl Value {
     ghost use Rattle.std.specs.Prelude.{◌≡◌, true, false, is_some, map, slice_get, IfSome, MatchOption};
-    ghost use Rattle.std.specs.Prelude.{List, [], Option, Some};
+    ghost use Rattle.std.specs.Prelude.{List, Option, Some, IfOk};
     ghost use Rattle.rasn_types.specs.Values;
     ghost use Rattle.rasn_types.specs.Values.{alternative, bits, characters, nothing, octets, truth, whole};
     ghost use Rattle.rasn_schema.specs.Lists.{list_value};
     ghost use Rattle.rasn_schema.specs.Records.{record_value};
     ghost use Rattle.rasn_traits.specs.Counted.{index_in, item_at, side_of};
+    ghost use Rattle.rasn_traits.specs.Moments.{identifier_value};
     ghost use Rattle.rasn_dynamic.specs.Values.{NotAlternative, NotBits, NotCharacters, NotElements, NotFields};
     ghost use Rattle.rasn_dynamic.specs.Values.{NotItem, NotNull, NotOctets, NotTruth, NotWhole, slot_of, value_of};
 
@@ -110,6 +119,25 @@ impl Value {
         }
     }
 
+    /// The value of an OBJECT IDENTIFIER by its arcs. Arcs of no object are refused.
+    pub fn from_arcs(alloc: Global, arcs: &[u32]) -> Result<Value, BerError>
+        ensures { IfOk result (λ v. value_of v ≡ identifier_value arcs.now) }
+    {
+        let mut contents = Vec::new(alloc);
+        object_identifier_as_bytes(arcs, &mut contents)?;
+        Ok(Value::Octets(Any::new(contents)))
+    }
+
+    /// The arcs of an OBJECT IDENTIFIER, of which there are none where the value isn't one.
+    pub fn to_arcs(&self, alloc: Global) -> Result<Vec<u32>, BerError>
+        ensures { IfOk result (λ arcs. value_of self.now ≡ identifier_value arcs.items) }
+    {
+        match self {
+            Value::Octets(octets) => object_identifier_from_bytes(alloc, octets.as_bytes()),
+            _ => Err(BerError::InvalidObjectIdentifier),
+        }
+    }
+
     /// The value of a BIT STRING.
     pub fn as_bits(&self) -> Option<&BitString>
         ensures { MatchOption result (NotBits (value_of self.now)) (λ bs. value_of self.now ≡ bits bs.now) }
@@ -144,15 +172,16 @@ impl Value {
         }
     }
 
-    /// The root components of a SEQUENCE, each absent or there.
-    pub fn as_fields(&self) -> Option<&[Value]>
+    /// The root components of a SEQUENCE and its additions, each absent or there.
+    pub fn as_fields(&self) -> Option<(&[Value], &[Value])>
         ensures { MatchOption result (NotFields (value_of self.now))
-            (λ vs. value_of self.now ≡ record_value (map slot_of vs.now) []) }
+            (λ r. value_of self.now ≡ record_value (map slot_of r.0.now) (map slot_of r.1.now)) }
     {
         match self {
-            Value::Fields(values) => {
-                let fields: &[Value] = values;
-                Some(fields)
+            Value::Fields(root, additions) => {
+                let fields: &[Value] = root;
+                let added: &[Value] = additions;
+                Some((fields, added))
             }
             _ => None,
         }
@@ -182,9 +211,39 @@ impl Value {
 
     /// The root component of a SEQUENCE at an index, absent or there.
     pub fn field(&self, index: usize) -> Option<&Value>
-        ensures { IfSome result (λ v. (vs : List (Option Values.Value)) × (value_of self.now ≡ record_value vs [])
+        ensures { IfSome result (λ v. (vs ws : List (Option Values.Value)) × (value_of self.now ≡ record_value vs ws)
             × (slice_get vs index ≡ Some (slot_of v.now))) }
     {
-        self.as_fields()?.get(index)
+        self.as_fields()?.0.get(index)
+    }
+
+    /// The addition of a SEQUENCE at an index, absent or there.
+    pub fn addition(&self, index: usize) -> Option<&Value>
+        ensures { IfSome result (λ v. (vs ws : List (Option Values.Value)) × (value_of self.now ≡ record_value vs ws)
+            × (slice_get ws index ≡ Some (slot_of v.now))) }
+    {
+        self.as_fields()?.1.get(index)
+    }
+}
+
+/// Of values that stand for components, in their order, the one for the first component with a name.
+pub fn value_named<'values>(
+    components: &[Component],
+    values: &'values [Value],
+    name: &str,
+) -> Option<&'values Value>
+    ensures { option_map (λ v. slot_of v.now) result ≡ slot_named components.now (map slot_of values.now) name.now }
+{
+    match components {
+        [] => None,
+        [component, others @ ..] => match values {
+            [] => None,
+            [value, behind @ ..] => {
+                if component.name.as_str() == name {
+                    return Some(value);
+                }
+                value_named(others, behind, name)
+            }
+        },
     }
 }

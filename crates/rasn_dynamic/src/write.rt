@@ -1,24 +1,29 @@
 //! How values are written by a table of types.
 
-ghost use Rattle.std.specs.Prelude.{◌≡◌, suc, true, false, [], map, slice_get, Some};
-ghost use Rattle.rasn_types.specs.Values.{alternative};
+ghost use Rattle.std.specs.Prelude.{◌≡◌, ℕ, suc, true, false, is_some, map, slice_get, Some};
+ghost use Rattle.rasn_types.specs.Values.{alternative, bag_of};
+ghost use Rattle.rasn_schema.specs.Bags.{set_at};
 ghost use Rattle.rasn_schema.specs.Choices.{one_level_in};
 ghost use Rattle.rasn_schema.specs.Forms.{is_size_marked, size_of};
 ghost use Rattle.rasn_schema.specs.Lists.{deepest, list_at, list_value};
-ghost use Rattle.rasn_schema.specs.Records.{no_additions, record_at, record_value};
-ghost use Rattle.rasn_schema.specs.Schemas.{listed, optional};
+ghost use Rattle.rasn_schema.specs.Schemas.{optional, Schema};
+ghost use Rattle.rasn_traits.specs.Additions.{WritesAdditions, WrittenAddition};
 ghost use Rattle.rasn_traits.specs.Calls.{Encodes};
-ghost use Rattle.rasn_traits.specs.Counted.{index_in, side_of};
-ghost use Rattle.rasn_traits.specs.Scopes.{WritesParts};
-ghost use Rattle.rasn_dynamic.specs.Types.{choice_of, parts_at, presence_of, schema_at};
+ghost use Rattle.rasn_traits.specs.Counted.{index_in, IsGroupOf, side_of};
+ghost use Rattle.rasn_traits.specs.Scopes.{WritesParts, WrittenPart};
+ghost use Rattle.rasn_dynamic.specs.declared.types.Presence.TheVariants.{Group};
+ghost use Rattle.rasn_dynamic.specs.Types.{choice_of, contained_at, grouped, in_root, of_size, parts_at, plain_at};
+ghost use Rattle.rasn_dynamic.specs.Types.{presence_of, record_schema, required_in, schema_at};
 ghost use Rattle.rasn_dynamic.specs.Values.{levels_of, slot_of, value_of};
-ghost use Rattle.rasn_dynamic.specs.Writes.{fit, may_stand, OpensChosen, WritesOne};
+ghost use Rattle.rasn_dynamic.specs.Writes.{fit, may_stand, GivesOpen, GivesSettled, OpensChosen, WritesOne};
 
-use crate::types::{Choice, Component, Kind, Presence, kind_at, presence_bit_count};
+use crate::types::{
+    Choice, Component, Kind, Presence, Record, SizeBounds, kind_at, presence_bit_count, required_in,
+};
 use crate::values::Value;
 use crate::write_simple::encode_simple;
+use rasn_constraints::constraints::{Constraint, Constraints};
 use rasn_schema::items::Place;
-use rasn_schema::schema::Constraints;
 use rasn_traits::counted::CountedEncoder;
 use rasn_types::types::{Identifier, Tag};
 
@@ -53,10 +58,62 @@ fn encode_kind<E: CountedEncoder>(
         encoder.old result encoder.new }
 {
     match kind {
+        Kind::Containing(of) => encode_containing(encoder, kinds, *of, value),
+        _ => encode_plain(encoder, kinds, kind, value),
+    }
+}
+
+/// Writes octets that contain a value: that value, by itself.
+#[cycle(writing)]
+fn encode_containing<E: CountedEncoder>(
+    encoder: &mut E,
+    kinds: &[Kind],
+    of: usize,
+    value: &Value,
+) -> Result<(), E::Error>
+    ensures { Encodes E.rules (λ n. Schema.containing (contained_at kinds.now of n)) (levels_of value.now)
+        (value_of value.now) encoder.old result encoder.new }
+{
+    let outside = encoder.open_contents(Tag::OCTET_STRING, Identifier::EMPTY)?;
+    encode_contained(encoder, kinds, of, value)?;
+    encoder.close_contents(outside)
+}
+
+/// Writes the value that stands within octets which contain it.
+#[cycle(writing)]
+fn encode_contained<E: CountedEncoder>(
+    encoder: &mut E,
+    kinds: &[Kind],
+    place: usize,
+    value: &Value,
+) -> Result<(), E::Error>
+    ensures { Encodes E.rules (contained_at kinds.now place) (levels_of value.now) (value_of value.now)
+        encoder.old result encoder.new }
+{
+    match kind_at(kinds, place) {
+        None => encoder.refuse_other(),
+        Some(kind) => encode_plain(encoder, kinds, kind, value),
+    }
+}
+
+/// Writes a value of a type that isn't octets which contain one.
+#[cycle(writing)]
+fn encode_plain<E: CountedEncoder>(
+    encoder: &mut E,
+    kinds: &[Kind],
+    kind: &Kind,
+    value: &Value,
+) -> Result<(), E::Error>
+    ensures { Encodes E.rules (plain_at kinds.now kind.now) (levels_of value.now) (value_of value.now)
+        encoder.old result encoder.new }
+{
+    match kind {
         Kind::Simple(simple) => encode_simple(encoder, simple, value),
-        Kind::List(of, constraints) => encode_list(encoder, kinds, *of, constraints, value),
-        Kind::Record(components) => encode_record(encoder, kinds, components, value),
+        Kind::List(of, size) => encode_list(encoder, kinds, *of, size, value),
+        Kind::SetOf(of, size) => encode_set_of(encoder, kinds, *of, size, value),
+        Kind::Record(record) => encode_record(encoder, kinds, record, value),
         Kind::Choice(choice) => encode_choice(encoder, kinds, choice, value),
+        Kind::Containing(_) => encoder.refuse_other(),
     }
 }
 
@@ -66,15 +123,15 @@ fn encode_list<E: CountedEncoder>(
     encoder: &mut E,
     kinds: &[Kind],
     of: usize,
-    constraints: &Constraints,
+    size: &SizeBounds,
     value: &Value,
 ) -> Result<(), E::Error>
-    ensures { let size = size_of constraints.now in
-        Encodes E.rules (list_at (schema_at kinds.now of) size (is_size_marked constraints.now))
+    ensures { let constraints = of_size size.now in
+        Encodes E.rules (list_at (schema_at kinds.now of) (size_of constraints) (is_size_marked constraints))
         (levels_of value.now) (value_of value.now) encoder.old result encoder.new }
 {
     match value {
-        Value::Elements(values) => encode_elements(encoder, kinds, of, constraints, values),
+        Value::Elements(values) => encode_elements(encoder, kinds, of, size, values),
         _ => encoder.refuse_other(),
     }
 }
@@ -85,14 +142,16 @@ fn encode_elements<E: CountedEncoder>(
     encoder: &mut E,
     kinds: &[Kind],
     of: usize,
-    constraints: &Constraints,
+    size: &SizeBounds,
     values: &[Value],
 ) -> Result<(), E::Error>
-    ensures { let size = size_of constraints.now in
-        Encodes E.rules (list_at (schema_at kinds.now of) size (is_size_marked constraints.now))
+    ensures { let constraints = of_size size.now in
+        Encodes E.rules (list_at (schema_at kinds.now of) (size_of constraints) (is_size_marked constraints))
         (suc (deepest levels_of values.now)) (list_value (map value_of values.now)) encoder.old result encoder.new }
 {
-    let mut list = encoder.open_list(Tag::SEQUENCE, constraints, values.len(), Identifier::EMPTY)?;
+    let stated = [Constraint::Size(*size)];
+    let constraints = Constraints::new(&stated);
+    let mut list = encoder.open_list(Tag::SEQUENCE, &constraints, values.len(), Identifier::EMPTY)?;
     for value in values {
         encoder.next_element(&mut list)?;
         encode_value(encoder, kinds, of, value)?;
@@ -100,40 +159,79 @@ fn encode_elements<E: CountedEncoder>(
     encoder.close_list(list)
 }
 
-/// Writes a SEQUENCE.
+/// Writes a SET OF.
 #[cycle(writing)]
-fn encode_record<E: CountedEncoder>(
+fn encode_set_of<E: CountedEncoder>(
     encoder: &mut E,
     kinds: &[Kind],
-    components: &[Component],
+    of: usize,
+    size: &SizeBounds,
     value: &Value,
 ) -> Result<(), E::Error>
-    ensures { Encodes E.rules (record_at listed (parts_at kinds.now components.now) false no_additions)
+    ensures { let constraints = of_size size.now in
+        Encodes E.rules (set_at (schema_at kinds.now of) (size_of constraints) (is_size_marked constraints))
         (levels_of value.now) (value_of value.now) encoder.old result encoder.new }
 {
     match value {
-        Value::Fields(values) => encode_fields(encoder, kinds, components, values),
+        Value::Bag(values) => encode_members(encoder, kinds, of, size, values),
         _ => encoder.refuse_other(),
     }
 }
 
-/// Writes a SEQUENCE by its components.
+/// Writes the members of a SET OF.
 #[cycle(writing)]
-fn encode_fields<E: CountedEncoder>(
+fn encode_members<E: CountedEncoder>(
     encoder: &mut E,
     kinds: &[Kind],
-    components: &[Component],
+    of: usize,
+    size: &SizeBounds,
     values: &[Value],
 ) -> Result<(), E::Error>
-    ensures { Encodes E.rules (record_at listed (parts_at kinds.now components.now) false no_additions)
-        (suc (deepest levels_of values.now)) (record_value (map slot_of values.now) []) encoder.old result encoder.new }
+    ensures { let constraints = of_size size.now in
+        Encodes E.rules (set_at (schema_at kinds.now of) (size_of constraints) (is_size_marked constraints))
+        (suc (deepest levels_of values.now)) (bag_of (map value_of values.now)) encoder.old result encoder.new }
 {
-    if !fit(components, values) {
+    let stated = [Constraint::Size(*size)];
+    let constraints = Constraints::new(&stated);
+    let mut bag = encoder.open_set_of(Tag::SET, &constraints, values.len(), Identifier::EMPTY)?;
+    for value in values {
+        encoder.next_member(&mut bag)?;
+        encode_value(encoder, kinds, of, value)?;
+    }
+    encoder.close_set_of(bag)
+}
+
+/// Writes a SEQUENCE by its root components and its additions.
+#[cycle(writing)]
+fn encode_record<E: CountedEncoder>(
+    encoder: &mut E,
+    kinds: &[Kind],
+    record: &Record,
+    value: &Value,
+) -> Result<(), E::Error>
+    ensures { Encodes E.rules (record_schema kinds.now record.now) (levels_of value.now) (value_of value.now)
+        encoder.old result encoder.new }
+{
+    let Value::Fields(root, added) = value else {
+        return encoder.refuse_other();
+    };
+    let root_values: &[Value] = root;
+    let added_values: &[Value] = added;
+    let components = record.root();
+    let additions = record.behind();
+    let root_fits = fit(components, root_values);
+    if !root_fits {
+        return encoder.refuse_other();
+    }
+    let added_fits = fit(additions, added_values);
+    if !added_fits {
         return encoder.refuse_other();
     }
     let bits = presence_bit_count(components);
-    let outside = encoder.open_record(Tag::SEQUENCE, bits, None, Identifier::EMPTY)?;
-    encode_components(encoder, kinds, components, values)?;
+    let count = record.added_count();
+    let outside = encoder.open_record(Tag::SEQUENCE, bits, count, Identifier::EMPTY)?;
+    encode_components(encoder, kinds, components, root_values)?;
+    encode_additions(encoder, kinds, additions, added_values)?;
     encoder.close_record(outside)
 }
 
@@ -146,7 +244,7 @@ fn encode_components<E: CountedEncoder>(
     values: &[Value],
 ) -> Result<(), E::Error>
     requires { fit components.now (map slot_of values.now) ≡ true }
-    ensures { WritesParts E.rules (parts_at kinds.now components.now) (deepest levels_of values.now)
+    ensures { WritesParts E.rules (parts_at in_root kinds.now components.now) (deepest levels_of values.now)
         (map slot_of values.now) encoder.old result encoder.new }
 {
     for (index, value) in values.iter().enumerate() {
@@ -164,13 +262,14 @@ fn encode_component<E: CountedEncoder>(
     value: &Value,
 ) -> Result<(), E::Error>
     ensures { may_stand component.now.presence (slot_of value.now) ≡ true →
-        WritesOne E.rules (presence_of component.now.presence)
+        WritesOne E.rules (WrittenPart E.rules) (presence_of false component.now.presence)
         (schema_at kinds.now component.now.of) (levels_of value.now) (slot_of value.now)
         encoder.old result encoder.new }
 {
     match component.presence {
         Presence::Required => encode_value(encoder, kinds, component.of, value),
         Presence::Optional => encode_optional(encoder, kinds, component.of, value),
+        Presence::Group => encode_optional(encoder, kinds, component.of, value),
     }
 }
 
@@ -182,7 +281,7 @@ fn encode_optional<E: CountedEncoder>(
     place: usize,
     value: &Value,
 ) -> Result<(), E::Error>
-    ensures { WritesOne E.rules optional (schema_at kinds.now place) (levels_of value.now)
+    ensures { WritesOne E.rules (WrittenPart E.rules) optional (schema_at kinds.now place) (levels_of value.now)
         (slot_of value.now) encoder.old result encoder.new }
 {
     let there = value.is_there();
@@ -246,6 +345,100 @@ fn open_chosen<E: CountedEncoder>(
     Ok(Some((alternative.of, outside)))
 }
 
+/// Gives the additions of a SEQUENCE in turn.
+#[cycle(writing)]
+fn encode_additions<E: CountedEncoder>(
+    encoder: &mut E,
+    kinds: &[Kind],
+    components: &[Component],
+    values: &[Value],
+) -> Result<(), E::Error>
+    requires { fit components.now (map slot_of values.now) ≡ true }
+    ensures { WritesAdditions E.rules (parts_at (grouped kinds.now) kinds.now components.now)
+        (deepest levels_of values.now) (map slot_of values.now) encoder.old result encoder.new }
+{
+    for (index, value) in values.iter().enumerate() {
+        encode_addition(encoder, kinds, &components[index], value)?;
+    }
+    Ok(())
+}
+
+/// Gives an addition: its value in an open type, or as absent.
+#[cycle(writing)]
+fn encode_addition<E: CountedEncoder>(
+    encoder: &mut E,
+    kinds: &[Kind],
+    component: &Component,
+    value: &Value,
+) -> Result<(), E::Error>
+    ensures { may_stand component.now.presence (slot_of value.now) ≡ true →
+        WritesOne E.rules (WrittenAddition E.rules)
+        (presence_of (grouped kinds.now component.now) component.now.presence)
+        (schema_at kinds.now component.now.of) (levels_of value.now) (slot_of value.now)
+        encoder.old result encoder.new }
+{
+    if !value.is_there() {
+        return encoder.skip_addition();
+    }
+    match component.presence {
+        Presence::Group => encode_group(encoder, kinds, component.of, value),
+        _ => encode_open(encoder, kinds, component.of, value),
+    }
+}
+
+/// Gives an addition as an addition group, where its type is a SEQUENCE.
+#[cycle(writing)]
+fn encode_group<E: CountedEncoder>(
+    encoder: &mut E,
+    kinds: &[Kind],
+    place: usize,
+    value: &Value,
+) -> Result<(), E::Error>
+    ensures { is_some (slot_of value.now) ≡ true →
+        WritesOne E.rules (WrittenAddition E.rules)
+        (presence_of (is_some (required_in (slice_get kinds.now place))) Group)
+        (schema_at kinds.now place) (levels_of value.now) (slot_of value.now) encoder.old result encoder.new }
+{
+    match required_in(kinds, place) {
+        Some(has_required) => encode_group_of(encoder, kinds, place, has_required, value),
+        None => encode_open(encoder, kinds, place, value),
+    }
+}
+
+/// Gives an addition group, of which a root component has to be there or none has to be.
+#[cycle(writing)]
+fn encode_group_of<E: CountedEncoder>(
+    encoder: &mut E,
+    kinds: &[Kind],
+    place: usize,
+    has_required: bool,
+    value: &Value,
+) -> Result<(), E::Error>
+    ensures { ((n : ℕ) → IsGroupOf has_required (schema_at kinds.now place n)) →
+        GivesSettled E.rules (schema_at kinds.now place) (levels_of value.now) (value_of value.now)
+        encoder.old result encoder.new }
+{
+    let outside = encoder.open_addition()?;
+    encode_value(encoder, kinds, place, value)?;
+    encoder.close_group_of(outside, has_required)
+}
+
+/// Gives an addition as its value in an open type.
+#[cycle(writing)]
+fn encode_open<E: CountedEncoder>(
+    encoder: &mut E,
+    kinds: &[Kind],
+    place: usize,
+    value: &Value,
+) -> Result<(), E::Error>
+    ensures { GivesOpen E.rules (schema_at kinds.now place) (levels_of value.now) (value_of value.now)
+        encoder.old result encoder.new }
+{
+    let outside = encoder.open_addition()?;
+    encode_value(encoder, kinds, place, value)?;
+    encoder.close_addition(outside)
+}
+
 /// Whether values are as many as components, and there where they have to be.
 fn fit(components: &[Component], values: &[Value]) -> bool
     ensures { result ≡ fit components.now (map slot_of values.now) }
@@ -266,5 +459,6 @@ fn may_stand(presence: &Presence, value: &Value) -> bool
     match presence {
         Presence::Required => value.is_there(),
         Presence::Optional => true,
+        Presence::Group => true,
     }
 }

@@ -49,7 +49,7 @@ pub trait DecodeAs<T> {
 }
 
 /// A type of Rust, under these constraints.
-impl<T: Encode> EncodeAs<T> for Constraints {
+impl<T: Encode> EncodeAs<T> for Constraints<'_> {
     ghost schema = { λ constraints. T.schema constraints };
 
     ghost levels_of = { T.levels };
@@ -66,7 +66,7 @@ impl<T: Encode> EncodeAs<T> for Constraints {
 }
 
 /// A type of Rust, under these constraints.
-impl<T: Decode> DecodeAs<T> for Constraints {
+impl<T: Decode> DecodeAs<T> for Constraints<'_> {
     ghost schema = { λ constraints. T.schema constraints };
 
     ghost value_of = { T.value };

@@ -21,7 +21,7 @@ pub fn write<T: Alternatives, H: Encode, E: Encoder>(
     of: &T,
     place: usize,
     tag: Tag,
-    constraints: &'static [Constraint],
+    constraints: &'static [Constraint<'static>],
     value: &H,
     encoder: &mut E,
 ) -> Result<Tag, E::Error>
@@ -47,7 +47,7 @@ pub fn write_behind<T: Alternatives, H: Encode, E: Encoder>(
     of: &T,
     place: usize,
     tag: Tag,
-    constraints: &'static [Constraint],
+    constraints: &'static [Constraint<'static>],
     value: &H,
     encoder: &mut E,
 ) -> Result<Tag, E::Error>
@@ -72,7 +72,7 @@ pub fn write_behind<T: Alternatives, H: Encode, E: Encoder>(
 pub fn read<H: Decode, D: Decoder>(
     decoder: &mut D,
     tag: Tag,
-    constraints: &'static [Constraint],
+    constraints: &'static [Constraint<'static>],
 ) -> Result<H, D::Error>
     ensures { Reads D.rules (H.schema (own_or H.CONSTRAINTS (given constraints.now)) (D.rules.levels decoder.old))
         H.value decoder.old result decoder.new }

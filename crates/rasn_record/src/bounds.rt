@@ -6,9 +6,9 @@ use rasn_schema::constraints::Constraint;
 #[derive(Clone, Copy)]
 pub struct BoundLists {
     /// Those of each root component.
-    pub root: &'static [&'static [Constraint]],
+    pub root: &'static [&'static [Constraint<'static>]],
     /// Those of each addition.
-    pub added: &'static [&'static [Constraint]],
+    pub added: &'static [&'static [Constraint<'static>]],
 }
 
 /// The constraints of a record's components, behind one reference: a body that names a constant of them has one value

@@ -21,13 +21,16 @@ use rasn_schema::items::Place;
 use rasn_types::types::Tag;
 
 /// The constraints at a place of a list: none where it has none there.
-fn limits_at(list: &[&'static [Constraint]], place: usize) -> &'static [Constraint]
+fn limits_at(
+    list: &[&'static [Constraint<'static>]],
+    place: usize,
+) -> &'static [Constraint<'static>]
     ensures { given result.now ≡ given_at list.now place }
 {
-    match list.get(place) {
-        Some(limits) => *limits,
-        None => &[],
-    }
+    let Some(limits) = list.get(place) else {
+        return &[];
+    };
+    *limits
 }
 
 /// Writes the alternative at a place before the extension marker, which goes by a tag, and answers that. Its

@@ -44,7 +44,7 @@ pub trait EncodeCells {
     fn encode_cells<E: Encoder>(
         &self,
         fields: &[Field],
-        constraints: &[&'static [Constraint]],
+        constraints: &[&'static [Constraint<'static>]],
         encoder: &mut E,
     ) -> Result<(), E::Error>
         ensures { WritesParts E.rules (Self.parts self.now (map shape_of fields.now) constraints.now)
@@ -93,7 +93,7 @@ pub trait DecodeCells {
     fn decode_cells<D: Decoder>(
         &self,
         fields: &[Field],
-        constraints: &[&'static [Constraint]],
+        constraints: &[&'static [Constraint<'static>]],
         decoder: &mut D,
     ) -> Result<Self::Values, D::Error>
         ensures { TakesParts D.rules (Self.parts self.now (map shape_of fields.now) constraints.now) Self.contents
@@ -126,7 +126,7 @@ pub struct Listed<P> {
     /// The fields of the components, in their order.
     pub fields: &'static [Field],
     /// The constraints of the components, in their order.
-    pub constraints: &'static [&'static [Constraint]],
+    pub constraints: &'static [&'static [Constraint<'static>]],
     /// The components.
     pub cells: P,
 }
@@ -138,7 +138,7 @@ pub struct OfRecord<T, P> {
     /// The record.
     pub of: PhantomData<T>,
     /// The constraints of the components, in their order.
-    pub constraints: &'static [&'static [Constraint]],
+    pub constraints: &'static [&'static [Constraint<'static>]],
     /// The components.
     pub cells: P,
 }
@@ -149,14 +149,14 @@ pub trait GivesBounds {
     ghost list: { Self → List (Bor (List Constraint)) };
 
     /// The constraints.
-    fn list(&self) -> &'static [&'static [Constraint]]
+    fn list(&self) -> &'static [&'static [Constraint<'static>]]
         ensures { result.now ≡ list self.now };
 }
 
 impl GivesBounds for Bounds {
     ghost list = { λ b. b.lists.now.root.now };
 
-    fn list(&self) -> &'static [&'static [Constraint]] {
+    fn list(&self) -> &'static [&'static [Constraint<'static>]] {
         self.lists.root
     }
 }
@@ -172,8 +172,11 @@ pub fn first_tag(fields: &[Field], own: Tag) -> Tag
 }
 
 /// Constraints that are given, or else a type's own.
-pub(crate) fn given(constraints: &'static [Constraint], own: Constraints) -> Constraints
-    ensures { result ≡ own_or own (given constraints.now) }
+pub(crate) fn given(
+    constraints: &'static [Constraint<'static>],
+    own: Constraints<'static>,
+) -> Constraints<'static>
+    ensures { result ≡ own_or own.entry (given constraints.now) }
 {
     match constraints {
         [] => own,
@@ -182,8 +185,11 @@ pub(crate) fn given(constraints: &'static [Constraint], own: Constraints) -> Con
 }
 
 /// The constraints that the first component is given, or else a type's own.
-pub fn given_or_own(constraints: &[&'static [Constraint]], own: Constraints) -> Constraints
-    ensures { result ≡ own_or own (first_given constraints.now) }
+pub fn given_or_own(
+    constraints: &[&'static [Constraint<'static>]],
+    own: Constraints<'static>,
+) -> Constraints<'static>
+    ensures { result ≡ own_or own.entry (first_given constraints.now) }
 {
     match constraints {
         [] => own,
@@ -206,7 +212,7 @@ pub fn behind<T>(list: &[T]) -> &[T]
 pub(crate) fn write_first<C: EncodeComponent, E: Encoder>(
     component: &C,
     fields: &[Field],
-    constraints: &[&'static [Constraint]],
+    constraints: &[&'static [Constraint<'static>]],
     encoder: &mut E,
 ) -> Result<(), E::Error>
     ensures { WritesComponent E.rules (C.presence component.now)
@@ -223,7 +229,7 @@ pub(crate) fn write_first<C: EncodeComponent, E: Encoder>(
 pub(crate) fn read_first<C: DecodeComponent, D: Decoder>(
     component: &C,
     fields: &[Field],
-    constraints: &[&'static [Constraint]],
+    constraints: &[&'static [Constraint<'static>]],
     decoder: &mut D,
 ) -> Result<C::Value, D::Error>
     ensures { ReadsComponent D.rules (C.presence component.now)
@@ -265,7 +271,7 @@ impl EncodeCells for End {
     fn encode_cells<E: Encoder>(
         &self,
         _: &[Field],
-        _: &[&'static [Constraint]],
+        _: &[&'static [Constraint<'static>]],
         encoder: &mut E,
     ) -> Result<(), E::Error> {
         let _ = encoder;
@@ -289,7 +295,7 @@ impl<C: EncodeComponent, N: EncodeCells> EncodeCells for Cell<C, N> {
     fn encode_cells<E: Encoder>(
         &self,
         fields: &[Field],
-        constraints: &[&'static [Constraint]],
+        constraints: &[&'static [Constraint<'static>]],
         encoder: &mut E,
     ) -> Result<(), E::Error> {
         write_first(&self.component, fields, constraints, encoder)?;
@@ -313,7 +319,7 @@ impl<'a, N: EncodeCells> EncodeCells for &'a N {
     fn encode_cells<E: Encoder>(
         &self,
         fields: &[Field],
-        constraints: &[&'static [Constraint]],
+        constraints: &[&'static [Constraint<'static>]],
         encoder: &mut E,
     ) -> Result<(), E::Error> {
         let cells: &N = *self;
@@ -371,7 +377,7 @@ impl DecodeCells for End {
     fn decode_cells<D: Decoder>(
         &self,
         _: &[Field],
-        _: &[&'static [Constraint]],
+        _: &[&'static [Constraint<'static>]],
         decoder: &mut D,
     ) -> Result<(), D::Error> {
         let _ = decoder;
@@ -391,7 +397,7 @@ impl<C: DecodeComponent, N: DecodeCells> DecodeCells for Cell<C, N> {
     fn decode_cells<D: Decoder>(
         &self,
         fields: &[Field],
-        constraints: &[&'static [Constraint]],
+        constraints: &[&'static [Constraint<'static>]],
         decoder: &mut D,
     ) -> Result<(C::Value, N::Values), D::Error> {
         let value = read_first(&self.component, fields, constraints, decoder)?;
@@ -413,7 +419,7 @@ impl<'a, N: DecodeCells> DecodeCells for &'a N {
     fn decode_cells<D: Decoder>(
         &self,
         fields: &[Field],
-        constraints: &[&'static [Constraint]],
+        constraints: &[&'static [Constraint<'static>]],
         decoder: &mut D,
     ) -> Result<N::Values, D::Error> {
         let cells: &N = *self;

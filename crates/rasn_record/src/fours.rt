@@ -69,7 +69,7 @@ where
     fn encode_cells<E: Encoder>(
         &self,
         fields: &[Field],
-        constraints: &[&'static [Constraint]],
+        constraints: &[&'static [Constraint<'static>]],
         encoder: &mut E,
     ) -> Result<(), E::Error> {
         write_first(&self.first, fields, constraints, encoder)?;
@@ -122,7 +122,7 @@ where
     fn decode_cells<R: Decoder>(
         &self,
         fields: &[Field],
-        constraints: &[&'static [Constraint]],
+        constraints: &[&'static [Constraint<'static>]],
         decoder: &mut R,
     ) -> Result<(A::Value, B::Value, C::Value, D::Value, N::Values), R::Error> {
         let a = read_first(&self.first, fields, constraints, decoder)?;

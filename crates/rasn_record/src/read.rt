@@ -15,13 +15,13 @@ use rasn_codec::codec::Decoder;
 use rasn_schema::components::Components;
 use rasn_schema::constraints::Constraint;
 use rasn_schema::schema::AsnType;
-use rasn_traits::parts::{DecodeAdditions, DecodeParts, NoAdditions};
+use rasn_traits::parts::{DecodeAdditions, DecodeParts};
 
 /// A required component of a record, as a list states it at its place.
 pub fn component<T: Components, H: AsnType>(
     place: usize,
     tag: u32,
-    constraints: &[&'static [Constraint]],
+    constraints: &[&'static [Constraint<'static>]],
 )
     requires tag { tags_at T.components.0.before place ≡ Some (at tag) }
     requires presence { presence_at T.components.0.before place ≡ Some required }
@@ -63,7 +63,7 @@ pub fn cells_and_additions<P: DecodeParts, Q: DecodeAdditions, D: Decoder>(
 #[inline(always)]
 pub fn all<T: Components, P: DecodeCells, Q: DecodeAdditions, D: Decoder>(
     cells: &P,
-    constraints: &'static [&'static [Constraint]],
+    constraints: &'static [&'static [Constraint<'static>]],
     additions: &Q,
     decoder: &mut D,
 ) -> Result<(P::Values, Q::Values), D::Error>

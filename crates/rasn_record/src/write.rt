@@ -20,7 +20,7 @@ pub fn component<T: Components, H: AsnType>(
     of: &T,
     place: usize,
     tag: u32,
-    constraints: &[&'static [Constraint]],
+    constraints: &[&'static [Constraint<'static>]],
     value: &H,
 )
     requires tag { tags_at T.components.0.before place ≡ Some (at tag) }

@@ -318,7 +318,7 @@ pub struct Tagged<C> {
     /// The tag.
     pub tag: Tag,
     /// The constraints.
-    pub constraints: &'static [Constraint],
+    pub constraints: &'static [Constraint<'static>],
     /// The component.
     pub component: C,
 }

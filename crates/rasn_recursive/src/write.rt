@@ -66,7 +66,7 @@ pub trait EncodeHoldingCells<H> {
         &self,
         held: &H,
         fields: &[Field],
-        constraints: &[&'static [Constraint]],
+        constraints: &[&'static [Constraint<'static>]],
         encoder: &mut E,
     ) -> Result<(), E::Error>
         ensures { WritesParts E.rules (Self.parts self.now (map shape_of fields.now) constraints.now)
@@ -91,7 +91,7 @@ impl<'a, H, P: EncodeHoldingCells<H>> EncodeCells for Beside<'a, P, H> {
     fn encode_cells<E: Encoder>(
         &self,
         fields: &[Field],
-        constraints: &[&'static [Constraint]],
+        constraints: &[&'static [Constraint<'static>]],
         encoder: &mut E,
     ) -> Result<(), E::Error> {
         self.cells
@@ -114,7 +114,7 @@ impl<H> EncodeHoldingCells<H> for End {
         &self,
         _: &H,
         fields: &[Field],
-        constraints: &[&'static [Constraint]],
+        constraints: &[&'static [Constraint<'static>]],
         encoder: &mut E,
     ) -> Result<(), E::Error> {
         self.encode_cells(fields, constraints, encoder)
@@ -134,7 +134,7 @@ impl<H, C: EncodeComponent + Copy, N: EncodeHoldingCells<H>> EncodeHoldingCells<
         &self,
         held: &H,
         fields: &[Field],
-        constraints: &[&'static [Constraint]],
+        constraints: &[&'static [Constraint<'static>]],
         encoder: &mut E,
     ) -> Result<(), E::Error> {
         let cell = Cell {
@@ -160,7 +160,7 @@ impl<H: Encode, N: EncodeHoldingCells<H>> EncodeHoldingCells<H> for Cell<Held, N
         &self,
         held: &H,
         fields: &[Field],
-        constraints: &[&'static [Constraint]],
+        constraints: &[&'static [Constraint<'static>]],
         encoder: &mut E,
     ) -> Result<(), E::Error> {
         let cell = Cell {

@@ -17,7 +17,7 @@ impl<T: AsnType> AsnType for Box<T> {
 
     ghost IS_CHOICE = { T.IS_CHOICE };
 
-    const CONSTRAINTS: Constraints = T::CONSTRAINTS;
+    const CONSTRAINTS: Constraints<'static> = T::CONSTRAINTS;
 
     ghost CONSTRAINTS = { T.CONSTRAINTS };
 

@@ -12,7 +12,7 @@ pub trait Limits {
     ghost use Rattle.rasn_constraints.specs.declared.constraints.Constraints.{Constraints};
 
     /// The constraints.
-    const LIMITS: Constraints;
+    const LIMITS: Constraints<'static>;
 
     ghost LIMITS: { Constraints };
 }
@@ -52,7 +52,7 @@ impl<T: AsnType, L: Limits> AsnType for Constrained<T, L> {
 
     ghost IS_CHOICE = { T.IS_CHOICE };
 
-    const CONSTRAINTS: Constraints = L::LIMITS;
+    const CONSTRAINTS: Constraints<'static> = L::LIMITS;
 
     ghost CONSTRAINTS = { L.LIMITS };
 

@@ -34,7 +34,7 @@ impl AsnType for i8 {
 
     const IS_CHOICE: bool = false;
 
-    const CONSTRAINTS: Constraints = Constraints(I8_RANGE);
+    const CONSTRAINTS: Constraints<'static> = Constraints(I8_RANGE);
 
     ghost CONSTRAINTS = { within (signed_range 8) };
 
@@ -68,7 +68,7 @@ impl AsnType for i16 {
 
     const IS_CHOICE: bool = false;
 
-    const CONSTRAINTS: Constraints = Constraints(I16_RANGE);
+    const CONSTRAINTS: Constraints<'static> = Constraints(I16_RANGE);
 
     ghost CONSTRAINTS = { within (signed_range 16) };
 
@@ -102,7 +102,7 @@ impl AsnType for i32 {
 
     const IS_CHOICE: bool = false;
 
-    const CONSTRAINTS: Constraints = Constraints(I32_RANGE);
+    const CONSTRAINTS: Constraints<'static> = Constraints(I32_RANGE);
 
     ghost CONSTRAINTS = { within (signed_range 32) };
 
@@ -136,7 +136,7 @@ impl AsnType for i64 {
 
     const IS_CHOICE: bool = false;
 
-    const CONSTRAINTS: Constraints = Constraints(I64_RANGE);
+    const CONSTRAINTS: Constraints<'static> = Constraints(I64_RANGE);
 
     ghost CONSTRAINTS = { within (signed_range 64) };
 
@@ -162,7 +162,7 @@ impl AsnType for i128 {
 
     const IS_CHOICE: bool = false;
 
-    const CONSTRAINTS: Constraints = Constraints::NONE;
+    const CONSTRAINTS: Constraints<'static> = Constraints::NONE;
 
     ghost CONSTRAINTS = { no_constraints };
 
@@ -196,7 +196,7 @@ impl AsnType for u8 {
 
     const IS_CHOICE: bool = false;
 
-    const CONSTRAINTS: Constraints = Constraints(U8_RANGE);
+    const CONSTRAINTS: Constraints<'static> = Constraints(U8_RANGE);
 
     ghost CONSTRAINTS = { within (unsigned_range 8) };
 
@@ -230,7 +230,7 @@ impl AsnType for u16 {
 
     const IS_CHOICE: bool = false;
 
-    const CONSTRAINTS: Constraints = Constraints(U16_RANGE);
+    const CONSTRAINTS: Constraints<'static> = Constraints(U16_RANGE);
 
     ghost CONSTRAINTS = { within (unsigned_range 16) };
 
@@ -264,7 +264,7 @@ impl AsnType for u32 {
 
     const IS_CHOICE: bool = false;
 
-    const CONSTRAINTS: Constraints = Constraints(U32_RANGE);
+    const CONSTRAINTS: Constraints<'static> = Constraints(U32_RANGE);
 
     ghost CONSTRAINTS = { within (unsigned_range 32) };
 
@@ -298,7 +298,7 @@ impl AsnType for u64 {
 
     const IS_CHOICE: bool = false;
 
-    const CONSTRAINTS: Constraints = Constraints(U64_RANGE);
+    const CONSTRAINTS: Constraints<'static> = Constraints(U64_RANGE);
 
     ghost CONSTRAINTS = { within (unsigned_range 64) };
 
@@ -324,7 +324,7 @@ impl AsnType for Integer {
 
     const IS_CHOICE: bool = false;
 
-    const CONSTRAINTS: Constraints = Constraints::NONE;
+    const CONSTRAINTS: Constraints<'static> = Constraints::NONE;
 
     ghost CONSTRAINTS = { no_constraints };
 

@@ -73,7 +73,7 @@ where
 
     ghost IS_CHOICE = { T.Kind.IS_CHOICE };
 
-    const CONSTRAINTS: Constraints = Constraints::NONE;
+    const CONSTRAINTS: Constraints<'static> = Constraints::NONE;
 
     ghost CONSTRAINTS = { no_constraints };
 

@@ -19,7 +19,7 @@ impl<T: AsnType> AsnType for Option<T> {
 
     ghost IS_CHOICE = { T.IS_CHOICE };
 
-    const CONSTRAINTS: Constraints = T::CONSTRAINTS;
+    const CONSTRAINTS: Constraints<'static> = T::CONSTRAINTS;
 
     ghost CONSTRAINTS = { T.CONSTRAINTS };
 

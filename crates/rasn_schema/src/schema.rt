@@ -35,7 +35,7 @@ pub trait AsnType {
     ghost IS_CHOICE: { Bool } = { false };
 
     /// The constraints of the type.
-    const CONSTRAINTS: Constraints;
+    const CONSTRAINTS: Constraints<'static>;
 
     ghost CONSTRAINTS: { Constraints };
 

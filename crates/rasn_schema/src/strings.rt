@@ -27,10 +27,10 @@ use rasn_types::types::{Codec, Tag};
 
 /// The alphabet of a string type under the first permitted alphabet of constraints: those of its characters that are
 /// permitted, with their codes. An extensible one isn't visible (X.691 30.4).
-pub fn alphabet_under<S: StaticPermittedAlphabet>(
-    constraints: &Constraints,
+pub fn alphabet_under<'list, S: StaticPermittedAlphabet>(
+    constraints: &Constraints<'list>,
     codec: Codec,
-) -> CharacterAlphabet
+) -> CharacterAlphabet<'list>
     ensures variant { result.variant ≡ variant_of codec }
     ensures characters { result.characters ≡ alphabet_of S.alphabet constraints.now }
     ensures own { (character : ℕ) → has result.characters character ≡ true → has S.alphabet character ≡ true }
@@ -107,7 +107,7 @@ impl<K: TaggedCharacters> AsnType for CharactersOf<K> {
 
     const IS_CHOICE: bool = false;
 
-    const CONSTRAINTS: Constraints = Constraints::NONE;
+    const CONSTRAINTS: Constraints<'static> = Constraints::NONE;
 
     ghost CONSTRAINTS = { no_constraints };
 
@@ -133,7 +133,7 @@ impl AsnType for Utf8String {
 
     const IS_CHOICE: bool = false;
 
-    const CONSTRAINTS: Constraints = Constraints::NONE;
+    const CONSTRAINTS: Constraints<'static> = Constraints::NONE;
 
     ghost CONSTRAINTS = { no_constraints };
 

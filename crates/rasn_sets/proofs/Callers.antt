@@ -41,7 +41,7 @@ pub set_read_each : {E S I T : Type 0} {rules : DecoderRules E S} {set : StatedS
     {gives : S → ℕ → Tag → Result I E → S → Type 0} {makes : List I → Result T E → Type 0} {s t : S} {r : Result T E}
     → ReadsSetEach rules set contents added gives makes s r t → (place : I → ℕ) (slot : I → Option Value)
     → ((n : ℕ) → ReadsEach rules (set.parts n) (set.additions n) (length set.fields) place slot n gives)
-    → ((n : ℕ) → MakesSet rules set.fields set.behind (set.parts n) contents added place slot makes) → KeepsEach rules gives
+    → ((n : ℕ) → MakesSet rules (rules.codec s) set.fields set.behind (set.parts n) contents added place slot makes) → KeepsEach rules gives
     → Reads rules (record_at by_tag set.parts set.marker set.additions (rules.levels s)) (λ x. record_value (contents x) (added x)) s r t
 set_read_each w place slot each made kept = record {
   law = w.law place slot (λ n l. each n) (λ n l. made n);

@@ -1,6 +1,7 @@
 -- How all items of a SET are read, and the SET that is made of them.
 use Rattle.std.proofs.Common.{◌≡◌, refl, sym, ap, subst, ◌∙◌, ◌⊎◌, inl, inr, ℕ, ◌+◌, List, [], ◌++◌, map, length, Result, Ok, Err, Option}
 use Rattle.rasn_types.specs.Values.{Value}
+use Rattle.rasn_types.specs.declared.types.Codec.{Codec}
 use Rattle.rasn_types.specs.declared.types.Tag.{Tag}
 use Rattle.rasn_schema.specs.Canonised.{canonised, canonised_slots}
 use Rattle.rasn_schema.specs.Fields.{Shape, in_tag_order, shape_of, shapes_from}
@@ -50,10 +51,17 @@ module _ {E S I : Type 0} {rules : DecoderRules E S} (L : DecodesWell rules) {ps
       fails_behind_root L o.slots m o.read (behind_refused L each y.0 qs m e (are_behind y.0 y.1) o.level y.2)
 
   -- the SET that is made of the items
-  pub set_made : {T : Type 0} {contents added : T → List (Option Value)} {makes : List I → Result T E → Type 0} (made : MakesSet rules fields behind ps contents added place slot makes)
+  pub set_made : {T : Type 0} {contents added : T → List (Option Value)} {makes : List I → Result T E → Type 0} (made : MakesSet rules (rules.codec s) fields behind ps contents added place slot makes)
       (zs : List I) (r : Result T E) (t : S) → ItemsAnswered rules fields behind ps qs place slot s (Ok zs) t → makes zs r
       → AnswersFields rules (canonised ps) qs (λ x. canonised_slots ps (contents x)) added s r t
   set_made {contents = contents} {added} {makes} made zs (Ok v) t a h =
       let w = made.makes a.0 a.1 a.2 (Ok v) a.4 a.5 (subst (λ z. makes z (Ok v)) a.3 h) in
       subst (λ z. ReadsFields rules (canonised ps) qs s z (added v) t) (sym w.0) (subst (λ z. ReadsFields rules (canonised ps) qs s a.2 z t) (sym w.1) a.6)
-  set_made {makes = makes} made zs (Err e) t a h = inl (made.makes a.0 a.1 a.2 (Err e) a.4 a.5 (subst (λ z. makes z (Err e)) a.3 h) s)
+  set_made {makes = makes} made zs (Err e) t a h = inl (made.makes a.0 a.1 a.2 (Err e) a.4 a.5 (subst (λ z. makes z (Err e)) a.3 h) s refl)
+
+-- what makes a SET for a decoder makes it for one of the same variant
+pub same_variant : {E S I T : Type 0} {rules : DecoderRules E S} {c d : Codec} {fields behind : List Shape} {ps : Parts} {contents added : T → List (Option Value)}
+    {place : I → ℕ} {slot : I → Option Value} {gives : List I → Result T E → Type 0}
+    → d ≡ c → MakesSet rules c fields behind ps contents added place slot gives → MakesSet rules d fields behind ps contents added place slot gives
+same_variant {rules = rules} {fields = fields} {behind} {ps} {contents} {added} {place} {slot} {gives} e m =
+    subst (λ k. MakesSet rules k fields behind ps contents added place slot gives) (sym e) m

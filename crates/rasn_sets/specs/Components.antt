@@ -5,6 +5,7 @@ use Rattle.std.specs.Prelude.{[], ◌∷◌, ◌++◌, length, map, Option, Some
 use Rattle.std.specs.Fn.{Once, Shared}
 use denote.Ref.{MutBor}
 use Rattle.rasn_types.specs.Values.{Value}
+use Rattle.rasn_types.specs.declared.types.Codec.{Codec}
 use Rattle.rasn_types.specs.declared.types.Tag.{Tag}
 use Rattle.rasn_schema.specs.Canonised.{canonised, canonised_slots}
 use Rattle.rasn_schema.specs.Fields.{Shape, field_tag, in_tag_order, tag_of}
@@ -80,21 +81,23 @@ pub data Gathers {I : Type 0} (place : I → ℕ) (slot : I → Option Value) : 
       {r : Option Value} {rs : List (Option Value)}
       → left_out p ≡ Some r → Gathers place slot fs ps xs rs → Gathers place slot (f ∷ fs) (part k p c ps) xs (r ∷ rs)
 
--- Ok makes what has these components and additions, and Err says that memory ran out, wherever the decoder stands.
-abbrev pub IsMade : {E S T : Type 0} → DecoderRules E S → Parts → (T → List (Option Value)) → (T → List (Option Value))
-    → List (Option Value) → List (Option Value) → Result T E → Type 0
-IsMade rules ps contents added rs xs (Ok v) = (canonised_slots ps (contents v) ≡ rs) × (added v ≡ xs)
-IsMade {S = S} rules ps contents added rs xs (Err e) = (s : S) → rules.memory e s
+-- Ok makes what has these components and additions, and Err says that memory ran out, wherever a decoder of this
+-- variant stands.
+abbrev pub IsMade : {E S T : Type 0} → DecoderRules E S → Codec → Parts → (T → List (Option Value))
+    → (T → List (Option Value)) → List (Option Value) → List (Option Value) → Result T E → Type 0
+IsMade rules codec ps contents added rs xs (Ok v) = (canonised_slots ps (contents v) ≡ rs) × (added v ≡ xs)
+IsMade {S = S} rules codec ps contents added rs xs (Err e) = (s : S) → rules.codec s ≡ codec → rules.memory e s
 
--- What a function owes that makes a SET of items: of those of the root components that are there, in ascending order of
--- their tags, and behind them of those of all additions, in the order of the type.
-pub record MakesSet {E S I T : Type 0} (rules : DecoderRules E S) (fields behind : List Shape) (ps : Parts)
-    (contents added : T → List (Option Value)) (place : I → ℕ) (slot : I → Option Value)
+-- What a function owes that makes a SET of items, which a decoder of a variant answered: of those of the root
+-- components that are there, in ascending order of their tags, and behind them of those of all additions, in the order
+-- of the type.
+pub record MakesSet {E S I T : Type 0} (rules : DecoderRules E S) (codec : Codec) (fields behind : List Shape)
+    (ps : Parts) (contents added : T → List (Option Value)) (place : I → ℕ) (slot : I → Option Value)
     (gives : List I → Result T E → Type 0) : Type 0 where
   pub makes : (xs ys : List I) (rs : List (Option Value)) (r : Result T E)
       → Gathers place slot (in_tag_order fields) (canonised ps) xs rs
       → map place ys ≡ map (λ (f : Shape). length fields + f.index) behind → gives (xs ++ ys) r
-      → IsMade rules ps contents added rs (map slot ys) r
+      → IsMade rules codec ps contents added rs (map slot ys) r
 
 -- Items in the order in which a function gave them, which left the decoder unfailed when it gave the last of them.
 pub data EndsUnfailed {S I E : Type 0} (failed : S → Bool) (gives : S → ℕ → Tag → Result I E → S → Type 0)
@@ -131,7 +134,7 @@ pub record ReadsSetEach {E S I T : Type 0} (rules : DecoderRules E S) (set : Sta
       → ((n : ℕ) → rules.levels s ≡ suc n
       → ReadsEach rules (set.parts n) (set.additions n) (length set.fields) place slot n gives)
       → ((n : ℕ) → rules.levels s ≡ suc n
-      → MakesSet rules set.fields set.behind (set.parts n) contents added place slot makes)
+      → MakesSet rules (rules.codec s) set.fields set.behind (set.parts n) contents added place slot makes)
       → (let c = record_at by_tag set.parts set.marker set.additions (rules.levels s) in
       Answers rules.memory (rules.fault c) (rules.spells c) (λ x. record_value (contents x) (added x)) s result t)
   pub swallowed : IfOk result (MadeUnfailed rules.failed gives makes)

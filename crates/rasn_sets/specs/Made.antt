@@ -74,7 +74,7 @@ pub record TakesSet {E S I T : Type 0} (rules : DecoderRules E S) (fields behind
   pub law : (ps qs : Parts) (place : I → ℕ) (slot : I → Option Value) → fields ≡ shapes_from 0 ps
       → behind ≡ shapes_from 0 qs
       → ReadsEach rules ps qs (length fields) place slot (rules.levels s) gives
-      → MakesSet rules fields behind ps contents added place slot makes
+      → MakesSet rules (rules.codec s) fields behind ps contents added place slot makes
       → AnswersFields rules (canonised ps) qs (λ x. canonised_slots ps (contents x)) added s result t
   pub ended : IfOk result (λ v. rules.failed t ≡ false → MadeUnfailed rules.failed gives makes v)
   pub kept : KeepsEach rules gives → rules.codec t ≡ rules.codec s

@@ -13,8 +13,9 @@ pub trait SetDecoder: Decoder {
     /// Reads a SET (X.691 21) by two functions. `decode` reads the component of an index and a tag: each root component
     /// that is there, in ascending order of their smallest tags, and then each addition, there or not, in the order of
     /// the type; the indices of the additions are counted on from those of the root. `make` makes the SET of what
-    /// `decode` answered, in the order of the calls. Refuses what `decode` refuses, and at no level left; takes memory
-    /// for the order of the tags and for the answers.
+    /// `decode` answered, in the order of the calls; an error of its own says that memory ran out, under the variant in
+    /// use. Refuses what `decode` refuses, and at no level left; takes memory for the order of the tags and for the
+    /// answers.
     final fn decode_set<
         I: Drop,
         C: Constructed + Drop,

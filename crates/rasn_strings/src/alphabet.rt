@@ -14,9 +14,9 @@ use std::marker::Model;
 
 /// The characters of a type that may stand in a string, and the variant in which they are written.
 #[derive(Drop)]
-pub struct CharacterAlphabet {
+pub struct CharacterAlphabet<'list> {
     own: &'static [Interval],
-    permitted: Option<&'static [u32]>,
+    permitted: Option<&'list [u32]>,
     aligned: bool,
     width: u32,
     own_values: bool,
@@ -26,7 +26,7 @@ pub struct CharacterAlphabet {
     ascending: bool,
 }
 
-impl Model for CharacterAlphabet {
+impl<'list> Model for CharacterAlphabet<'list> {
     ghost use Rattle.rasn_types.specs.Alphabets.{Alphabet};
     ghost use Rattle.rasn_strings.specs.Prepared.{IsPrepared, alphabet_of, listed};
 
@@ -38,11 +38,11 @@ impl Model for CharacterAlphabet {
         (alphabet_of a.own.now (listed a.permitted) a.aligned) a.width a.own_values a.run a.ascending };
 }
 
-impl CharacterAlphabet {
+impl<'list> CharacterAlphabet<'list> {
     /// The alphabet of a type, restricted to the characters that are permitted, where these are given (X.691 30.4).
     /// They may stand in any order, and more than once; those that the type doesn't have are dropped. `aligned` says
     /// whether the variant is ALIGNED. It takes no memory.
-    pub fn new<S: StaticPermittedAlphabet>(permitted: Option<&'static [u32]>, aligned: bool) -> Self
+    pub fn new<S: StaticPermittedAlphabet>(permitted: Option<&'list [u32]>, aligned: bool) -> Self
         ensures variant { result.variant ≡ variant_when aligned }
         ensures characters { result.characters ≡ restricted_to S.alphabet (listed permitted.entry) }
         ensures own { (character : ℕ) → has result.characters character ≡ true → has S.alphabet character ≡ true }

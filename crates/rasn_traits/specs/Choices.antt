@@ -114,8 +114,8 @@ EncodesAt rules choice d place schema depth v x result y =
     IfSome place (λ k. ((n : ℕ) → alternative_in (choice n) d k ≡ Some (schema n))
     → Encodes rules (one_level_in choice) (suc depth) (alternative d k v) x result y)
 
--- How a value is refused under a tag by which no alternative of a choice goes: the choice isn't opened, the value itself
--- is refused, or the tag.
+-- How a value is refused under a tag by which no alternative of a choice goes: the choice isn't opened, the value
+-- itself is refused, or the tag.
 pub data RefusesUnknown {E X : Type 0} (rules : EncoderRules E X) (choice schema : ℕ → Schema) (depth : ℕ) (v : Value)
     (x : X) (e : E) : Type 0 where
   unknown_unopened : UnopenedChoice rules choice x e → RefusesUnknown rules choice schema depth v x e

@@ -125,9 +125,9 @@ all_may_be (part t p s ps) (x ∷ xs) = may_be p x && all_may_be ps xs
 abbrev pub has_at : Parts → ℕ → Bool
 has_at ps i = nat_lt i (count ps)
 
--- whether a value is of a schema's kind, its outermost level alone: of a text, an identifier, a time and a date one that
--- it may be, of a character string characters of its alphabet. Where a tree is cut off, a record without parts may be a
--- group that holds nothing (X.691 19.9).
+-- whether a value is of a schema's kind, its outermost level alone: of a text, an identifier, a time and a date one
+-- that it may be, of a character string characters of its alphabet. Where a tree is cut off, a record without parts may
+-- be a group that holds nothing (X.691 19.9).
 abbrev pub is_of_kind : Schema → Value → Bool
 is_of_kind Schemas.boolean (Values.truth b) = true
 is_of_kind Schemas.null Values.nothing = true
@@ -156,6 +156,12 @@ is_of_kind _ v = false
 pub record WritesOther {E X : Type 0} (rules : EncoderRules E X) (x : X) (result : Result (Unit {0}) E)
     (y : X) : Type 0 where
   pub law : IsErrAnd result (λ e. (s : Schema) (v : Value) → is_of_kind s v ≡ false → rules.refuses e x s v)
+  pub behaves : Behaves rules.already rules.failed rules.codec x result y
+
+-- A call of an encoder that refuses whatever is to be written, since its caller's memory ran out.
+pub record WritesNothing {E X : Type 0} (rules : EncoderRules E X) (x : X) (result : Result (Unit {0}) E)
+    (y : X) : Type 0 where
+  pub law : IsErrAnd result (λ e. rules.memory e x ⊎ ((s : Schema) (v : Value) → rules.refuses e x s v))
   pub behaves : Behaves rules.already rules.failed rules.codec x result y
 
 -- A call that opens any record of components and additions that are so counted, to read it.

@@ -7,7 +7,8 @@ ghost use Rattle.rasn_schema.specs.Enumerations.{items_of};
 ghost use Rattle.rasn_schema.specs.Schemas.{Schema};
 ghost use Rattle.rasn_traits.specs.Calls.{freely_read, Reads, Writes};
 ghost use Rattle.rasn_traits.specs.Counted.{ClosesAny, ClosesGroupOf, ClosesPlaced, OpensCounted, OpensPlaced};
-ghost use Rattle.rasn_traits.specs.Counted.{OpensCountedToRead, OpensPlacedToRead, WritesOther, item_at, stands_in};
+ghost use Rattle.rasn_traits.specs.Counted.{OpensCountedToRead, OpensPlacedToRead, WritesNothing, WritesOther};
+ghost use Rattle.rasn_traits.specs.Counted.{item_at, stands_in};
 ghost use Rattle.std.specs.Prelude.{◌≡◌, true};
 
 use crate::decoder::Decoder;
@@ -20,7 +21,8 @@ pub trait CountedEncoder: Encoder {
     /// What waits outside while a choice is open of which the alternative is known.
     type Placed: Drop;
 
-    // A choice is opened to write the alternative at a place: what was before, what waits outside, and how it is inside.
+    // A choice is opened to write the alternative at a place: what was before, what waits outside, and how it is
+    // inside.
     ghost opens_placed: { Schema → Side → ℕ → Self → Self.Placed → Self → Type 0 };
 
     /// Writes the item of an ENUMERATED that stands at a place (X.691 14).
@@ -79,6 +81,10 @@ pub trait CountedEncoder: Encoder {
     /// Refuses a value that isn't of its type's kind. Takes no memory.
     fn refuse_other(&mut self) -> Result<(), Self::Error>
         ensures { WritesOther Self.rules self.old result self.new };
+
+    /// Refuses since memory ran out for what the caller made of a value.
+    fn refuse_out_of_memory(&mut self) -> Result<(), Self::Error>
+        ensures { WritesNothing Self.rules self.old result self.new };
 }
 
 /// A decoder of types that are data.

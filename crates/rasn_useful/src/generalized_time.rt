@@ -101,7 +101,7 @@ impl AsnType for GeneralizedTime {
 
     const IS_CHOICE: bool = false;
 
-    const CONSTRAINTS: Constraints = Constraints::NONE;
+    const CONSTRAINTS: Constraints<'static> = Constraints::NONE;
 
     ghost CONSTRAINTS = { no_constraints };
 

@@ -225,7 +225,7 @@ impl AsnType for ObjectIdentifier {
 
     const IS_CHOICE: bool = false;
 
-    const CONSTRAINTS: Constraints = Constraints::NONE;
+    const CONSTRAINTS: Constraints<'static> = Constraints::NONE;
 
     ghost CONSTRAINTS = { no_constraints };
 

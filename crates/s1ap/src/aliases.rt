@@ -34,7 +34,7 @@ pub struct PlmNidentityLimits;
 const LIMITS_OF_PLM_NIDENTITY: &[Constraint] = constraints!(SIZE 3..=3);
 
 impl Limits for PlmNidentityLimits {
-    const LIMITS: Constraints = Constraints(LIMITS_OF_PLM_NIDENTITY);
+    const LIMITS: Constraints<'static> = Constraints(LIMITS_OF_PLM_NIDENTITY);
 
     ghost LIMITS = { (size 3 to 3) };
 }
@@ -46,10 +46,7 @@ pub type ProtocolExtensionId = u16;
 pub type ProtocolExtensionContainer = Vec<ProtocolExtensionField>;
 
 /// ENBname ::= PrintableString (SIZE (1..150, ...))
-pub type EnBname = PrintableString;
-
-/// `EnBname` under its constraints.
-pub type LimitedEnBname = Constrained<EnBname, EnBnameLimits>;
+pub type EnBname = Constrained<PrintableString, EnBnameLimits>;
 
 /// The constraints of `EnBname`.
 #[derive(Clone, Copy, Debug, Drop, PartialEq, Eq)]
@@ -58,7 +55,7 @@ pub struct EnBnameLimits;
 const LIMITS_OF_EN_BNAME: &[Constraint] = constraints!(SIZE 1..=150, ...);
 
 impl Limits for EnBnameLimits {
-    const LIMITS: Constraints = Constraints(LIMITS_OF_EN_BNAME);
+    const LIMITS: Constraints<'static> = Constraints(LIMITS_OF_EN_BNAME);
 
     ghost LIMITS = { (extensible (size 1 to 150)) };
 }
@@ -70,10 +67,7 @@ pub type Tac = OctetString;
 pub type Bplmns = Vec<LimitedPlmNidentity>;
 
 /// SupportedTAs ::= SEQUENCE (SIZE (1..256)) OF SupportedTAs-Item
-pub type SupportedTas = Vec<SupportedTasItem>;
-
-/// `SupportedTas` under its constraints.
-pub type LimitedSupportedTas = Constrained<SupportedTas, SupportedTasLimits>;
+pub type SupportedTas = Constrained<Vec<SupportedTasItem>, SupportedTasLimits>;
 
 /// The constraints of `SupportedTas`.
 #[derive(Clone, Copy, Debug, Drop, PartialEq, Eq)]
@@ -82,7 +76,7 @@ pub struct SupportedTasLimits;
 const LIMITS_OF_SUPPORTED_TAS: &[Constraint] = constraints!(SIZE 1..=256);
 
 impl Limits for SupportedTasLimits {
-    const LIMITS: Constraints = Constraints(LIMITS_OF_SUPPORTED_TAS);
+    const LIMITS: Constraints<'static> = Constraints(LIMITS_OF_SUPPORTED_TAS);
 
     ghost LIMITS = { (size 1 to 256) };
 }
@@ -91,10 +85,7 @@ impl Limits for SupportedTasLimits {
 pub type CsgId = BitString;
 
 /// CSG-IdList ::= SEQUENCE (SIZE (1..256)) OF CSG-IdList-Item
-pub type CsgIdList = Vec<CsgIdListItem>;
-
-/// `CsgIdList` under its constraints.
-pub type LimitedCsgIdList = Constrained<CsgIdList, CsgIdListLimits>;
+pub type CsgIdList = Constrained<Vec<CsgIdListItem>, CsgIdListLimits>;
 
 /// The constraints of `CsgIdList`.
 #[derive(Clone, Copy, Debug, Drop, PartialEq, Eq)]
@@ -103,7 +94,7 @@ pub struct CsgIdListLimits;
 const LIMITS_OF_CSG_ID_LIST: &[Constraint] = constraints!(SIZE 1..=256);
 
 impl Limits for CsgIdListLimits {
-    const LIMITS: Constraints = Constraints(LIMITS_OF_CSG_ID_LIST);
+    const LIMITS: Constraints<'static> = Constraints(LIMITS_OF_CSG_ID_LIST);
 
     ghost LIMITS = { (size 1 to 256) };
 }
@@ -112,10 +103,7 @@ impl Limits for CsgIdListLimits {
 pub type EnGnbId = BitString;
 
 /// ConnectedengNBList ::= SEQUENCE (SIZE (1..256)) OF ConnectedengNBItem
-pub type ConnectedengNbList = Vec<ConnectedengNbItem>;
-
-/// `ConnectedengNbList` under its constraints.
-pub type LimitedConnectedengNbList = Constrained<ConnectedengNbList, ConnectedengNbListLimits>;
+pub type ConnectedengNbList = Constrained<Vec<ConnectedengNbItem>, ConnectedengNbListLimits>;
 
 /// The constraints of `ConnectedengNbList`.
 #[derive(Clone, Copy, Debug, Drop, PartialEq, Eq)]
@@ -124,7 +112,7 @@ pub struct ConnectedengNbListLimits;
 const LIMITS_OF_CONNECTEDENG_NB_LIST: &[Constraint] = constraints!(SIZE 1..=256);
 
 impl Limits for ConnectedengNbListLimits {
-    const LIMITS: Constraints = Constraints(LIMITS_OF_CONNECTEDENG_NB_LIST);
+    const LIMITS: Constraints<'static> = Constraints(LIMITS_OF_CONNECTEDENG_NB_LIST);
 
     ghost LIMITS = { (size 1 to 256) };
 }

@@ -4,7 +4,8 @@ ghost use Rattle.rasn_below.specs.Page.{bits, fields_of, slot_levels, slot_of};
 ghost use Rattle.s1ap.specs.S1ApIes.{connectedeng_nb_item_lists};
 ghost use Rattle.std.specs.Prelude.{Some, [], max, refl, ◌∷◌};
 
-use crate::aliases::{EnGnbId, ProtocolExtensionContainer, SupportedTas};
+use crate::aliases::{EnGnbId, ProtocolExtensionContainer};
+use crate::supported_tas_item::SupportedTasItem;
 use rasn_below::page::*;
 
 /// ConnectedengNBItem ::= SEQUENCE {
@@ -16,13 +17,13 @@ use rasn_below::page::*;
 #[derive(Debug, Drop, PartialEq)]
 pub struct ConnectedengNbItem {
     pub en_gnb_id: EnGnbId,
-    pub supported_tas: SupportedTas,
+    pub supported_tas: Vec<SupportedTasItem>,
     pub ie_extensions: Option<ProtocolExtensionContainer>,
 }
 
 macro_rules! components { ($to:ident $($with:ident)*) => { $to! { [$($with)*]
     required 0 "en-gNB-ID" en_gnb_id: EnGnbId [SIZE 22..=32, ...];
-    required 1 "supportedTAs" supported_tas: SupportedTas [SIZE 1..=256];
+    required 1 "supportedTAs" supported_tas: Vec<SupportedTasItem> [SIZE 1..=256];
     optional 2 "iE-Extensions" ie_extensions: Option<ProtocolExtensionContainer> [SIZE 1..=65_535];
     ...;
 } }; }
@@ -40,13 +41,13 @@ impl Components for ConnectedengNbItem {
 
     ghost contents = { λ x.
         Some (bits x.en_gnb_id) ∷
-        Some (⟦<SupportedTas as AsnType>⟧.value x.supported_tas) ∷
+        Some (⟦<Vec<SupportedTasItem> as AsnType>⟧.value x.supported_tas) ∷
         slot_of ⟦<ProtocolExtensionContainer as AsnType>⟧.value x.ie_extensions ∷
         [] };
 
     ghost depth = { λ x.
         (max 0
-        (max (⟦<SupportedTas as AsnType>⟧.levels x.supported_tas)
+        (max (⟦<Vec<SupportedTasItem> as AsnType>⟧.levels x.supported_tas)
         (max (slot_levels ⟦<ProtocolExtensionContainer as AsnType>⟧.levels x.ie_extensions) 0))) };
 }
 

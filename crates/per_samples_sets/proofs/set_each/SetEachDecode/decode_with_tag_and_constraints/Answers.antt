@@ -16,5 +16,5 @@ returns g c =
           (item_answered rules Schema.boolean place (λ x. truth x.value) i s r t (rw (sym w.shows, sym w.leaves) w.met.1.0) w.met.1.1);
       behind = λ i k p d s tag r t stands level named w. absurd (none_behind stands);
     })
-    (λ n. record { makes = λ xs ys rs r gathered places w. made rules n xs ys _ rs r gathered places w.holds w.met.1 })
+    (λ n. record { makes = λ xs ys rs r gathered places w. made rules _ n xs ys _ rs r gathered places w.holds w.met.1 })
     (record { stays = λ s i tag r t w. rw (sym w.shows, sym w.leaves) w.met.1.0.behaves.kept })

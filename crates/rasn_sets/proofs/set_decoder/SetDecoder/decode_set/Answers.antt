@@ -4,6 +4,7 @@ use Rattle.rasn_schema.specs.Canonised.{canonised_at}
 use Rattle.rasn_traits.proofs.Reading.{inside_left, record_ended, record_failed, record_endless}
 use Rattle.rasn_traits.proofs.SetsRead.{set_ended, set_refused}
 use Rattle.rasn_sets.proofs.Ends.{unfailed}
+use Rattle.rasn_sets.proofs.Made.{same_variant}
 use Rattle.rasn_sets.proofs.set_decoder.SetDecoder.decode_set.Goals as goal
 
 pub returns-in_err-outside : goal.returns-in_err-outside
@@ -25,7 +26,7 @@ returns-in_err-close_sequence-in-Ok g c =
     let p = err_from_is_err_and c.from_residual-in_err-close_sequence-in-Ok.result c.from_residual-in_err-close_sequence-in-Ok.ensures.1 in
     record {
       law = λ place slot each made.
-          let w = c.in-Ok.ensures.law (C.parts n) (C.additions n) place slot (C.described n) (C.extends.described n) (each n o.0) (made n o.0) in
+          let w = c.in-Ok.ensures.law (C.parts n) (C.additions n) place slot (C.described n) (C.extends.described n) (each n o.0) (same_variant c.in_ok-outside.ensures.behaves.kept (made n o.0)) in
           rw (p.1, p.2) (set_refused g.met.Self.Decoder.sets C.parts C.IS_EXTENSIBLE C.additions _ (record_endless g.met.Self.Decoder.lawful g.met.Self.Decoder.scopes (canonised_at C.parts) C.IS_EXTENSIBLE C.additions o.0 o.1 _ _ _ w
           (c.in_err-close_sequence-in-Ok.ensures.law (inside_left g.met.Self.Decoder.lawful g.met.Self.Decoder.scopes (canonised_at C.parts) C.IS_EXTENSIBLE C.additions o.0 o.1 _ _ _ w))));
       swallowed = rw p.1 tt;
@@ -41,7 +42,7 @@ returns-in-Ok g c =
     let n = g.Self.Decoder.rules.levels c.open_set.new.self in
     record {
       law = λ place slot each made.
-          let w = c.in-Ok.ensures.law (C.parts n) (C.additions n) place slot (C.described n) (C.extends.described n) (each n o.0) (made n o.0) in
+          let w = c.in-Ok.ensures.law (C.parts n) (C.additions n) place slot (C.described n) (C.extends.described n) (each n o.0) (same_variant c.in_ok-outside.ensures.behaves.kept (made n o.0)) in
           set_ended g.met.Self.Decoder.sets C.parts C.IS_EXTENSIBLE C.additions _ _ _ _ _ o.0 refl
           (record_ended g.met.Self.Decoder.lawful g.met.Self.Decoder.scopes (canonised_at C.parts) C.IS_EXTENSIBLE C.additions o.0 o.1 _ _ _ _ w
           (c.in_ok-close_sequence-in-Ok.ensures.law (inside_left g.met.Self.Decoder.lawful g.met.Self.Decoder.scopes (canonised_at C.parts) C.IS_EXTENSIBLE C.additions o.0 o.1 _ _ _ w)));
@@ -58,7 +59,7 @@ returns g c =
     let n = g.Self.Decoder.rules.levels c.open_set.new.self in
     record {
       law = λ place slot each made. set_refused g.met.Self.Decoder.sets C.parts C.IS_EXTENSIBLE C.additions _ (record_failed g.met.Self.Decoder.lawful g.met.Self.Decoder.scopes (canonised_at C.parts) C.IS_EXTENSIBLE C.additions o.0 o.1
-          (c.in-Err.ensures.law (C.parts n) (C.additions n) place slot (C.described n) (C.extends.described n) (each n o.0) (made n o.0)));
+          (c.in-Err.ensures.law (C.parts n) (C.additions n) place slot (C.described n) (C.extends.described n) (each n o.0) (same_variant c.in_ok-outside.ensures.behaves.kept (made n o.0))));
       swallowed = tt;
       again = search rules;
       fails = search rules;

@@ -1,0 +1,105 @@
+//! The lines of types.
+
+use crate::error::Reason;
+use crate::parts::{choice, items, record};
+use crate::values::{MOST_LEVELS, skip_value};
+use crate::words::Words;
+use rasn_dynamic::types::{CharacterString, CharacterType, Kind, Simple};
+use std::alloc::Global;
+
+/// What a line says of a type, in a table of so many. Places are judged later, but those of an open type's rows, which
+/// aren't kept.
+pub fn kind(alloc: Global, line: &str, types: usize) -> Result<Kind, Reason> {
+    let mut words = Words::new(line);
+    let kind = kind_in(alloc, &mut words, types)?;
+    words.end()?;
+    Ok(kind)
+}
+
+/// What the words of a line say of a type.
+fn kind_in(alloc: Global, words: &mut Words<'_>, types: usize) -> Result<Kind, Reason> {
+    let kind = match words.word()? {
+        "sequence" => Kind::Record(record(alloc, words)?),
+        "set" => return Err(Reason::NotHeld),
+        "choice" => Kind::Choice(choice(alloc, words)?),
+        "sequence_of" => Kind::List(words.count()?, words.size()?),
+        "set_of" => Kind::SetOf(words.count()?, words.size()?),
+        "containing" => Kind::Containing(words.count()?),
+        "open_type" => {
+            rows(words, types)?;
+            Kind::Simple(Simple::Open)
+        }
+        word => Kind::Simple(simple(alloc, word, words)?),
+    };
+    Ok(kind)
+}
+
+/// A type in which no other stands, whose line begins with a word.
+fn simple(alloc: Global, word: &str, words: &mut Words<'_>) -> Result<Simple, Reason> {
+    let simple = match word {
+        "boolean" => Simple::Boolean,
+        "null" => Simple::Null,
+        "integer" => Simple::Integer(words.bounds()?),
+        "enumerated" => Simple::Enumerated(items(alloc, words)?),
+        "octet_string" => Simple::OctetString(words.size()?),
+        "bit_string" => Simple::BitString(words.size()?),
+        "named_bits" => Simple::NamedBits(words.size()?),
+        "utf8_string" => Simple::Utf8,
+        "general_string" | "graphic_string" | "teletex_string" => Simple::Text,
+        "videotex_string" | "object_descriptor" => Simple::Text,
+        "object_identifier" => Simple::ObjectIdentifier,
+        "utc_time" | "generalized_time" | "date" => return Err(Reason::NotHeld),
+        "universal_string" => return Err(Reason::NotHeld),
+        word => Simple::Characters(characters(alloc, word, words)?),
+    };
+    Ok(simple)
+}
+
+/// A string of characters, whose line begins with a word.
+fn characters(alloc: Global, word: &str, words: &mut Words<'_>) -> Result<CharacterString, Reason> {
+    let of = match word {
+        "ia5_string" => CharacterType::Ia5,
+        "visible_string" => CharacterType::Visible,
+        "printable_string" => CharacterType::Printable,
+        "numeric_string" => CharacterType::Numeric,
+        "bmp_string" => CharacterType::Bmp,
+        _ => return Err(Reason::UnknownType),
+    };
+    let size = words.size()?;
+    let alphabet = words.alphabet(alloc)?;
+    Ok(CharacterString { of, size, alphabet })
+}
+
+/// Reads what an open type's line says of the types that it may have, where there is more of it.
+fn rows(words: &mut Words<'_>, types: usize) -> Result<(), Reason> {
+    if words.is_at_end() {
+        return Ok(());
+    }
+    words.count()?;
+    let fixed = words.count_or_none()?;
+    let count = words.count()?;
+    if count == 0 {
+        return Err(Reason::NotNumber);
+    }
+    for _ in 0..count {
+        row(words, types, fixed.is_some())?;
+    }
+    Ok(())
+}
+
+/// Reads a row: a value, the name and the place of its type, what the value of another component is, and a presence.
+fn row(words: &mut Words<'_>, types: usize, has_fixed: bool) -> Result<(), Reason> {
+    let head = words.word()?;
+    skip_value(head, words, MOST_LEVELS)?;
+    words.word()?;
+    if words.count()? >= types {
+        return Err(Reason::NoSuchPlace);
+    }
+    match words.word()? {
+        "-" => {}
+        head if has_fixed => skip_value(head, words, MOST_LEVELS)?,
+        _ => return Err(Reason::UnknownWord),
+    }
+    words.word()?;
+    Ok(())
+}

@@ -1,0 +1,90 @@
+//! Tags of CHOICEs that have none of their own.
+
+use rasn_dynamic::types::{Alternative, Component, Kind};
+use rasn_types::types::Tag;
+use std::alloc::{AllocError, Global};
+
+/// How deep CHOICEs without tags stand in one another at most.
+const MOST_CHOICES: usize = 255;
+
+/// Gives each component and alternative without a tag, which has that of no type, the smallest of the CHOICE that it
+/// is (X.691 21.1). The only error is want of memory.
+pub fn order(alloc: Global, kinds: &mut [Kind]) -> Result<(), AllocError> {
+    let tags = tags(alloc, kinds)?;
+    for kind in kinds.iter_mut() {
+        order_kind(kind, tags.as_slice())?;
+    }
+    Ok(())
+}
+
+/// For each type the tag that it has where none is written: of a CHOICE the smallest of its root alternatives, else
+/// that of no type.
+fn tags(alloc: Global, kinds: &[Kind]) -> Result<Vec<Tag>, AllocError> {
+    let mut tags = Vec::new(alloc);
+    for place in 0..kinds.len() {
+        tags.push(smallest_tag(kinds, place))?;
+    }
+    Ok(tags)
+}
+
+/// The smallest tag of the root alternatives of the CHOICE at a place, which is that of the first; that of no type,
+/// where no CHOICE is there or CHOICEs without tags stand in one another too deep.
+fn smallest_tag(kinds: &[Kind], place: usize) -> Tag {
+    let mut place = place;
+    for _ in 0..=MOST_CHOICES {
+        let Some(Kind::Choice(choice)) = kinds.get(place) else {
+            return Tag::EOC;
+        };
+        let Some(first) = choice.roots.first() else {
+            return Tag::EOC;
+        };
+        if first.tag != Tag::EOC {
+            return first.tag;
+        }
+        place = first.of;
+    }
+    Tag::EOC
+}
+
+/// Gives tags to the components or alternatives of a type, and orders a SET.
+fn order_kind(kind: &mut Kind, tags: &[Tag]) -> Result<(), AllocError> {
+    match kind {
+        Kind::Record(record) => {
+            tag_components(&mut record.root, tags);
+            if let Some(additions) = &mut record.additions {
+                tag_components(additions, tags);
+            }
+        }
+        Kind::Choice(choice) => {
+            tag_alternatives(&mut choice.roots, tags);
+            if let Some(addeds) = &mut choice.addeds {
+                tag_alternatives(addeds, tags);
+            }
+        }
+        Kind::Simple(_) | Kind::List(_, _) | Kind::SetOf(_, _) | Kind::Containing(_) => {}
+    }
+    Ok(())
+}
+
+/// Gives tags to the components that have none.
+fn tag_components(components: &mut Vec<Component>, tags: &[Tag]) {
+    for component in components.iter_mut() {
+        if component.tag == Tag::EOC {
+            component.tag = tag_at(tags, component.of);
+        }
+    }
+}
+
+/// Gives tags to the alternatives that have none.
+fn tag_alternatives(alternatives: &mut Vec<Alternative>, tags: &[Tag]) {
+    for alternative in alternatives.iter_mut() {
+        if alternative.tag == Tag::EOC {
+            alternative.tag = tag_at(tags, alternative.of);
+        }
+    }
+}
+
+/// The tag of the type at a place where none is written.
+fn tag_at(tags: &[Tag], place: usize) -> Tag {
+    tags.get(place).copied().unwrap_or(Tag::EOC)
+}

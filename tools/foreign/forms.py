@@ -1,0 +1,28 @@
+"""Forms of types that asn1ct encodes otherwise than X.691 has it. Differences of a type in which one stands are told with its
+name, by which rows of explained.tsv explain them."""
+
+
+def is_size_without_end(of):
+    return bool(of.limits.size) and of.limits.size[1] is None and of.limits.size[2]
+
+
+def is_string_from_nothing(of):
+    is_list = of.kind in ("SEQUENCE OF", "SET OF")
+    return not is_list and bool(of.limits.size) and of.limits.size[0] == 0 and of.limits.size[1] is not None
+
+
+# Those of a size are of strings and lists, SIZE (0..n) of strings alone.
+FORMS = {"SIZE (0..n)": is_string_from_nothing, "SIZE (n..MAX, ...)": is_size_without_end}
+
+
+def forms_of(of):
+    """Returns the names of the forms that stand in a type."""
+    found = {name for name, is_it in FORMS.items() if is_it(of)}
+    inner = [*(part.use for part in of.all_parts), *([of.element] if of.element else [])]
+    return found.union(*(forms_of(use.type) for use in inner))
+
+
+def in_words(of):
+    """Returns these as words behind what is told of a type."""
+    found = sorted(forms_of(of))
+    return f"; it has {', '.join(found)}" if found else ""
