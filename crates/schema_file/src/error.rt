@@ -105,7 +105,14 @@ pub enum Reason {
     /// What a group names isn't a SEQUENCE without a marker.
     #[error("a group is no SEQUENCE without a marker")]
     NotGroup,
-    /// What the codec has only on pages, or not at all: a default, SET, a time, DATE, UniversalString.
+    /// A word isn't hexadecimal digits, two an octet.
+    #[error("a word is no hexadecimal octets")]
+    NotHexadecimal,
+    /// Numbers aren't the arcs of an OBJECT IDENTIFIER.
+    #[error("numbers are no OBJECT IDENTIFIER")]
+    NotIdentifier,
+    /// What the codec has only on pages, or not at all: a default that holds values or bits, a time, DATE,
+    /// UniversalString.
     #[error("this isn't data yet")]
     NotHeld,
     /// A value holds values more than 255 deep.

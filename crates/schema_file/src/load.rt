@@ -6,7 +6,7 @@ ghost use Rattle.schema_file.specs.Inside.{PlacesAreInside, KindIsInside};
 ghost use Rattle.schema_file.specs.Lines.{line_feeds, IsAmong, IsLineOf};
 
 use crate::error::{LoadError, Reason};
-use crate::judge::judge;
+use crate::judge::{judge, judge_set};
 use crate::kinds::kind;
 use crate::order::order;
 use crate::words::Words;
@@ -41,10 +41,12 @@ pub fn load(alloc: Global, text: &[u8]) -> Result<Types, LoadError>
     read_modules(&lines, counts)?;
     let mut kinds = read_kinds(alloc, &lines, counts)?;
     let names = read_roots(alloc, &lines, counts)?;
-    if order(alloc, &mut kinds).is_err() {
+    let sets = sets_in(alloc, &lines, counts)?;
+    if order(alloc, &mut kinds, &sets).is_err() {
         return Err(LoadError::out_of_memory());
     }
     judge_all(alloc, &kinds, counts, octets)?;
+    judge_sets(alloc, &kinds, &sets, counts)?;
     Ok(Types { kinds, names })
 }
 
@@ -186,6 +188,21 @@ fn push_kind(alloc: Global, line: &str, types: usize, kinds: &mut Vec<Kind>) -> 
     Ok(())
 }
 
+/// The places of the lines of types that say a SET.
+fn sets_in(alloc: Global, lines: &[&str], counts: Counts) -> Result<Vec<usize>, LoadError>
+    requires { counts.modules + counts.types + counts.roots + 2 ≡ length lines.now }
+    ensures ok { IfOk result (λ sets. All (λ place. place < counts.types) sets.items) }
+    ensures err { IfErr result (λ e. e.line ≡ 1) }
+{
+    let mut sets = Vec::new(alloc);
+    for place in 0..counts.types {
+        if lines[1 + counts.modules + place].starts_with("set ") && sets.push(place).is_err() {
+            return Err(LoadError::out_of_memory());
+        }
+    }
+    Ok(sets)
+}
+
 /// The names that lines say.
 fn read_roots(alloc: Global, lines: &[&str], counts: Counts) -> Result<Vec<Name>, LoadError>
     requires { counts.modules + counts.types + counts.roots + 2 ≡ length lines.now }
@@ -253,6 +270,27 @@ fn judge_all(alloc: Global, kinds: &[Kind], counts: Counts, octets: usize) -> Re
     for (place, kind) in kinds.iter().enumerate() {
         if let Err(reason) = judge(alloc, kinds, kind, &mut names) {
             return Err(LoadError::at(1 + counts.modules + place, reason));
+        }
+    }
+    Ok(())
+}
+
+/// Judges the tags of the SETs, which stand at some places of a table.
+fn judge_sets(
+    alloc: Global,
+    kinds: &[Kind],
+    sets: &[usize],
+    counts: Counts,
+) -> Result<(), LoadError>
+    requires counted { counts.modules + counts.types + 2 ≤ usize.MAX }
+    requires sets { All (λ place. place < counts.types) sets.now }
+    ensures { IfErr result (λ e. IsAmong (counts.modules + counts.types + 1) e.line) }
+{
+    for place in sets {
+        if let Some(Kind::Record(record)) = kinds.get(*place) {
+            if let Err(reason) = judge_set(alloc, record) {
+                return Err(LoadError::at(1 + counts.modules + *place, reason));
+            }
         }
     }
     Ok(())
