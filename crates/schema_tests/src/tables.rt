@@ -4,7 +4,7 @@ use crate::example::{EXAMPLE, with_line};
 use rasn_constraints::constraints::{Bounded, Extensible};
 use rasn_dynamic::types::{DefaultValue, Kind, Presence, Record, Simple, Types};
 use rasn_schema::items::Place;
-use rasn_types::types::{Class, Tag};
+use rasn_types::types::{Class, Integer, Tag};
 use schema_file::load::load;
 use std::test::Fail;
 
@@ -98,7 +98,10 @@ fn order_of_a_set(rt: HostRuntime) -> Result<(), Fail> {
     let types = load(rt.alloc(), text.as_bytes())?;
     let record = record(&types)?;
     let names = |at: usize| Some(record.root.get(at)?.name.as_str());
-    assert_eq!(rt; (names(0), names(1), names(2)), (Some("b"), Some("c"), Some("a")));
+    assert_eq!(rt;
+        (names(0), names(1), names(2)),
+        (Some("b"), Some("c"), Some("a"))
+    );
     let Some(first) = record.behind().first() else {
         return Err(Fail::from("no addition"));
     };
@@ -109,7 +112,8 @@ fn order_of_a_set(rt: HostRuntime) -> Result<(), Fail> {
 /// Defaults of each form.
 #[test]
 fn defaults(rt: HostRuntime) -> Result<(), Fail> {
-    let line = "sequence 6 - a c0 d 1 int -5 b c1 d 1 true c c2 d 1 octets 0aff d c3 d 1 item added 3 \
+    let line =
+        "sequence 6 - a c0 d 1 int -5 b c1 d 1 true c c2 d 1 octets 0aff d c3 d 1 item added 3 \
         e c4 d 1 characters 2 65 66 f c5 d 1 oid 3 1 2 840";
     let text = with_line(rt.alloc(), 3, line)?;
     let types = load(rt.alloc(), text.as_bytes())?;
@@ -118,11 +122,19 @@ fn defaults(rt: HostRuntime) -> Result<(), Fail> {
         Presence::Default(value) => Some(value),
         _ => None,
     };
-    assert!(rt; matches!(told(0), Some(DefaultValue::Integer(number)) if *number == -5));
+    assert!(rt;
+        matches!(told(0), Some(DefaultValue::Integer(number)) if *number == Integer::from(-5))
+    );
     assert!(rt; matches!(told(1), Some(DefaultValue::Boolean(true))));
-    assert!(rt; matches!(told(2), Some(DefaultValue::Octets(octets)) if octets.as_slice() == [0x0a, 0xff]));
+    assert!(rt;
+        matches!(told(2), Some(DefaultValue::Octets(octets)) if octets.as_bytes() == [0x0a, 0xff].as_slice())
+    );
     assert!(rt; matches!(told(3), Some(DefaultValue::Item(Place::Added(3)))));
-    assert!(rt; matches!(told(4), Some(DefaultValue::Characters(text)) if text.to_string() == "AB"));
-    assert!(rt; matches!(told(5), Some(DefaultValue::Octets(octets)) if octets.as_slice() == [0x2a, 0x86, 0x48]));
+    assert!(rt;
+        matches!(told(4), Some(DefaultValue::Characters(text)) if text.as_units() == [65, 66].as_slice())
+    );
+    assert!(rt;
+        matches!(told(5), Some(DefaultValue::Octets(octets)) if octets.as_bytes() == [0x2a, 0x86, 0x48].as_slice())
+    );
     Ok(())
 }
