@@ -53,28 +53,11 @@ octets_below : (os : List ℕ) → ((i : ℕ) → Fits w8 (get_or os i 0)) → a
 octets_below [] h = refl
 octets_below (o ∷ os) h = ap₂ (λ a b. a && b) (lt-ltb o 256 (h 0).fits) (octets_below os (λ i. h (suc i)))
 
-pub any_octets : (os : List ℕ) → length os < 2 ^ 64 → ((i : ℕ) → Fits w8 (get_or os i 0)) → true ≡ if_octets (λ os. true) (Values.octets os)
-any_octets os l h = sym (ap₂ (λ a b. a && (b && true)) (lt-ltb (length os) (2 ^ 64) l) (octets_below os h))
+pub any_octets : (os : List ℕ) → length os < 2 ^ 64 → ((i : ℕ) → Fits w8 (get_or os i 0)) → if_octets (λ os. true) (Values.octets os) ≡ true
+any_octets os l h = ap₂ (λ a b. a && (b && true)) (lt-ltb (length os) (2 ^ 64) l) (octets_below os h)
 
-pub any_characters : (cs : List ℕ) → length cs < 2 ^ 64 → true ≡ if_characters (λ cs. true) (Values.characters cs)
-any_characters cs l = sym (ap (λ a. a && true) (lt-ltb (length cs) (2 ^ 64) l))
-
--- and that pass a test
-and_last : (a b c : Bool) → (a && (b && true)) ≡ true → c ≡ (a && (b && c))
-and_last true true c e = refl
-and_last true false c e = absurd cc
-and_last false b c e = absurd cc
-
-pub these_octets : (f : List ℕ → Bool) (os : List ℕ) → true ≡ if_octets (λ os. true) (Values.octets os) → f os ≡ if_octets f (Values.octets os)
-these_octets f os e = and_last (is_countable os) (are_octets os) (f os) (sym e)
-
-pub no_octets : (f : List ℕ → Bool) (d : DefaultValue) → ((os : List ℕ) → d ≡ TheVariants.Octets os → ⊥) → if_octets f (default_value d) ≡ false
-no_octets f (TheVariants.Octets os) h = absurd (h os refl)
-no_octets f _ h = refl
-
-pub no_characters : (f : List ℕ → Bool) (d : DefaultValue) → ((cs : List ℕ) → d ≡ TheVariants.Characters cs → ⊥) → if_characters f (default_value d) ≡ false
-no_characters f (TheVariants.Characters cs) h = absurd (h cs refl)
-no_characters f _ h = refl
+pub any_characters : (cs : List ℕ) → length cs < 2 ^ 64 → if_characters (λ cs. true) (Values.characters cs) ≡ true
+any_characters cs l = ap (λ a. a && true) (lt-ltb (length cs) (2 ^ 64) l)
 
 -- a text of any octets
 pub other_text : (v : Value) → if_octets (λ os. true) v ≡ is_value (Schemas.text other) v

@@ -103,7 +103,10 @@ fn are_characters(default: &DefaultValue) -> bool
     ensures { result ≡ if_characters (λ cs. true) (default_value default.now) }
 {
     match default {
-        DefaultValue::Characters(characters) => are_any_characters(characters.as_units()),
+        DefaultValue::Characters(characters) => {
+            characters_are_countable(characters.as_units());
+            true
+        }
         _ => false,
     }
 }
@@ -113,7 +116,10 @@ fn are_octets(default: &DefaultValue) -> bool
     ensures { result ≡ if_octets (λ os. true) (default_value default.now) }
 {
     match default {
-        DefaultValue::Octets(octets) => are_any(octets.as_bytes()),
+        DefaultValue::Octets(octets) => {
+            octets_are_countable(octets.as_bytes());
+            true
+        }
         _ => false,
     }
 }
@@ -123,7 +129,10 @@ fn is_text(default: &DefaultValue) -> bool
     ensures { result ≡ if_octets (is_text utf8) (default_value default.now) }
 {
     match default {
-        DefaultValue::Octets(octets) => are_any(octets.as_bytes()) && is_utf8(octets.as_bytes()),
+        DefaultValue::Octets(octets) => {
+            octets_are_countable(octets.as_bytes());
+            is_utf8(octets.as_bytes())
+        }
         _ => false,
     }
 }
@@ -134,26 +143,11 @@ fn is_object(default: &DefaultValue) -> bool
 {
     match default {
         DefaultValue::Octets(octets) => {
-            are_any(octets.as_bytes()) && are_contents(octets.as_bytes())
+            octets_are_countable(octets.as_bytes());
+            are_contents(octets.as_bytes())
         }
         _ => false,
     }
-}
-
-/// Whether octets are such: always.
-fn are_any(octets: &[u8]) -> bool
-    ensures { result ≡ if_octets (λ os. true) (Values.octets octets.now) }
-{
-    let _ = octets;
-    true
-}
-
-/// Whether characters are such: always.
-fn are_any_characters(characters: &[u16]) -> bool
-    ensures { result ≡ if_characters (λ cs. true) (Values.characters characters.now) }
-{
-    let _ = characters;
-    true
 }
 
 /// Whether octets are UTF-8.
@@ -161,4 +155,18 @@ fn is_utf8(octets: &[u8]) -> bool
     ensures { result ≡ is_text utf8 octets.now }
 {
     str::from_utf8(octets).is_ok()
+}
+
+/// Octets in memory are a value of a type whose values are any octets. This is a law, and nothing runs.
+fn octets_are_countable(octets: &[u8])
+    ensures { if_octets (λ os. true) (Values.octets octets.now) ≡ true }
+{
+    let _ = octets;
+}
+
+/// Characters in memory are a value of a character string. This is a law, and nothing runs.
+fn characters_are_countable(characters: &[u16])
+    ensures { if_characters (λ cs. true) (Values.characters characters.now) ≡ true }
+{
+    let _ = characters;
 }
