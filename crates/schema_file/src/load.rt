@@ -1,7 +1,9 @@
 //! From a schema file's text to a table of types.
 
-ghost use Rattle.std.specs.Prelude.{◌≡◌, ◌≤◌, ◌<◌, ◌+◌, length, IfOk, IfSome, OnOk, IfErr};
+ghost use Rattle.std.specs.Prelude.{◌≡◌, ◌≤◌, ◌<◌, ◌+◌, ℕ, length, IfOk, IfSome, OnOk, IfErr};
 ghost use Rattle.std.specs.List.{All};
+ghost use Rattle.rasn_schema.specs.Lawful.{IsLawfulType};
+ghost use Rattle.rasn_dynamic.specs.Types.{schema_at};
 ghost use Rattle.schema_file.specs.Inside.{PlacesAreInside, KindIsInside};
 ghost use Rattle.schema_file.specs.Lines.{line_feeds, IsAmong, IsLineOf};
 
@@ -25,13 +27,14 @@ struct Counts {
     roots: usize,
 }
 
-/// The table of types that a schema file's text says. Types are at the places that it gives them, and have the names
-/// `MODULE.TYPE`.
+/// The table of types that a schema file's text says, each of which is lawful. Types are at the places that it gives
+/// them, and have the names `MODULE.TYPE`.
 ///
-/// Refuses any other text, by the number of a line and what is wrong there. Memory and time are in proportion to the
-/// text.
+/// Refuses any other text, by the number of a line and what is wrong there. Memory is in proportion to the text, and so
+/// is time, but for the tags of each CHOICE, of which two are compared with one another.
 pub fn load(alloc: Global, text: &[u8]) -> Result<Types, LoadError>
-    ensures ok { IfOk result PlacesAreInside }
+    ensures inside { IfOk result PlacesAreInside }
+    ensures lawful { IfOk result (λ types. (place : ℕ) → IsLawfulType (schema_at types.kinds.items place)) }
     ensures err { IfErr result (λ e. IsLineOf text.now e.line) }
 {
     let octets = text.len();
@@ -47,7 +50,9 @@ pub fn load(alloc: Global, text: &[u8]) -> Result<Types, LoadError>
     }
     judge_all(alloc, &kinds, counts, octets)?;
     judge_sets(alloc, &kinds, &sets, counts)?;
-    Ok(Types { kinds, names })
+    let types = Types { kinds, names };
+    judge_laws(&types, counts)?;
+    Ok(types)
 }
 
 /// The text that octets are.
@@ -294,4 +299,19 @@ fn judge_sets(
         }
     }
     Ok(())
+}
+
+/// Refuses a table in which a type isn't lawful.
+fn judge_laws(types: &Types, counts: Counts) -> Result<(), LoadError>
+    requires { counts.modules + length types.now.kinds.items + 2 ≤ usize.MAX }
+    ensures ok { OnOk result ((place : ℕ) → IsLawfulType (schema_at types.now.kinds.items place)) }
+    ensures err { IfErr result (λ e. IsAmong (counts.modules + length types.now.kinds.items + 1) e.line) }
+{
+    match lawful_types::judge::judge(types) {
+        Ok(()) => Ok(()),
+        Err(fault) => {
+            let line = 1 + counts.modules + fault.place;
+            Err(LoadError::at(line, Reason::from(fault.reason)))
+        }
+    }
 }
