@@ -25,11 +25,11 @@ use Rattle.rasn_dynamic.specs.Values.{levels_of, slot_of}
 use Rattle.rasn_dynamic.specs.Writes.{fit, may_stand}
 
 -- as many values as components
-pub fit_length : (cs : List Component) (os : List (Option Content)) → fit cs os ≡ true → length cs ≡ length os
+pub fit_length : (cs : List Component) (os : List (Option Content)) → fit true cs os ≡ true → length cs ≡ length os
 fit_length [] [] e = refl
 fit_length [] (o ∷ os) e = absurd (cc)
 fit_length (c ∷ cs) [] e = absurd (cc)
-fit_length (c ∷ cs) (o ∷ os) e = ap suc (fit_length cs os (and_parts (may_stand c.presence o) (fit cs os) e).1)
+fit_length (c ∷ cs) (o ∷ os) e = ap suc (fit_length cs os (and_parts (may_stand true c.presence o) (fit true cs os) e).1)
 
 pub length_slots : (vs : List Value) → length (map slot_of vs) ≡ length vs
 length_slots [] = refl
@@ -86,11 +86,11 @@ module _ {E X : Type 0} (rules : EncoderRules E X) where
       pub at : (n : ℕ) → deepest levels_of vs ≤ n → (r : Result (Unit {0}) E) (z : X)
           → T.all (parts_at T.groups ts (drop i cs) n) (normals (parts_at T.groups ts (drop i cs) n) (map slot_of (drop i vs))) y r z
           → T.all (parts_at T.groups ts cs n) (normals (parts_at T.groups ts cs n) (map slot_of vs)) x r z
-      pub fits : fit (drop i cs) (map slot_of (drop i vs)) ≡ true
+      pub fits : fit true (drop i cs) (map slot_of (drop i vs)) ≡ true
       pub shallow : deepest levels_of (drop i vs) ≤ deepest levels_of vs
       pub kept : rules.codec y ≡ rules.codec x
 
-    pub onward_init : (ts : List Kind) (cs : List Component) (vs : List Value) (x : X) → fit cs (map slot_of vs) ≡ true → Onward ts cs vs x 0 x
+    pub onward_init : (ts : List Kind) (cs : List Component) (vs : List Value) (x : X) → fit true cs (map slot_of vs) ≡ true → Onward ts cs vs x 0 x
     onward_init ts cs vs x f = record { at = λ n le r z w. w; fits = f; shallow = omega arith; kept = refl }
 
     module _ {ts : List Kind} {cs : List Component} {vs : List Value} {x : X} {i : ℕ} {y : X} (h : Onward ts cs vs x i y) where
@@ -98,7 +98,7 @@ module _ {E X : Type 0} (rules : EncoderRules E X) where
       pub onward_index : i < length vs → i < length cs
       onward_index l = go cs vs i l h.fits
         where
-          go : (cs : List Component) (vs : List Value) (i : ℕ) → i < length vs → fit (drop i cs) (map slot_of (drop i vs)) ≡ true → i < length cs
+          go : (cs : List Component) (vs : List Value) (i : ℕ) → i < length vs → fit true (drop i cs) (map slot_of (drop i vs)) ≡ true → i < length cs
           go cs vs i l f = omega (arith, fit_length (drop i cs) (map slot_of (drop i vs)) f, length_slots (drop i vs), length-drop {A = Component}, length-drop {A = Value})
 
       module _ (d : Component) (v : Value) (lc : i < length cs) (ed : d ≡ get_or cs i d) (lv : i < length vs) (ev : v ≡ get_or vs i v) where
@@ -108,10 +108,10 @@ module _ {E X : Type 0} (rules : EncoderRules E X) where
         values_at : drop i vs ≡ v ∷ drop (i + 1) vs
         values_at = drop_more vs i v lv ∙ ap (λ w. w ∷ drop (i + 1) vs) (sym ev)
 
-        fits_both : (may_stand d.presence (slot_of v) ≡ true) × (fit (drop (i + 1) cs) (map slot_of (drop (i + 1) vs)) ≡ true)
-        fits_both = and_parts (may_stand d.presence (slot_of v)) (fit (drop (i + 1) cs) (map slot_of (drop (i + 1) vs))) (rw (components_at, values_at) at h.fits)
+        fits_both : (may_stand true d.presence (slot_of v) ≡ true) × (fit true (drop (i + 1) cs) (map slot_of (drop (i + 1) vs)) ≡ true)
+        fits_both = and_parts (may_stand true d.presence (slot_of v)) (fit true (drop (i + 1) cs) (map slot_of (drop (i + 1) vs))) (rw (components_at, values_at) at h.fits)
 
-        pub onward_stands : may_stand d.presence (slot_of v) ≡ true
+        pub onward_stands : may_stand true d.presence (slot_of v) ≡ true
         onward_stands = fits_both.0
 
         -- the component at the place, and those behind it
@@ -159,7 +159,7 @@ module _ {E X : Type 0} (rules : EncoderRules E X) where
       unfolding normals
       onward_ended l = record { at = λ n le. h.at n le (Ok tt) y (ended n (drop i cs) (map slot_of (drop i vs)) (ap (map slot_of) (drop_all i vs l)) h.fits) }
         where
-          ended : (n : ℕ) (ds : List Component) (os : List (Option Content)) → os ≡ [] → fit ds os ≡ true → T.all (parts_at T.groups ts ds n) (normals (parts_at T.groups ts ds n) os) y (Ok tt) y
+          ended : (n : ℕ) (ds : List Component) (os : List (Option Content)) → os ≡ [] → fit true ds os ≡ true → T.all (parts_at T.groups ts ds n) (normals (parts_at T.groups ts ds n) os) y (Ok tt) y
           ended n [] [] e f = T.ended y
           ended n [] (o ∷ os) e f = absurd (cc)
           ended n (d ∷ ds) [] e f = absurd (cc)

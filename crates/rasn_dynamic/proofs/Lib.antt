@@ -2,6 +2,7 @@ pub mod Alphabets
 pub mod BagsReading
 pub mod Choosing
 pub mod Components
+pub mod SameDefaults
 pub mod Elements
 pub mod Given
 pub mod OneAddition

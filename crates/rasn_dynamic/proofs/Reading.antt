@@ -8,6 +8,7 @@ use Rattle.rasn_schema.specs.Schemas
 use Rattle.rasn_schema.specs.Schemas.{leaf, no_parts, Parts, part, required, Schema, TagTree}
 use Rattle.rasn_traits.specs.AdditionsRead.{AdditionOpenedToRead, AdditionsWell, FaultyAddition, FaultyAdditions, ReadsAddition, reads_added, ReadsAdditions, reads_further, reads_lacking, reads_no_more, ReadsNoAddition}
 use Rattle.rasn_traits.specs.Calls.{Answers, DecoderRules, DecodesWell, ReadsWell, Refuses}
+use Rattle.rasn_traits.specs.Boxes.{Held}
 use Rattle.rasn_traits.specs.Contents.{ContentsWell, OpenedContentsToRead}
 use Rattle.rasn_traits.specs.Presences.{left_out}
 use Rattle.rasn_traits.specs.Scopes.{FaultyPart, FaultyParts, faulty_required, ReadsPart, ReadsParts, reads_end, reads_left_out, reads_next, reads_required, reads_there}
@@ -221,3 +222,16 @@ module _ {E S : Type 0} {rules : DecoderRules E S} where
     pub octets_level : (s : S) (r : Result O E) (t : S) → OpenedContentsToRead rules opens s r t → IfOk r (λ o. rules.levels t ≡ rules.levels s)
     octets_level s (Ok o) t h = K.level s o t h
     octets_level s (Err e) t h = tt
+
+module _ {E S : Type 0} {rules : DecoderRules E S} (L : DecodesWell rules) (d : Content) where
+  -- a default that stands for a component behind the presence bit 0
+  pub default_taken : (c : Schema) (s m t : S) (r : Result Value E) → rules.marks s false m → Held rules slot_of (Some d) m r t
+      → Answers rules.memory (λ e. FaultyPart rules e (Schemas.default d) c) (ReadsPart rules (Schemas.default d) c) slot_of s r t
+  default_taken c s m t (Ok v) b h = rw (h.0, h.1) (reads_left_out refl b)
+  default_taken c s m t (Err e) b h = inl (L.marked.room s false m e b h)
+
+  -- and for an addition that isn't there
+  pub default_added : (k : TagTree) (c : Schema) (s m t : S) (r : Result Value E) → rules.adds c s None m → Held rules slot_of (Some d) m r t
+      → Answers rules.memory (λ e. FaultyAddition rules e k (Schemas.default d) c) (ReadsAddition rules (Schemas.default d) c) slot_of s r t
+  default_added k c s m t (Ok v) b h = rw (h.0, h.1) (reads_lacking refl b)
+  default_added k c s m t (Err e) b h = inl ((L.added c).room s None m e b h)

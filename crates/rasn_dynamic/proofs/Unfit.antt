@@ -23,13 +23,13 @@ use Rattle.rasn_dynamic.specs.declared.types.Kind.{Kind}
 use Rattle.rasn_dynamic.specs.declared.types.Kind.TheVariants.{Simple as SimpleKind, List as ListKind, SetOf, Record as RecordKind, Choice as ChoiceKind, Containing}
 use Rattle.rasn_dynamic.proofs.Places.{record_there}
 use Rattle.rasn_dynamic.specs.declared.types.Presence.{Presence}
-use Rattle.rasn_dynamic.specs.declared.types.Presence.TheVariants.{Group, Optional, Required}
+use Rattle.rasn_dynamic.specs.declared.types.Presence.TheVariants.{Default, Group, Optional, Required}
 use Rattle.rasn_dynamic.specs.declared.types.Record.{Record}
 use Rattle.rasn_dynamic.specs.Types.{added_count, behind, grouped, has_required, in_root, is_not_required, parts_at, parts_in, presence_of, required_in, record_schema, schema_at}
 use Rattle.rasn_dynamic.specs.Writes.{fit, may_stand}
 
 -- components that don't fit
-unfit_next : (g : Bool) (s : Schema) (p : Presence) (o : Option Content) (rest all : Bool) → (rest ≡ false → all ≡ false) → (may_stand p o && rest) ≡ false
+unfit_next : (g : Bool) (s : Schema) (p : Presence) (o : Option Content) (rest all : Bool) → (rest ≡ false → all ≡ false) → (may_stand false p o && rest) ≡ false
     → (may_be (presence_of g p) (normal_addition (presence_of g p) s o) && all) ≡ false
 unfolding settle
 unfit_next g s Optional None rest all ih f = ih f
@@ -39,15 +39,17 @@ unfit_next g s Required (Some v) rest all ih f = ih f
 unfit_next true s Group o rest all ih f = ih f
 unfit_next false s Group None rest all ih f = ih f
 unfit_next false s Group (Some v) rest all ih f = ih f
+unfit_next g s (Default d) None rest all ih f = ih f
+unfit_next g s (Default d) (Some v) rest all ih f = ih f
 
-unfit_values : (g : Component → Bool) (s : ℕ → Schema) (cs : List Component) (os : List (Option Content)) → fit cs os ≡ false → all_may_be (parts_in g s cs) (normals (parts_in g s cs) os) ≡ false
+unfit_values : (g : Component → Bool) (s : ℕ → Schema) (cs : List Component) (os : List (Option Content)) → fit false cs os ≡ false → all_may_be (parts_in g s cs) (normals (parts_in g s cs) os) ≡ false
 unfolding normals
 unfit_values g s [] [] e = absurd (cc)
 unfit_values g s [] (o ∷ os) e = refl
 unfit_values g s (c ∷ cs) [] e = refl
 unfit_values g s (c ∷ cs) (o ∷ os) e =
     ap (all_may_be (parts_in g s (c ∷ cs))) (addition_normal (leaf (tag_of c.tag)) (presence_of (g c) c.presence) (s c.of) (parts_in g s cs) o os)
-    ∙ unfit_next (g c) (s c.of) c.presence o (fit cs os) (all_may_be (parts_in g s cs) (normals (parts_in g s cs) os)) (unfit_values g s cs os) e
+    ∙ unfit_next (g c) (s c.of) c.presence o (fit false cs os) (all_may_be (parts_in g s cs) (normals (parts_in g s cs) os)) (unfit_values g s cs os) e
 
 left_false : (c d : Bool) → c ≡ false → (c && d) ≡ false
 left_false c d e = ap (λ z. z && d) e
@@ -66,12 +68,12 @@ record_parts ts r os xs n =
     ∙ ap₂ (λ a b. all_may_be ps a && all_may_be qs b) (slots-as_slots (normals ps os)) (slots-as_slots (normals qs xs))
 
 -- root components that don't fit, and additions
-pub unfit_root : (ts : List Kind) (r : Record) (os xs : List (Option Content)) → fit r.root.items os ≡ false
+pub unfit_root : (ts : List Kind) (r : Record) (os xs : List (Option Content)) → fit false r.root.items os ≡ false
     → (k n : ℕ) → suc k ≤ n → is_of_kind (record_schema ts r n) (normal (record_schema ts r n) (record_value os xs)) ≡ false
 unfit_root ts r os xs e k zero le = absurd (omega (arith, le))
 unfit_root ts r os xs e k (suc n) le = record_parts ts r os xs n ∙ left_false _ _ (unfit_values in_root (λ j. schema_at ts j n) r.root.items os e)
 
-pub unfit_added : (ts : List Kind) (r : Record) (os xs : List (Option Content)) → fit (behind r.additions) xs ≡ false
+pub unfit_added : (ts : List Kind) (r : Record) (os xs : List (Option Content)) → fit false (behind r.additions) xs ≡ false
     → (k n : ℕ) → suc k ≤ n → is_of_kind (record_schema ts r n) (normal (record_schema ts r n) (record_value os xs)) ≡ false
 unfit_added ts r os xs e k zero le = absurd (omega (arith, le))
 unfit_added ts r os xs e k (suc n) le = record_parts ts r os xs n ∙ right_false (all_may_be (parts_at in_root ts r.root.items n) (normals (parts_at in_root ts r.root.items n) os)) _ (unfit_values (grouped ts) (λ j. schema_at ts j n) (behind r.additions) xs e)
@@ -89,6 +91,7 @@ bit_there g Required = refl
 bit_there g Optional = refl
 bit_there true Group = refl
 bit_there false Group = refl
+bit_there g (Default d) = refl
 
 bits_there : (g : Component → Bool) (s : ℕ → Schema) (cs : List Component) → count_by (λ c. is_not_required c.presence) cs ≡ presence_bits (parts_in g s cs)
 bits_there g s [] = refl

@@ -4,6 +4,7 @@ use Rattle.std.specs.Prelude.{count_by, is_some, nat_lt, option_map, slice_get, 
 use Rattle.std.specs.Global.{Vec}
 use Rattle.rasn_types.specs.Alphabets.{bmp, ia5, numeric, printable, visible}
 use Rattle.rasn_types.specs.Contents.{other, utf8}
+use Rattle.rasn_types.specs.Values.{Value, truth, nothing, whole, octets, characters}
 use Rattle.rasn_constraints.specs.Bounds.{unbounded}
 use Rattle.rasn_constraints.specs.Constraints.{effective}
 use Rattle.rasn_constraints.specs.declared.constraints.Bounded.{Bounded}
@@ -14,9 +15,11 @@ use Rattle.rasn_schema.specs.Enumerations.{is_extensible, items_of}
 use Rattle.rasn_schema.specs.Fields.{tag_of}
 use Rattle.rasn_schema.specs.Forms.{bit_schema, character_schema, is_size_marked}
 use Rattle.rasn_schema.specs.Forms.{named_bit_schema, number_schema, octet_schema, size_of}
+use Rattle.rasn_schema.specs.Lists.{list_value}
 use Rattle.rasn_schema.specs.Records.{record_at}
 use Rattle.rasn_schema.specs.Schemas
 use Rattle.rasn_schema.specs.Schemas.{Schema, Parts, no_parts, part, leaf, listed}
+use Rattle.rasn_traits.specs.Counted.{item_at}
 use Rattle.rasn_schema.specs.declared.items.ItemCounts.{ItemCounts}
 use Rattle.rasn_schema.specs.declared.items.Place.{Place}
 use Rattle.rasn_schema.specs.declared.items.Place.TheVariants.{Root, Added}
@@ -28,7 +31,9 @@ use Rattle.rasn_dynamic.specs.declared.types.Choice.{Choice}
 use Rattle.rasn_dynamic.specs.declared.types.Component.{Component}
 use Rattle.rasn_dynamic.specs.declared.types.Items.{Items}
 use Rattle.rasn_dynamic.specs.declared.types.Presence.{Presence}
-use Rattle.rasn_dynamic.specs.declared.types.Presence.TheVariants.{Required, Optional, Group}
+use Rattle.rasn_dynamic.specs.declared.types.DefaultValue.{DefaultValue}
+use Rattle.rasn_dynamic.specs.declared.types.DefaultValue.TheVariants
+use Rattle.rasn_dynamic.specs.declared.types.Presence.TheVariants.{Required, Optional, Group, Default}
 use Rattle.rasn_dynamic.specs.declared.types.Record.{Record}
 use Rattle.rasn_dynamic.specs.declared.types.Simple.{Simple}
 use Rattle.rasn_dynamic.specs.declared.types.Simple.TheVariants.{BitString, Boolean, Characters, Enumerated}
@@ -85,12 +90,23 @@ simple_schema Text = Schemas.text other
 simple_schema ObjectIdentifier = Schemas.identifier
 simple_schema Open = Schemas.any
 
+-- the value that a default is
+abbrev pub default_value : DefaultValue → Value
+default_value (TheVariants.Boolean b) = truth b
+default_value TheVariants.Null = nothing
+default_value (TheVariants.Integer z) = whole z
+default_value (TheVariants.Item p) = item_at p
+default_value (TheVariants.Octets os) = octets os
+default_value (TheVariants.Characters cs) = characters cs
+default_value TheVariants.NoElements = list_value []
+
 -- whether a component has to be there, by whether it may be a group; a group that may not is one that may be absent
 abbrev pub presence_of : Bool → Presence → Schemas.Presence
 presence_of b Required = Schemas.required
 presence_of b Optional = Schemas.optional
 presence_of true Group = Schemas.group
 presence_of false Group = Schemas.optional
+presence_of b (Default d) = Schemas.default (default_value d)
 
 -- no root component is a group
 abbrev pub in_root : Component → Bool
@@ -101,6 +117,7 @@ abbrev pub is_not_required : Presence → Bool
 is_not_required Required = false
 is_not_required Optional = true
 is_not_required Group = true
+is_not_required (Default d) = true
 
 -- whether a root component of a record has to be there
 abbrev pub has_required : Record → Bool

@@ -1,5 +1,5 @@
 -- What the calls owe that write components and additions of a table of types.
-use Rattle.std.specs.Prelude.{◌≡◌, ℕ, Bool, true, false, ◌&&◌, List, [], ◌∷◌, Option, Some, None}
+use Rattle.std.specs.Prelude.{◌≡◌, ℕ, Bool, true, false, not, is_some, ◌&&◌, ◌||◌, List, [], ◌∷◌, Option, Some, None}
 use Rattle.std.specs.Prelude.{Result, Ok, Err, OnErr}
 use Rattle.rasn_types.specs.Values.{Side, Value}
 use Rattle.rasn_schema.specs.Normal.{normal, settle}
@@ -15,22 +15,22 @@ use Rattle.rasn_dynamic.specs.declared.types.Alternative.{Alternative}
 use Rattle.rasn_dynamic.specs.declared.types.Choice.{Choice}
 use Rattle.rasn_dynamic.specs.declared.types.Component.{Component}
 use Rattle.rasn_dynamic.specs.declared.types.Presence.{Presence}
-use Rattle.rasn_dynamic.specs.declared.types.Presence.TheVariants.{Required, Optional, Group}
+use Rattle.rasn_dynamic.specs.declared.types.Presence.TheVariants.{Required, Optional, Group, Default}
 use Rattle.rasn_dynamic.specs.Types.{alternative_counts, standing}
 
--- whether a component may be absent, or there, as it is
-abbrev pub may_stand : Presence → Option Value → Bool
-may_stand Required None = false
-may_stand Required (Some v) = true
-may_stand Optional s = true
-may_stand Group s = true
+-- whether a component may be absent, or there, as it is; and whether one with a default has to be there is told
+abbrev pub may_stand : Bool → Presence → Option Value → Bool
+may_stand b Required s = is_some s
+may_stand b Optional s = true
+may_stand b Group s = true
+may_stand b (Default d) s = is_some s || not b
 
 -- whether what stands for components is as many, and there where it has to be
-abbrev pub fit : List Component → List (Option Value) → Bool
-fit [] [] = true
-fit [] (s ∷ ss) = false
-fit (c ∷ cs) [] = false
-fit (c ∷ cs) (s ∷ ss) = may_stand c.presence s && fit cs ss
+abbrev pub fit : Bool → List Component → List (Option Value) → Bool
+fit b [] [] = true
+fit b [] (s ∷ ss) = false
+fit b (c ∷ cs) [] = false
+fit b (c ∷ cs) (s ∷ ss) = may_stand b c.presence s && fit b cs ss
 
 -- A call that writes one component, or one addition, at each depth that holds it: an error leaves the encoder failed,
 -- and the variant stays.

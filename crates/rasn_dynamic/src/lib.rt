@@ -4,6 +4,7 @@
 
 mod characters;
 pub mod copying;
+pub mod defaults;
 pub mod read;
 pub mod read_simple;
 pub mod types;

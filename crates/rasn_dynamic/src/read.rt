@@ -6,20 +6,21 @@ ghost use Rattle.rasn_schema.specs.Choices.{one_level_in};
 ghost use Rattle.rasn_schema.specs.Fields.{tag_of};
 ghost use Rattle.rasn_schema.specs.Forms.{is_size_marked, size_of};
 ghost use Rattle.rasn_schema.specs.Lists.{list_at, list_value};
-ghost use Rattle.rasn_schema.specs.Schemas.{leaf, optional, Schema};
+ghost use Rattle.rasn_schema.specs.Schemas.{default, leaf, optional, Schema};
 ghost use Rattle.rasn_traits.specs.AdditionsRead.{TakesAddition, TakesAdditions};
 ghost use Rattle.rasn_traits.specs.Boxes.{Holds};
 ghost use Rattle.rasn_traits.specs.Calls.{Reads};
 ghost use Rattle.rasn_traits.specs.Optionals.{ReadsComponent};
 ghost use Rattle.rasn_dynamic.specs.OneAddition.{ReadsOneAddition};
 ghost use Rattle.rasn_dynamic.specs.Reads.{OpensNext, OpensWithin, ReadsBoxed, ReadsValue, TakesRoot};
-ghost use Rattle.rasn_dynamic.specs.Types.{choice_of, contained_at, grouped, in_root, of_size, parts_at, plain_at};
-ghost use Rattle.rasn_dynamic.specs.Types.{presence_of, record_schema, schema_at, standing};
+ghost use Rattle.rasn_dynamic.specs.Types.{choice_of, contained_at, default_value, grouped, in_root, of_size};
+ghost use Rattle.rasn_dynamic.specs.Types.{parts_at, plain_at, presence_of, record_schema, schema_at, standing};
 ghost use Rattle.rasn_dynamic.specs.Values.{slot_of, value_of};
 
 use crate::read_simple::{decode_nothing, decode_simple};
 use crate::types::{
-    Choice, Component, Kind, Presence, Record, SizeBounds, kind_at, presence_bit_count,
+    Choice, Component, DefaultValue, Kind, Presence, Record, SizeBounds, kind_at,
+    presence_bit_count,
 };
 use crate::values::Value;
 use rasn_constraints::constraints::{Constraint, Constraints};
@@ -219,10 +220,11 @@ fn decode_component<D: CountedDecoder>(
     ensures { ReadsComponent D.rules (presence_of false component.now.presence)
         (schema_at kinds.now component.now.of (D.rules.levels decoder.old)) slot_of decoder.old result decoder.new }
 {
-    match component.presence {
+    match &component.presence {
         Presence::Required => decode_value(decoder, kinds, component.of),
         Presence::Optional => decode_optional(decoder, kinds, component.of),
         Presence::Group => decode_optional(decoder, kinds, component.of),
+        Presence::Default(otherwise) => decode_default(decoder, kinds, component.of, otherwise),
     }
 }
 
@@ -240,6 +242,34 @@ fn decode_optional<D: CountedDecoder>(
         return Ok(Value::Absent);
     }
     decode_value(decoder, kinds, place)
+}
+
+/// Reads a component with a default, which it is where it isn't there.
+#[cycle(reading)]
+fn decode_default<D: CountedDecoder>(
+    decoder: &mut D,
+    kinds: &[Kind],
+    place: usize,
+    otherwise: &DefaultValue,
+) -> Result<Value, D::Error>
+    ensures { ReadsComponent D.rules (default (default_value otherwise.now))
+        (schema_at kinds.now place (D.rules.levels decoder.old)) slot_of decoder.old result decoder.new }
+{
+    let there = decoder.next_presence()?;
+    if !there {
+        return made(decoder, otherwise);
+    }
+    decode_value(decoder, kinds, place)
+}
+
+/// The value of a default, in memory of the decoder's.
+fn made<D: CountedDecoder>(decoder: &mut D, otherwise: &DefaultValue) -> Result<Value, D::Error>
+    ensures { Holds D.rules slot_of (Some (default_value otherwise.now)) decoder.old result decoder.new }
+{
+    match otherwise.value(decoder.alloc()) {
+        Ok(value) => Ok(value),
+        Err(_) => Err(decoder.out_of_memory()),
+    }
 }
 
 /// Reads a CHOICE.
@@ -335,10 +365,11 @@ fn decode_addition<D: CountedDecoder>(
     if value.is_there() {
         return Ok(value);
     }
-    match component.presence {
+    match &component.presence {
         Presence::Required => Err(decoder.required_extension_not_present(component.tag)),
         Presence::Optional => Ok(value),
         Presence::Group => Ok(value),
+        Presence::Default(otherwise) => made(decoder, otherwise),
     }
 }
 

@@ -8,7 +8,8 @@ ghost use Rattle.rasn_dynamic.specs.Types.{is_not_required, required_in, schema_
 
 use rasn_constraints::constraints::{Bounded, Extensible};
 use rasn_schema::items::{ItemCounts, Place};
-use rasn_types::types::Tag;
+use rasn_strings::strings::BmpString;
+use rasn_types::types::{Any, Integer, Tag};
 
 /// The bounds of a number, and whether they have an extension marker (X.680 51.4, 52).
 pub type NumberBounds = Extensible<Bounded<i128>>;
@@ -91,6 +92,27 @@ pub enum Presence {
     /// It is an addition group (X.680 25.1): its type is a SEQUENCE, and one that holds nothing is absent (X.691 19.9).
     /// In the root, and where its type isn't a SEQUENCE, it is taken as `Optional`.
     Group,
+    /// It is its default where it isn't there (X.680 25.9). A value of a record always has it.
+    Default(DefaultValue),
+}
+
+/// The default of a component.
+#[derive(Drop)]
+pub enum DefaultValue {
+    /// Of BOOLEAN.
+    Boolean(bool),
+    /// Of NULL.
+    Null,
+    /// Of INTEGER.
+    Integer(Integer),
+    /// Of ENUMERATED: where its item stands.
+    Item(Place),
+    /// Of each type whose values are octets.
+    Octets(Any),
+    /// Of a character string.
+    Characters(BmpString),
+    /// Of SEQUENCE OF: without elements.
+    NoElements,
 }
 
 /// A component of a record.

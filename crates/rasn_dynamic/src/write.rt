@@ -1,24 +1,26 @@
 //! How values are written by a table of types.
 
-ghost use Rattle.std.specs.Prelude.{◌≡◌, ℕ, suc, true, false, is_some, map, slice_get, Some};
+ghost use Rattle.std.specs.Prelude.{◌≡◌, ℕ, suc, max, true, false, is_some, map, slice_get, Some};
 ghost use Rattle.rasn_types.specs.Values.{alternative, bag_of};
 ghost use Rattle.rasn_schema.specs.Bags.{set_at};
 ghost use Rattle.rasn_schema.specs.Choices.{one_level_in};
 ghost use Rattle.rasn_schema.specs.Forms.{is_size_marked, size_of};
 ghost use Rattle.rasn_schema.specs.Lists.{deepest, list_at, list_value};
-ghost use Rattle.rasn_schema.specs.Schemas.{optional, Schema};
+ghost use Rattle.rasn_schema.specs.Records.{record_value};
+ghost use Rattle.rasn_schema.specs.Schemas.{default, optional, Schema};
 ghost use Rattle.rasn_traits.specs.Additions.{WritesAdditions, WrittenAddition};
 ghost use Rattle.rasn_traits.specs.Calls.{Encodes};
 ghost use Rattle.rasn_traits.specs.Counted.{index_in, IsGroupOf, side_of};
 ghost use Rattle.rasn_traits.specs.Scopes.{WritesParts, WrittenPart};
 ghost use Rattle.rasn_dynamic.specs.declared.types.Presence.TheVariants.{Group};
-ghost use Rattle.rasn_dynamic.specs.Types.{choice_of, contained_at, grouped, in_root, of_size, parts_at, plain_at};
-ghost use Rattle.rasn_dynamic.specs.Types.{presence_of, record_schema, required_in, schema_at};
+ghost use Rattle.rasn_dynamic.specs.Types.{choice_of, contained_at, default_value, grouped, in_root, of_size};
+ghost use Rattle.rasn_dynamic.specs.Types.{parts_at, plain_at, presence_of, record_schema, required_in, schema_at};
 ghost use Rattle.rasn_dynamic.specs.Values.{levels_of, slot_of, value_of};
 ghost use Rattle.rasn_dynamic.specs.Writes.{fit, may_stand, GivesOpen, GivesSettled, OpensChosen, WritesOne};
 
 use crate::types::{
-    Choice, Component, Kind, Presence, Record, SizeBounds, kind_at, presence_bit_count, required_in,
+    Choice, Component, DefaultValue, Kind, Presence, Record, SizeBounds, kind_at,
+    presence_bit_count, required_in,
 };
 use crate::values::Value;
 use crate::write_simple::encode_simple;
@@ -201,7 +203,7 @@ fn encode_members<E: CountedEncoder>(
     encoder.close_set_of(bag)
 }
 
-/// Writes a SEQUENCE by its root components and its additions.
+/// Writes a SEQUENCE, where its components are as many as they have to be, and there where they have to be.
 #[cycle(writing)]
 fn encode_record<E: CountedEncoder>(
     encoder: &mut E,
@@ -219,13 +221,39 @@ fn encode_record<E: CountedEncoder>(
     let added_values: &[Value] = added;
     let components = record.root();
     let additions = record.behind();
-    let root_fits = fit(components, root_values);
+    let root_fits = fit(components, root_values, false);
     if !root_fits {
         return encoder.refuse_other();
     }
-    let added_fits = fit(additions, added_values);
+    let added_fits = fit(additions, added_values, false);
     if !added_fits {
         return encoder.refuse_other();
+    }
+    encode_fields(encoder, kinds, record, root_values, added_values)
+}
+
+/// Writes a SEQUENCE by its root components and its additions. One with a default that isn't told has no encoding.
+#[cycle(writing)]
+fn encode_fields<E: CountedEncoder>(
+    encoder: &mut E,
+    kinds: &[Kind],
+    record: &Record,
+    root_values: &[Value],
+    added_values: &[Value],
+) -> Result<(), E::Error>
+    ensures { Encodes E.rules (record_schema kinds.now record.now)
+        (suc (max (deepest levels_of root_values.now) (deepest levels_of added_values.now)))
+        (record_value (map slot_of root_values.now) (map slot_of added_values.now)) encoder.old result encoder.new }
+{
+    let components = record.root();
+    let additions = record.behind();
+    let root_told = fit(components, root_values, true);
+    if !root_told {
+        return encoder.refuse_out_of_memory();
+    }
+    let added_told = fit(additions, added_values, true);
+    if !added_told {
+        return encoder.refuse_out_of_memory();
     }
     let bits = presence_bit_count(components);
     let count = record.added_count();
@@ -243,7 +271,7 @@ fn encode_components<E: CountedEncoder>(
     components: &[Component],
     values: &[Value],
 ) -> Result<(), E::Error>
-    requires { fit components.now (map slot_of values.now) ≡ true }
+    requires { fit true components.now (map slot_of values.now) ≡ true }
     ensures { WritesParts E.rules (parts_at in_root kinds.now components.now) (deepest levels_of values.now)
         (map slot_of values.now) encoder.old result encoder.new }
 {
@@ -261,15 +289,18 @@ fn encode_component<E: CountedEncoder>(
     component: &Component,
     value: &Value,
 ) -> Result<(), E::Error>
-    ensures { may_stand component.now.presence (slot_of value.now) ≡ true →
+    ensures { may_stand true component.now.presence (slot_of value.now) ≡ true →
         WritesOne E.rules (WrittenPart E.rules) (presence_of false component.now.presence)
         (schema_at kinds.now component.now.of) (levels_of value.now) (slot_of value.now)
         encoder.old result encoder.new }
 {
-    match component.presence {
+    match &component.presence {
         Presence::Required => encode_value(encoder, kinds, component.of, value),
         Presence::Optional => encode_optional(encoder, kinds, component.of, value),
         Presence::Group => encode_optional(encoder, kinds, component.of, value),
+        Presence::Default(otherwise) => {
+            encode_default(encoder, kinds, component.of, otherwise, value)
+        },
     }
 }
 
@@ -287,6 +318,27 @@ fn encode_optional<E: CountedEncoder>(
     let there = value.is_there();
     encoder.set_presence(there)?;
     if !there {
+        return Ok(());
+    }
+    encode_value(encoder, kinds, place, value)
+}
+
+/// Writes a component with a default: the presence bit 0 where it is the default, and else its value behind a bit 1.
+#[cycle(writing)]
+fn encode_default<E: CountedEncoder>(
+    encoder: &mut E,
+    kinds: &[Kind],
+    place: usize,
+    otherwise: &DefaultValue,
+    value: &Value,
+) -> Result<(), E::Error>
+    ensures { is_some (slot_of value.now) ≡ true →
+        WritesOne E.rules (WrittenPart E.rules) (default (default_value otherwise.now)) (schema_at kinds.now place)
+        (levels_of value.now) (slot_of value.now) encoder.old result encoder.new }
+{
+    let differs = !value.is_default(otherwise);
+    encoder.set_presence(differs)?;
+    if !differs {
         return Ok(());
     }
     encode_value(encoder, kinds, place, value)
@@ -353,7 +405,7 @@ fn encode_additions<E: CountedEncoder>(
     components: &[Component],
     values: &[Value],
 ) -> Result<(), E::Error>
-    requires { fit components.now (map slot_of values.now) ≡ true }
+    requires { fit true components.now (map slot_of values.now) ≡ true }
     ensures { WritesAdditions E.rules (parts_at (grouped kinds.now) kinds.now components.now)
         (deepest levels_of values.now) (map slot_of values.now) encoder.old result encoder.new }
 {
@@ -371,7 +423,7 @@ fn encode_addition<E: CountedEncoder>(
     component: &Component,
     value: &Value,
 ) -> Result<(), E::Error>
-    ensures { may_stand component.now.presence (slot_of value.now) ≡ true →
+    ensures { may_stand true component.now.presence (slot_of value.now) ≡ true →
         WritesOne E.rules (WrittenAddition E.rules)
         (presence_of (grouped kinds.now component.now) component.now.presence)
         (schema_at kinds.now component.now.of) (levels_of value.now) (slot_of value.now)
@@ -380,10 +432,32 @@ fn encode_addition<E: CountedEncoder>(
     if !value.is_there() {
         return encoder.skip_addition();
     }
-    match component.presence {
+    match &component.presence {
         Presence::Group => encode_group(encoder, kinds, component.of, value),
+        Presence::Default(otherwise) => {
+            encode_differing(encoder, kinds, component.of, otherwise, value)
+        },
         _ => encode_open(encoder, kinds, component.of, value),
     }
+}
+
+/// Gives an addition with a default: as absent where it is the default, and else as its value in an open type.
+#[cycle(writing)]
+fn encode_differing<E: CountedEncoder>(
+    encoder: &mut E,
+    kinds: &[Kind],
+    place: usize,
+    otherwise: &DefaultValue,
+    value: &Value,
+) -> Result<(), E::Error>
+    ensures { is_some (slot_of value.now) ≡ true →
+        WritesOne E.rules (WrittenAddition E.rules) (default (default_value otherwise.now)) (schema_at kinds.now place)
+        (levels_of value.now) (slot_of value.now) encoder.old result encoder.new }
+{
+    if value.is_default(otherwise) {
+        return encoder.skip_addition();
+    }
+    encode_open(encoder, kinds, place, value)
 }
 
 /// Gives an addition as an addition group, where its type is a SEQUENCE.
@@ -439,26 +513,29 @@ fn encode_open<E: CountedEncoder>(
     encoder.close_addition(outside)
 }
 
-/// Whether values are as many as components, and there where they have to be.
-fn fit(components: &[Component], values: &[Value]) -> bool
-    ensures { result ≡ fit components.now (map slot_of values.now) }
+/// Whether values are as many as components, and there where they have to be: with a default too, or not.
+fn fit(components: &[Component], values: &[Value], defaults: bool) -> bool
+    ensures { result ≡ fit defaults components.now (map slot_of values.now) }
 {
     match components {
         [] => values.is_empty(),
         [component, others @ ..] => match values {
             [] => false,
-            [value, behind @ ..] => may_stand(&component.presence, value) && fit(others, behind),
+            [value, behind @ ..] => {
+                may_stand(&component.presence, value, defaults) && fit(others, behind, defaults)
+            }
         },
     }
 }
 
 /// Whether a component may be absent, or there, as it is.
-fn may_stand(presence: &Presence, value: &Value) -> bool
-    ensures { result ≡ may_stand presence.now (slot_of value.now) }
+fn may_stand(presence: &Presence, value: &Value, defaults: bool) -> bool
+    ensures { result ≡ may_stand defaults presence.now (slot_of value.now) }
 {
     match presence {
         Presence::Required => value.is_there(),
         Presence::Optional => true,
         Presence::Group => true,
+        Presence::Default(_) => value.is_there() || !defaults,
     }
 }

@@ -2,6 +2,7 @@
 
 ghost use Rattle.std.specs.Prelude.{◌≡◌, ◌<◌, ◌+◌};
 
+use lawful_types::fault::Reason as Broken;
 use std::alloc::{AllocError, AllocFailed};
 use thiserror::Error;
 
@@ -74,6 +75,9 @@ pub enum Reason {
     /// A lower bound is above the upper one.
     #[error("a bound is above the other")]
     CrossedBounds,
+    /// The bounds of a number are more than `i128::MAX` apart.
+    #[error("bounds are too far apart")]
+    FarBounds,
     /// The ranges of an alphabet don't ascend.
     #[error("ranges of an alphabet don't ascend")]
     UnorderedAlphabet,
@@ -98,6 +102,12 @@ pub enum Reason {
     /// Tags of a SET or CHOICE don't ascend or aren't different.
     #[error("tags are the same or don't ascend")]
     UnorderedTags,
+    /// 65536 or more root components of a SEQUENCE or SET may be absent or have a default.
+    #[error("too many components may be absent")]
+    ManyPresenceBits,
+    /// A default isn't a value of its component's type (X.680 25.9), or not in normal form.
+    #[error("a default is no value of its type")]
+    OtherDefault,
     /// A CHOICE without a tag has no alternative with one, or CHOICEs without tags stand in one another more than 255
     /// deep.
     #[error("a CHOICE has no tag")]
@@ -105,7 +115,14 @@ pub enum Reason {
     /// What a group names isn't a SEQUENCE without a marker.
     #[error("a group is no SEQUENCE without a marker")]
     NotGroup,
-    /// What the codec has only on pages, or not at all: a default, SET, a time, DATE, UniversalString.
+    /// A word isn't hexadecimal digits, two an octet.
+    #[error("a word is no hexadecimal octets")]
+    NotHexadecimal,
+    /// Numbers aren't the arcs of an OBJECT IDENTIFIER.
+    #[error("numbers are no OBJECT IDENTIFIER")]
+    NotIdentifier,
+    /// What the codec has only on pages, or not at all: a default that holds values or bits, a time, DATE,
+    /// UniversalString.
     #[error("this isn't data yet")]
     NotHeld,
     /// A value holds values more than 255 deep.
@@ -128,5 +145,17 @@ impl From<AllocError> for Reason {
 impl<T: Drop> From<AllocFailed<T>> for Reason {
     fn from(_failed: AllocFailed<T>) -> Reason {
         Reason::OutOfMemory
+    }
+}
+
+impl From<Broken> for Reason {
+    fn from(reason: Broken) -> Reason {
+        match reason {
+            Broken::Bounds => Reason::FarBounds,
+            Broken::Size => Reason::CrossedBounds,
+            Broken::PresenceBits => Reason::ManyPresenceBits,
+            Broken::Tags => Reason::UnorderedTags,
+            Broken::Default => Reason::OtherDefault,
+        }
     }
 }

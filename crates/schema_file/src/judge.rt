@@ -134,6 +134,18 @@ fn judge_names(
     names_differ(found)
 }
 
+/// Refuses a SET of which two components have one tag (X.680 27.3).
+pub fn judge_set(alloc: Global, record: &Record) -> Result<(), Reason> {
+    let mut tags = Vec::new(alloc);
+    for component in record.root.iter() {
+        tags.push(component.tag)?;
+    }
+    for component in record.behind() {
+        tags.push(component.tag)?;
+    }
+    tags_differ(tags)
+}
+
 /// Judges the alternatives of a CHOICE.
 fn judge_choice(alloc: Global, kinds: &[Kind], choice: &Choice) -> Result<(), Reason>
     ensures { OnOk result (ChoiceIsInside (length kinds.now) choice.now) }

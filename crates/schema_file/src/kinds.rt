@@ -19,8 +19,7 @@ pub fn kind(alloc: Global, line: &str, types: usize) -> Result<Kind, Reason> {
 /// What the words of a line say of a type.
 fn kind_in(alloc: Global, words: &mut Words<'_>, types: usize) -> Result<Kind, Reason> {
     let kind = match words.word()? {
-        "sequence" => Kind::Record(record(alloc, words)?),
-        "set" => return Err(Reason::NotHeld),
+        "sequence" | "set" => Kind::Record(record(alloc, words)?),
         "choice" => Kind::Choice(choice(alloc, words)?),
         "sequence_of" => Kind::List(words.count()?, words.size()?),
         "set_of" => Kind::SetOf(words.count()?, words.size()?),

@@ -1,12 +1,14 @@
 //! From a schema file's text to a table of types.
 
-ghost use Rattle.std.specs.Prelude.{◌≡◌, ◌≤◌, ◌<◌, ◌+◌, length, IfOk, IfSome, OnOk, IfErr};
+ghost use Rattle.std.specs.Prelude.{◌≡◌, ◌≤◌, ◌<◌, ◌+◌, ℕ, length, IfOk, IfSome, OnOk, IfErr};
 ghost use Rattle.std.specs.List.{All};
+ghost use Rattle.rasn_schema.specs.Lawful.{IsLawfulType};
+ghost use Rattle.rasn_dynamic.specs.Types.{schema_at};
 ghost use Rattle.schema_file.specs.Inside.{PlacesAreInside, KindIsInside};
 ghost use Rattle.schema_file.specs.Lines.{line_feeds, IsAmong, IsLineOf};
 
 use crate::error::{LoadError, Reason};
-use crate::judge::judge;
+use crate::judge::{judge, judge_set};
 use crate::kinds::kind;
 use crate::order::order;
 use crate::words::Words;
@@ -25,13 +27,14 @@ struct Counts {
     roots: usize,
 }
 
-/// The table of types that a schema file's text says. Types are at the places that it gives them, and have the names
-/// `MODULE.TYPE`.
+/// The table of types that a schema file's text says, each of which is lawful. Types are at the places that it gives
+/// them, and have the names `MODULE.TYPE`.
 ///
-/// Refuses any other text, by the number of a line and what is wrong there. Memory and time are in proportion to the
-/// text.
+/// Refuses any other text, by the number of a line and what is wrong there. Memory is in proportion to the text, and so
+/// is time, but for the tags of each CHOICE, of which two are compared with one another.
 pub fn load(alloc: Global, text: &[u8]) -> Result<Types, LoadError>
-    ensures ok { IfOk result PlacesAreInside }
+    ensures inside { IfOk result PlacesAreInside }
+    ensures lawful { IfOk result (λ types. (place : ℕ) → IsLawfulType (schema_at types.kinds.items place)) }
     ensures err { IfErr result (λ e. IsLineOf text.now e.line) }
 {
     let octets = text.len();
@@ -41,11 +44,15 @@ pub fn load(alloc: Global, text: &[u8]) -> Result<Types, LoadError>
     read_modules(&lines, counts)?;
     let mut kinds = read_kinds(alloc, &lines, counts)?;
     let names = read_roots(alloc, &lines, counts)?;
-    if order(alloc, &mut kinds).is_err() {
+    let sets = sets_in(alloc, &lines, counts)?;
+    if order(alloc, &mut kinds, &sets).is_err() {
         return Err(LoadError::out_of_memory());
     }
     judge_all(alloc, &kinds, counts, octets)?;
-    Ok(Types { kinds, names })
+    judge_sets(alloc, &kinds, &sets, counts)?;
+    let types = Types { kinds, names };
+    judge_laws(&types, counts)?;
+    Ok(types)
 }
 
 /// The text that octets are.
@@ -186,6 +193,21 @@ fn push_kind(alloc: Global, line: &str, types: usize, kinds: &mut Vec<Kind>) -> 
     Ok(())
 }
 
+/// The places of the lines of types that say a SET.
+fn sets_in(alloc: Global, lines: &[&str], counts: Counts) -> Result<Vec<usize>, LoadError>
+    requires { counts.modules + counts.types + counts.roots + 2 ≡ length lines.now }
+    ensures ok { IfOk result (λ sets. All (λ place. place < counts.types) sets.items) }
+    ensures err { IfErr result (λ e. e.line ≡ 1) }
+{
+    let mut sets = Vec::new(alloc);
+    for place in 0..counts.types {
+        if lines[1 + counts.modules + place].starts_with("set ") && sets.push(place).is_err() {
+            return Err(LoadError::out_of_memory());
+        }
+    }
+    Ok(sets)
+}
+
 /// The names that lines say.
 fn read_roots(alloc: Global, lines: &[&str], counts: Counts) -> Result<Vec<Name>, LoadError>
     requires { counts.modules + counts.types + counts.roots + 2 ≡ length lines.now }
@@ -256,4 +278,40 @@ fn judge_all(alloc: Global, kinds: &[Kind], counts: Counts, octets: usize) -> Re
         }
     }
     Ok(())
+}
+
+/// Judges the tags of the SETs, which stand at some places of a table.
+fn judge_sets(
+    alloc: Global,
+    kinds: &[Kind],
+    sets: &[usize],
+    counts: Counts,
+) -> Result<(), LoadError>
+    requires counted { counts.modules + counts.types + 2 ≤ usize.MAX }
+    requires sets { All (λ place. place < counts.types) sets.now }
+    ensures { IfErr result (λ e. IsAmong (counts.modules + counts.types + 1) e.line) }
+{
+    for place in sets {
+        if let Some(Kind::Record(record)) = kinds.get(*place) {
+            if let Err(reason) = judge_set(alloc, record) {
+                return Err(LoadError::at(1 + counts.modules + *place, reason));
+            }
+        }
+    }
+    Ok(())
+}
+
+/// Refuses a table in which a type isn't lawful.
+fn judge_laws(types: &Types, counts: Counts) -> Result<(), LoadError>
+    requires { counts.modules + length types.now.kinds.items + 2 ≤ usize.MAX }
+    ensures ok { OnOk result ((place : ℕ) → IsLawfulType (schema_at types.now.kinds.items place)) }
+    ensures err { IfErr result (λ e. IsAmong (counts.modules + length types.now.kinds.items + 1) e.line) }
+{
+    match lawful_types::judge::judge(types) {
+        Ok(()) => Ok(()),
+        Err(fault) => {
+            let line = 1 + counts.modules + fault.place;
+            Err(LoadError::at(line, Reason::from(fault.reason)))
+        }
+    }
 }

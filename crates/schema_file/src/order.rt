@@ -1,4 +1,4 @@
-//! Tags of CHOICEs that have none of their own.
+//! Tags of CHOICEs that have none of their own, and the order of a SET's components.
 
 use rasn_dynamic::types::{Alternative, Component, Kind};
 use rasn_types::types::Tag;
@@ -8,11 +8,17 @@ use std::alloc::{AllocError, Global};
 const MOST_CHOICES: usize = 255;
 
 /// Gives each component and alternative without a tag, which has that of no type, the smallest of the CHOICE that it
-/// is (X.691 21.1). The only error is want of memory.
-pub fn order(alloc: Global, kinds: &mut [Kind]) -> Result<(), AllocError> {
+/// is, and puts the root components of the SETs, which stand at some places, in the order of their tags (X.691 21.1).
+/// The only error is want of memory.
+pub fn order(alloc: Global, kinds: &mut [Kind], sets: &[usize]) -> Result<(), AllocError> {
     let tags = tags(alloc, kinds)?;
     for kind in kinds.iter_mut() {
-        order_kind(kind, tags.as_slice())?;
+        tag_kind(kind, tags.as_slice());
+    }
+    for place in sets {
+        if let Some(Kind::Record(record)) = kinds.get_mut(*place) {
+            record.root.sort_by_key(|component| component.tag)?;
+        }
     }
     Ok(())
 }
@@ -46,8 +52,8 @@ fn smallest_tag(kinds: &[Kind], place: usize) -> Tag {
     Tag::EOC
 }
 
-/// Gives tags to the components or alternatives of a type, and orders a SET.
-fn order_kind(kind: &mut Kind, tags: &[Tag]) -> Result<(), AllocError> {
+/// Gives tags to the components or alternatives of a type.
+fn tag_kind(kind: &mut Kind, tags: &[Tag]) {
     match kind {
         Kind::Record(record) => {
             tag_components(&mut record.root, tags);
@@ -63,7 +69,6 @@ fn order_kind(kind: &mut Kind, tags: &[Tag]) -> Result<(), AllocError> {
         }
         Kind::Simple(_) | Kind::List(_, _) | Kind::SetOf(_, _) | Kind::Containing(_) => {}
     }
-    Ok(())
 }
 
 /// Gives tags to the components that have none.

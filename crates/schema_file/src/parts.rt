@@ -1,6 +1,7 @@
 //! Components, alternatives and items in the words of a line.
 
 use crate::error::Reason;
+use crate::values::default_value;
 use crate::words::{Words, name_of};
 use rasn_dynamic::types::{Alternative, Choice, Component, Items, Presence, Record};
 use std::alloc::Global;
@@ -56,7 +57,7 @@ fn component(alloc: Global, name: &str, words: &mut Words<'_>) -> Result<Compone
     let presence = match presence {
         "r" => Presence::Required,
         "o" => Presence::Optional,
-        "d" => return Err(Reason::NotHeld),
+        "d" => Presence::Default(default_value(alloc, words.word()?, words)?),
         _ => return Err(Reason::UnknownWord),
     };
     Ok(Component {

@@ -2,9 +2,67 @@
 
 use crate::error::Reason;
 use crate::words::Words;
+use rasn_dynamic::types::DefaultValue;
+use rasn_strings::strings::BmpString;
+use rasn_types::ber::{BerError, object_identifier_as_bytes};
+use rasn_types::types::{Any, Integer};
+use std::alloc::Global;
 
 /// How deep a value holds values at most.
 pub const MOST_LEVELS: usize = 255;
+
+/// The default that words say, the first of which was read. A value that holds values isn't data yet.
+pub fn default_value(
+    alloc: Global,
+    head: &str,
+    words: &mut Words<'_>,
+) -> Result<DefaultValue, Reason> {
+    let value = match head {
+        "true" => DefaultValue::Boolean(true),
+        "false" => DefaultValue::Boolean(false),
+        "null" => DefaultValue::Null,
+        "int" => DefaultValue::Integer(Integer::from(words.number()?)),
+        "item" => DefaultValue::Item(words.place()?),
+        "octets" => DefaultValue::Octets(Any::new(words.octets(alloc)?)),
+        "characters" => DefaultValue::Characters(characters(alloc, words)?),
+        "oid" => DefaultValue::Octets(identifier(alloc, words)?),
+        "list" if words.count()? == 0 => DefaultValue::NoElements,
+        "bits" | "list" | "record" | "chosen" => return Err(Reason::NotHeld),
+        _ => return Err(Reason::UnknownValue),
+    };
+    Ok(value)
+}
+
+/// The characters of a string, none past the Basic Multilingual Plane.
+fn characters(alloc: Global, words: &mut Words<'_>) -> Result<BmpString, Reason> {
+    let count = words.count()?;
+    let mut units = Vec::new(alloc);
+    for _ in 0..count {
+        match u16::try_from(words.count()?) {
+            Ok(unit) => units.push(unit)?,
+            Err(_) => return Err(Reason::NumberTooLarge),
+        }
+    }
+    Ok(BmpString::from_units(units))
+}
+
+/// The contents octets of an OBJECT IDENTIFIER (X.690 8.19).
+fn identifier(alloc: Global, words: &mut Words<'_>) -> Result<Any, Reason> {
+    let count = words.count()?;
+    let mut arcs = Vec::new(alloc);
+    for _ in 0..count {
+        match u32::try_from(words.count()?) {
+            Ok(arc) => arcs.push(arc)?,
+            Err(_) => return Err(Reason::NumberTooLarge),
+        }
+    }
+    let mut octets = Vec::new(alloc);
+    match object_identifier_as_bytes(&arcs, &mut octets) {
+        Ok(()) => Ok(Any::new(octets)),
+        Err(BerError::InvalidObjectIdentifier) => Err(Reason::NotIdentifier),
+        Err(BerError::OutOfMemory) => Err(Reason::OutOfMemory),
+    }
+}
 
 /// Reads a value that begins with a word, and the values in it, at most so many levels of them, and keeps nothing.
 pub fn skip_value(head: &str, words: &mut Words<'_>, levels: usize) -> Result<(), Reason> {

@@ -1,6 +1,7 @@
 //! The words of a line.
 
 use crate::error::Reason;
+use hex::FromHexError;
 use rasn_constraints::constraints::{Bounded, Extensible};
 use rasn_dynamic::types::{NumberBounds, SizeBounds};
 use rasn_schema::items::Place;
@@ -188,6 +189,22 @@ impl<'text> Words<'text> {
         match self.word()? {
             "-" => Ok(Tag::EOC),
             word => tag_of(word),
+        }
+    }
+
+    /// Octets as hexadecimal digits, in lower case; none where `-` stands.
+    pub fn octets(&mut self, alloc: Global) -> Result<Vec<u8>, Reason> {
+        let word = self.word()?;
+        if word == "-" {
+            return Ok(Vec::new(alloc));
+        }
+        if word.bytes().any(|octet| octet.is_ascii_uppercase()) {
+            return Err(Reason::NotHexadecimal);
+        }
+        match hex::decode(alloc, word) {
+            Ok(octets) => Ok(octets),
+            Err(FromHexError::OutOfMemory) => Err(Reason::OutOfMemory),
+            Err(_) => Err(Reason::NotHexadecimal),
         }
     }
 

@@ -2,10 +2,10 @@
 
 use std::alloc::{AllocError, Global};
 
-/// The schema file that docs/SCHEMA-FILE.md shows, with no default.
+/// The schema file that docs/SCHEMA-FILE.md shows.
 pub const EXAMPLE: &str = "per_schema 1 1 6 2
 module Example -
-sequence 3 1 id c0 r 1 note c1 o 2 more c2 o 3 [[ c3 4
+sequence 3 1 id c0 r 1 note c1 o 2 more c2 d 3 list 0 [[ c3 4
 integer 0 65535 -
 ia5_string 1 20 ... -
 sequence_of 0 0 - -

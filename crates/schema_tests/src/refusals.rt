@@ -30,7 +30,7 @@ const TEXTS: [(&[u8], &str); 6] = [
 ];
 
 /// Numbers of lines of the example, what stands there in their place, and what is said.
-const LINES: [(usize, &str, &str); 39] = [
+const LINES: [(usize, &str, &str); 44] = [
     (
         1,
         "per_schema 1 1 7 2",
@@ -109,8 +109,33 @@ const LINES: [(usize, &str, &str); 39] = [
     ),
     (
         3,
-        "sequence 1 - id c0 d 1 int 5",
+        "sequence 1 - more c0 d 3 list 1 list 0",
         "line 3: this isn't data yet",
+    ),
+    (
+        3,
+        "sequence 1 - id c0 d 1 octets 0G",
+        "line 3: a word is no hexadecimal octets",
+    ),
+    (
+        3,
+        "sequence 1 - id c0 d 1 octets 0A",
+        "line 3: a word is no hexadecimal octets",
+    ),
+    (
+        3,
+        "sequence 1 - id c0 d 1 oid 2 3 5",
+        "line 3: numbers are no OBJECT IDENTIFIER",
+    ),
+    (
+        3,
+        "sequence 1 - id c0 d 2 characters 1 65536",
+        "line 3: a number is too large",
+    ),
+    (
+        3,
+        "sequence 1 - id c0 d 1 real",
+        "line 3: there is no such value",
     ),
     (
         3,
@@ -119,8 +144,8 @@ const LINES: [(usize, &str, &str); 39] = [
     ),
     (
         3,
-        "set 2 - a c0 r 1 b c1 r 1",
-        "line 3: this isn't data yet",
+        "set 2 - a c0 r 1 b c0 r 2",
+        "line 3: tags are the same or don't ascend",
     ),
     (
         3,

@@ -2,8 +2,9 @@
 
 use crate::example::{EXAMPLE, with_line};
 use rasn_constraints::constraints::{Bounded, Extensible};
-use rasn_dynamic::types::{Kind, Presence, Simple};
-use rasn_types::types::{Class, Tag};
+use rasn_dynamic::types::{DefaultValue, Kind, Presence, Record, Simple, Types};
+use rasn_schema::items::Place;
+use rasn_types::types::{Class, Integer, Tag};
 use schema_file::load::load;
 use std::test::Fail;
 
@@ -30,6 +31,10 @@ fn example(rt: HostRuntime) -> Result<(), Fail> {
     );
     assert_eq!(rt; note.of, 2);
     assert!(rt; matches!(note.presence, Presence::Optional));
+    let Some(more) = message.root.get(2) else {
+        return Err(Fail::from("no list"));
+    };
+    assert!(rt; matches!(more.presence, Presence::Default(DefaultValue::NoElements)));
     let Some(group) = additions.first() else {
         return Err(Fail::from("no addition"));
     };
@@ -69,5 +74,67 @@ fn smallest_tag(rt: HostRuntime) -> Result<(), Fail> {
         return Err(Fail::from("no component"));
     };
     assert_eq!(rt; first.tag, Tag::new(Class::Context, 3));
+    Ok(())
+}
+
+/// The record at the first place of a table.
+fn record(types: &Types) -> Result<&Record, Fail> {
+    match types.kinds.first() {
+        Some(Kind::Record(record)) => Ok(record),
+        _ => Err(Fail::from("no record")),
+    }
+}
+
+/// A SET's root components are in the order of their tags, and its additions as they are written.
+#[test]
+fn order_of_a_set(rt: HostRuntime) -> Result<(), Fail> {
+    let line = "set 3 2 a c2 r 1 b u4 r 2 c - r 3 d c9 o 1 e c8 o 1";
+    let mut text = with_line(rt.alloc(), 3, line)?;
+    text = text.replace(
+        rt.alloc(),
+        "sequence_of 0 0 - -",
+        "choice 2 - m c1 1 n c5 1",
+    )?;
+    let types = load(rt.alloc(), text.as_bytes())?;
+    let record = record(&types)?;
+    let names = |at: usize| Some(record.root.get(at)?.name.as_str());
+    assert_eq!(rt;
+        (names(0), names(1), names(2)),
+        (Some("b"), Some("c"), Some("a"))
+    );
+    let Some(first) = record.behind().first() else {
+        return Err(Fail::from("no addition"));
+    };
+    assert_eq!(rt; first.name.as_str(), "d");
+    Ok(())
+}
+
+/// Defaults of each form.
+#[test]
+fn defaults(rt: HostRuntime) -> Result<(), Fail> {
+    let line =
+        "sequence 6 - a c0 d 1 int -5 b c1 d 1 true c c2 d 1 octets 0aff d c3 d 1 item added 3 \
+        e c4 d 1 characters 2 65 66 f c5 d 1 oid 3 1 2 840";
+    let text = with_line(rt.alloc(), 3, line)?;
+    let types = load(rt.alloc(), text.as_bytes())?;
+    let record = record(&types)?;
+    let told = |at: usize| match &record.root.get(at)?.presence {
+        Presence::Default(value) => Some(value),
+        _ => None,
+    };
+    assert!(rt;
+        matches!(told(0), Some(DefaultValue::Integer(number)) if *number == Integer::from(-5))
+    );
+    assert!(rt; matches!(told(1), Some(DefaultValue::Boolean(true))));
+    assert!(rt;
+        matches!(told(2), Some(DefaultValue::Octets(octets)) if octets.as_bytes() == [0x0a, 0xff].as_slice())
+    );
+    assert!(rt; matches!(told(3), Some(DefaultValue::Item(Place::Added(3)))));
+    assert!(rt;
+        matches!(told(4), Some(DefaultValue::Characters(text)) if text.as_units() == [65, 66].as_slice())
+    );
+    assert!(rt;
+        matches!(told(5), Some(DefaultValue::Octets(octets)) if octets.as_bytes() == [0x2a, 0x86, 0x48].as_slice())
+    );
     Ok(())
 }

@@ -4,18 +4,18 @@ use Rattle.std.proofs.lemmas.Result.{err_from_is_err_and}
 use Rattle.rasn_schema.specs.Forms.{is_size_marked, size_of}
 use Rattle.rasn_schema.specs.Lists.{list_at}
 use Rattle.rasn_schema.specs.Schemas
-use Rattle.rasn_schema.specs.Schemas.{optional, required}
+use Rattle.rasn_schema.specs.Schemas.{default, optional, required}
 use Rattle.rasn_traits.specs.Scopes.{FaultyPart, ReadsPart, reads_left_out}
 use Rattle.rasn_traits.proofs.Optionals.{bit_refused, value_read}
 use Rattle.rasn_traits.proofs.Reading.{addition_lacks, both_read, inside_left, record_addition_failed, record_ended, record_endless, record_root_failed}
-use Rattle.rasn_dynamic.specs.Types.{behind, contained_at, grouped, in_root, is_not_required, of_size, parts_at, record_schema, schema_at, choice_of}
+use Rattle.rasn_dynamic.specs.Types.{behind, contained_at, default_value, grouped, in_root, is_not_required, of_size, parts_at, record_schema, schema_at, choice_of}
 use Rattle.rasn_schema.specs.Bags.{set_at}
 use Rattle.rasn_dynamic.specs.Values.{value_of}
 use Rattle.rasn_dynamic.proofs.OneAddition.{addition_unread}
 use Rattle.rasn_dynamic.proofs.BagsReading.{bag_answered, bag_refused}
 use Rattle.rasn_dynamic.proofs.Places.{choice_plain, contained_none, contained_there, containing_plain, containing_there, list_plain, none_there, plain_there, record_plain, set_plain, simple_plain}
 use Rattle.rasn_dynamic.proofs.Presences.{group_left}
-use Rattle.rasn_dynamic.proofs.Reading.{contents_unread, given_read, inside_unread, lacking_read, none_given, none_opened, octets_unended, octets_unopened, onward_all, onward_fails, onward_read, onward_room, open_unended, read_additions, read_components, reads_same, required_taken, slotted}
+use Rattle.rasn_dynamic.proofs.Reading.{contents_unread, default_added, default_taken, given_read, inside_unread, lacking_read, none_given, none_opened, octets_unended, octets_unopened, onward_all, onward_fails, onward_read, onward_room, open_unended, read_additions, read_components, reads_same, required_taken, slotted}
 use Rattle.rasn_dynamic.proofs.Trees.{absent_slot, bag_slot, elements_slot, fields_slot, slot_there, value_there, alternative_slot}
 use Rattle.rasn_dynamic.proofs.Unfit.{record_counted}
 use Rattle.rasn_schema.specs.Choices.{one_level_in}
@@ -548,3 +548,52 @@ decode_addition-returns-in-Group g t c =
     let w = c.in_ok-value.ensures in
     let b = grouped c.args.kinds.now c.args.component.now in
     rw c.in-Group.is (record { law = lacking_read _ _ _ _ _ (group_left b) (sym c.if-is_there.false ∙ c.is_there.ensures) w.law; behaves = record { again = w.behaves.again; fails = tt; kept = w.behaves.kept } })
+
+pub decode_component-returns-in-Default : goal.decode_component-returns-in-Default
+decode_component-returns-in-Default g t c = rw c.in-Default.is c.decode_default.ensures
+
+pub decode_default-returns-in_err-there : goal.decode_default-returns-in_err-there
+decode_default-returns-in_err-there g t c =
+    let p = err_from_is_err_and c.from_residual.result c.from_residual.ensures.1 in
+    let b = c.in_err-there.ensures in
+    rw (p.1, p.2) (record { law = bit_refused refl b.law; behaves = record { again = b.behaves.again; fails = b.behaves.fails; kept = b.behaves.kept } })
+
+pub decode_default-returns-then-not-there : goal.decode_default-returns-then-not-there
+decode_default-returns-then-not-there g t c =
+    let r = g.D.Decoder.rules in
+    let x = c.args.decoder.now in
+    let d = default_value c.args.otherwise.now in
+    let b = c.in_ok-there.ensures.behaves in
+    let h = c.made.ensures in
+    record {
+      law = default_taken g.met.D.Decoder.lawful d (schema_at c.args.kinds.now c.args.place (r.levels x)) x c.next_presence.new.self c.made.new.decoder c.made.result (rw c.if-not-there.true at c.in_ok-there.ensures.law) h.law;
+      behaves = record { again = λ q. absurd (b.again q); fails = h.fails; kept = h.kept ∙ b.kept };
+    }
+
+pub decode_default-returns : goal.decode_default-returns
+decode_default-returns g t c =
+    let r = g.D.Decoder.rules in
+    let x = c.args.decoder.now in
+    let d = default (default_value c.args.otherwise.now) in
+    let w = c.decode_value.ensures in
+    let b = c.in_ok-there.ensures.behaves in
+    let s = schema_at c.args.kinds.now c.args.place in
+    let k = rw c.if-not-there.false at c.in_ok-there.ensures.law in
+    let l = g.met.D.Decoder.lawful.marked.level _ _ _ k in
+    record {
+      law = slotted r.memory (λ e. FaultyPart r e d (s (r.levels x))) (ReadsPart r d (s (r.levels x))) x c.decode_value.result c.decode_value.new.decoder w.value
+          (value_read g.met.D.Decoder.lawful value_of d (s (r.levels x)) x c.decode_value.new.decoder c.decode_value.result refl k (rw l at w.read.law));
+      behaves = record { again = λ q. absurd (b.again q); fails = w.read.behaves.fails; kept = w.read.behaves.kept ∙ b.kept };
+    }
+
+pub decode_addition-returns-in-Default : goal.decode_addition-returns-in-Default
+decode_addition-returns-in-Default g t c =
+    let r = g.D.Decoder.rules in
+    let x = c.args.decoder.now in
+    let w = c.in_ok-value.ensures in
+    let h = c.made.ensures in
+    let n = none_given g.D.Decoder.rules _ _ _ _ (sym c.if-is_there.false ∙ c.is_there.ensures) w.law in
+    rw c.in-Default.is (record {
+      law = default_added g.met.D.Decoder.lawful (default_value c.in-Default.otherwise) _ _ x c.decode_open.new.decoder c.made.new.decoder c.made.result n h.law;
+      behaves = record { again = λ q. absurd (w.behaves.again q); fails = h.fails; kept = h.kept ∙ w.behaves.kept };
+    })

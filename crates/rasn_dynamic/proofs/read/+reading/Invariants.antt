@@ -42,6 +42,9 @@ decreases-decode_component g l = 16 * g.D.Decoder.rules.levels l.decoder.now + 8
 abbrev pub decreases-decode_optional : goal.decreases-decode_optional
 decreases-decode_optional g l = 16 * g.D.Decoder.rules.levels l.decoder.now + 7
 
+abbrev pub decreases-decode_default : goal.decreases-decode_default
+decreases-decode_default g l = 16 * g.D.Decoder.rules.levels l.decoder.now + 7
+
 abbrev pub decreases-decode_choice : goal.decreases-decode_choice
 decreases-decode_choice g l = 16 * g.D.Decoder.rules.levels l.decoder.now + 1
 

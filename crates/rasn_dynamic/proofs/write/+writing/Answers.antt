@@ -1,6 +1,6 @@
 use Rattle.std.proofs.Common.{◌≡◌, ◌∙◌, refl, sym, ap, ap₂, rules, suc, max, true, false, map, Some, le_trans, arith}
 use Rattle.std.proofs.Math.Nat.{le-max_left, le-max_right}
-use Rattle.std.specs.Prelude.{count_by, is_some, option_map}
+use Rattle.std.specs.Prelude.{count_by, is_some, not, option_map}
 use Rattle.std.proofs.lemmas.Grind.{common_steps}
 use Rattle.std.proofs.lemmas.Result.{err_from_is_err_and}
 use Rattle.rasn_schema.specs.Forms.{always, is_size_marked, size_of}
@@ -20,8 +20,8 @@ use Rattle.rasn_schema.specs.Normal.{normal}
 use Rattle.rasn_dynamic.specs.Values.{levels_of, slot_of, value_of}
 use Rattle.rasn_dynamic.specs.Writes.{fit}
 use Rattle.rasn_dynamic.proofs.Components.{additions, components, onward_ended, onward_index, onward_presented, onward_refused, onward_stands}
-use Rattle.rasn_dynamic.proofs.Places.{choice_plain, contained_none, contained_there, containing_plain, containing_there, encodes_same, encodes_value, list_plain, no_bag, no_list, no_place, no_record, other_refused, other_refused_within, plain_there, record_plain, set_plain, simple_plain}
-use Rattle.rasn_dynamic.proofs.Presences.{absent_written, no_group, open_written, required_there, skipped_written, surplus_refused, there_written, unmarked_part}
+use Rattle.rasn_dynamic.proofs.Places.{choice_plain, contained_none, contained_there, containing_plain, containing_there, encodes_same, encodes_value, list_plain, no_bag, no_list, no_place, no_record, nothing_written, other_refused, other_refused_within, plain_there, record_plain, set_plain, simple_plain}
+use Rattle.rasn_dynamic.proofs.Presences.{absent_written, default_left, default_open, default_skipped, default_there, default_unmarked, no_other, open_written, required_there, skipped_written, stands_there, surplus_refused, there_written, unmarked_part}
 use Rattle.rasn_dynamic.proofs.Trees.{bag_levels, bag_value, deepest_at, elements_levels, elements_value, fields_levels, fields_value, not_bag, not_elements, not_fields, alternative_levels, alternative_value, not_alternative}
 use Rattle.rasn_dynamic.proofs.Unfit.{record_counted, record_unopened, sequence_group, unfit_added, unfit_root, unmarked_none}
 use Rattle.rasn_schema.specs.Choices.{one_level_in}
@@ -230,7 +230,7 @@ encode_record-returns-then-not-root_fits g t c =
     let ev = fields_value v _ _ e ∙ ap₂ (λ vs ws. record_value (map slot_of vs) (map slot_of ws)) (sym c.deref-root_values.ensures.value) (sym c.deref-added_values.ensures.value) in
     encodes_value (record_schema ts r) (levels_of v) _ (value_of v) (record_value (map slot_of vs) (map slot_of ws)) _ _ _ el ev
     (other_refused_within (record_schema ts r) _ (record_value (map slot_of vs) (map slot_of ws)) _ _ _ c.refuse_other-then-not-root_fits.ensures
-    (unfit_root ts r (map slot_of vs) (map slot_of ws) (ap (λ cs. fit cs (map slot_of vs)) (sym c.root-components.ensures) ∙ sym c.fit-root_fits.ensures ∙ c.if-not-root_fits.true) _))
+    (unfit_root ts r (map slot_of vs) (map slot_of ws) (ap (λ cs. fit false cs (map slot_of vs)) (sym c.root-components.ensures) ∙ sym c.fit-root_fits.ensures ∙ c.if-not-root_fits.true) _))
 
 pub encode_record-returns-then-not-added_fits : goal.encode_record-returns-then-not-added_fits
 encode_record-returns-then-not-added_fits g t c =
@@ -246,115 +246,13 @@ encode_record-returns-then-not-added_fits g t c =
     let ev = fields_value v _ _ e ∙ ap₂ (λ vs ws. record_value (map slot_of vs) (map slot_of ws)) (sym c.deref-root_values.ensures.value) (sym c.deref-added_values.ensures.value) in
     encodes_value (record_schema ts r) (levels_of v) _ (value_of v) (record_value (map slot_of vs) (map slot_of ws)) _ _ _ el ev
     (other_refused_within (record_schema ts r) _ (record_value (map slot_of vs) (map slot_of ws)) _ _ _ c.refuse_other-then-not-added_fits.ensures
-    (unfit_added ts r (map slot_of vs) (map slot_of ws) (ap (λ cs. fit cs (map slot_of ws)) (sym c.behind-additions.ensures) ∙ sym c.fit-added_fits.ensures ∙ c.if-not-added_fits.true) _))
-
-pub encode_record-returns-in_err-outside : goal.encode_record-returns-in_err-outside
-encode_record-returns-in_err-outside g t c =
-    let p = err_from_is_err_and c.from_residual.result c.from_residual.ensures.1 in
-    let v = c.args.value.now in
-    let ts = c.args.kinds.now in
-    let r = c.args.record.now in
-    let ps = parts_at in_root ts r.root.items in
-    let qs = parts_at (grouped ts) ts (behind r.additions) in
-    let vs = c.deref-root_values.result.now in
-    let ws = c.deref-added_values.result.now in
-    let e = c.in-Fields.is ∙ sym (rolls-Fields c.in-Fields.root c.in-Fields.added) in
-    let el = fields_levels v _ _ e ∙ ap₂ (λ vs ws. suc (max (deepest levels_of vs) (deepest levels_of ws))) (sym c.deref-root_values.ensures.value) (sym c.deref-added_values.ensures.value) in
-    let ev = fields_value v _ _ e ∙ ap₂ (λ vs ws. record_value (map slot_of vs) (map slot_of ws)) (sym c.deref-root_values.ensures.value) (sym c.deref-added_values.ensures.value) in
-    let k = record_counted ts r c.presence_bit_count-bits.result c.added_count-count.result (c.presence_bit_count-bits.ensures ∙ ap (λ cs. count_by (λ d. is_not_required d.presence) cs) c.root-components.ensures) c.added_count-count.ensures in
-    let o = c.in_err-outside.ensures.opened ps (is_some r.additions) qs k in
-    rw (p.1, p.2) (encodes_value (record_schema ts r) (levels_of v) _ (value_of v) (record_value (map slot_of vs) (map slot_of ws)) _ _ _ el ev (record {
-      law = record_unopened g.E.Encoder.rules ps (is_some r.additions) qs _ _ c.args.encoder.now c.open_record.new.self _ o.law;
-      behaves = record { again = o.behaves.again; fails = o.behaves.fails; kept = o.behaves.kept };
-    }))
-
-pub encode_record-returns-in_err-encode_components : goal.encode_record-returns-in_err-encode_components
-encode_record-returns-in_err-encode_components g t c =
-    let p = err_from_is_err_and c.from_residual-in_err-encode_components.result c.from_residual-in_err-encode_components.ensures.1 in
-    let v = c.args.value.now in
-    let ts = c.args.kinds.now in
-    let r = c.args.record.now in
-    let ps = parts_at in_root ts r.root.items in
-    let qs = parts_at (grouped ts) ts (behind r.additions) in
-    let vs = c.deref-root_values.result.now in
-    let ws = c.deref-added_values.result.now in
-    let e = c.in-Fields.is ∙ sym (rolls-Fields c.in-Fields.root c.in-Fields.added) in
-    let el = fields_levels v _ _ e ∙ ap₂ (λ vs ws. suc (max (deepest levels_of vs) (deepest levels_of ws))) (sym c.deref-root_values.ensures.value) (sym c.deref-added_values.ensures.value) in
-    let ev = fields_value v _ _ e ∙ ap₂ (λ vs ws. record_value (map slot_of vs) (map slot_of ws)) (sym c.deref-root_values.ensures.value) (sym c.deref-added_values.ensures.value) in
-    let k = record_counted ts r c.presence_bit_count-bits.result c.added_count-count.result (c.presence_bit_count-bits.ensures ∙ ap (λ cs. count_by (λ d. is_not_required d.presence) cs) c.root-components.ensures) c.added_count-count.ensures in
-    let o = c.in_ok-outside.ensures.opened ps (is_some r.additions) qs k in
-    let w = rw c.root-components.ensures at c.in_err-encode_components.ensures in
-    rw (p.1, p.2) (encodes_value (record_schema ts r) (levels_of v) _ (value_of v) (record_value (map slot_of vs) (map slot_of ws)) _ _ _ el ev (record {
-      law = record_root_refused g.E.Encoder.rules ps (is_some r.additions) qs (map slot_of vs) (map slot_of ws) _ c.args.encoder.now c.open_record.new.self c.encode_components.new.encoder c.encode_components.new.encoder _ (λ n. (o.law n).1)
-          (λ n le. w.law.at n (le_trans (le-max_left (deepest levels_of vs) (deepest levels_of ws)) le));
-      behaves = record { again = λ q. absurd (o.behaves.again q); fails = w.fails; kept = w.kept ∙ o.behaves.kept };
-    }))
-
-pub encode_record-returns-in_err-encode_additions : goal.encode_record-returns-in_err-encode_additions
-encode_record-returns-in_err-encode_additions g t c =
-    let p = err_from_is_err_and c.from_residual-in_err-encode_additions.result c.from_residual-in_err-encode_additions.ensures.1 in
-    let v = c.args.value.now in
-    let ts = c.args.kinds.now in
-    let r = c.args.record.now in
-    let ps = parts_at in_root ts r.root.items in
-    let qs = parts_at (grouped ts) ts (behind r.additions) in
-    let vs = c.deref-root_values.result.now in
-    let ws = c.deref-added_values.result.now in
-    let e = c.in-Fields.is ∙ sym (rolls-Fields c.in-Fields.root c.in-Fields.added) in
-    let el = fields_levels v _ _ e ∙ ap₂ (λ vs ws. suc (max (deepest levels_of vs) (deepest levels_of ws))) (sym c.deref-root_values.ensures.value) (sym c.deref-added_values.ensures.value) in
-    let ev = fields_value v _ _ e ∙ ap₂ (λ vs ws. record_value (map slot_of vs) (map slot_of ws)) (sym c.deref-root_values.ensures.value) (sym c.deref-added_values.ensures.value) in
-    let k = record_counted ts r c.presence_bit_count-bits.result c.added_count-count.result (c.presence_bit_count-bits.ensures ∙ ap (λ cs. count_by (λ d. is_not_required d.presence) cs) c.root-components.ensures) c.added_count-count.ensures in
-    let o = c.in_ok-outside.ensures.opened ps (is_some r.additions) qs k in
-    let w = rw c.root-components.ensures at c.in_ok-encode_components.ensures in
-    let a = rw c.behind-additions.ensures at c.in_err-encode_additions.ensures in
-    rw (p.1, p.2) (encodes_value (record_schema ts r) (levels_of v) _ (value_of v) (record_value (map slot_of vs) (map slot_of ws)) _ _ _ el ev (record {
-      law = record_addition_refused g.E.Encoder.rules g.met.E.Encoder.lawful ps (is_some r.additions) qs (map slot_of vs) (map slot_of ws) _ c.args.encoder.now c.open_record.new.self c.encode_components.new.encoder c.encode_additions.new.encoder c.encode_additions.new.encoder _ (λ n. (o.law n).1)
-          (λ n le. w.law.at n (le_trans (le-max_left (deepest levels_of vs) (deepest levels_of ws)) le)) (λ n le. a.law.at n (le_trans (le-max_right (deepest levels_of vs) (deepest levels_of ws)) le));
-      behaves = record { again = λ q. absurd (o.behaves.again q); fails = a.fails; kept = a.kept ∙ w.kept ∙ o.behaves.kept };
-    }))
-
-pub encode_record-returns : goal.encode_record-returns
-encode_record-returns g t c =
-    let v = c.args.value.now in
-    let ts = c.args.kinds.now in
-    let r = c.args.record.now in
-    let ps = parts_at in_root ts r.root.items in
-    let qs = parts_at (grouped ts) ts (behind r.additions) in
-    let vs = c.deref-root_values.result.now in
-    let ws = c.deref-added_values.result.now in
-    let e = c.in-Fields.is ∙ sym (rolls-Fields c.in-Fields.root c.in-Fields.added) in
-    let el = fields_levels v _ _ e ∙ ap₂ (λ vs ws. suc (max (deepest levels_of vs) (deepest levels_of ws))) (sym c.deref-root_values.ensures.value) (sym c.deref-added_values.ensures.value) in
-    let ev = fields_value v _ _ e ∙ ap₂ (λ vs ws. record_value (map slot_of vs) (map slot_of ws)) (sym c.deref-root_values.ensures.value) (sym c.deref-added_values.ensures.value) in
-    let k = record_counted ts r c.presence_bit_count-bits.result c.added_count-count.result (c.presence_bit_count-bits.ensures ∙ ap (λ cs. count_by (λ d. is_not_required d.presence) cs) c.root-components.ensures) c.added_count-count.ensures in
-    let o = c.in_ok-outside.ensures.opened ps (is_some r.additions) qs k in
-    let w = rw c.root-components.ensures at c.in_ok-encode_components.ensures in
-    let a = rw c.behind-additions.ensures at c.in_ok-encode_additions.ensures in
-    let d = c.close_record.ensures.closed ps (is_some r.additions) qs (unmarked_none ts r.additions) in
-    encodes_value (record_schema ts r) (levels_of v) _ (value_of v) (record_value (map slot_of vs) (map slot_of ws)) _ _ _ el ev (record {
-      law = record_ended g.E.Encoder.rules g.E.Encoder.opens ps (is_some r.additions) qs (map slot_of vs) (map slot_of ws) _ c.args.encoder.now c.open_record.new.self c.encode_components.new.encoder c.encode_additions.new.encoder _ (λ n. (o.law n).0)
-          (λ n le. w.law.at n (le_trans (le-max_left (deepest levels_of vs) (deepest levels_of ws)) le)) (λ n le. a.law.at n (le_trans (le-max_right (deepest levels_of vs) (deepest levels_of ws)) le)) c.close_record.result c.close_record.new.self d;
-      behaves = record { again = λ q. absurd (o.behaves.again q); fails = d.behaves.fails; kept = d.behaves.kept ∙ a.kept ∙ w.kept ∙ o.behaves.kept };
-    })
+    (unfit_added ts r (map slot_of vs) (map slot_of ws) (ap (λ cs. fit false cs (map slot_of ws)) (sym c.behind-additions.ensures) ∙ sym c.fit-added_fits.ensures ∙ c.if-not-added_fits.true) _))
 
 pub encode_value-returns-in-None : goal.encode_value-returns-in-None
 encode_value-returns-in-None g t c =
     let v = c.args.value.now in
     let ts = c.args.kinds.now in
     other_refused (schema_at ts c.args.place) (levels_of v) (value_of v) _ _ _ c.refuse_other.ensures (no_place ts c.args.place (value_of v) (sym c.kind_at.ensures ∙ ap (option_map (λ k. k.now)) c.in-None.is))
-
-pub encode_record-encode_components-requires : goal.encode_record-encode_components-requires
-encode_record-encode_components-requires g t c =
-    let v = c.args.value.now in
-    let e = c.in-Fields.is ∙ sym (rolls-Fields c.in-Fields.root c.in-Fields.added) in
-    let el = fields_levels v _ _ e ∙ ap₂ (λ vs ws. suc (max (deepest levels_of vs) (deepest levels_of ws))) (sym c.deref-root_values.ensures.value) (sym c.deref-added_values.ensures.value) in
-    grind (arith, common_steps, el, sym c.fit-root_fits.ensures ∙ c.if-not-root_fits.false)
-
-pub encode_record-encode_additions-requires : goal.encode_record-encode_additions-requires
-encode_record-encode_additions-requires g t c =
-    let v = c.args.value.now in
-    let e = c.in-Fields.is ∙ sym (rolls-Fields c.in-Fields.root c.in-Fields.added) in
-    let el = fields_levels v _ _ e ∙ ap₂ (λ vs ws. suc (max (deepest levels_of vs) (deepest levels_of ws))) (sym c.deref-root_values.ensures.value) (sym c.deref-added_values.ensures.value) in
-    grind (arith, common_steps, el, sym c.fit-added_fits.ensures ∙ c.if-not-added_fits.false)
 
 pub encode_list-encode_elements-requires : goal.encode_list-encode_elements-requires
 encode_list-encode_elements-requires g t c =
@@ -595,7 +493,7 @@ encode_addition-returns-in_default g t c =
     let w = c.encode_open.ensures in
     let b = grouped c.args.kinds.now c.args.component.now in
     λ q. record {
-      law = record { at = λ n le. open_written g.E.Encoder.rules b c.args.component.now.presence _ c.args.encoder.now c.encode_open.new.encoder (slot_of c.args.value.now) c.encode_open.result (no_group b c.args.component.now.presence c.in_default.not-Group) (sym c.if-not-is_there.false ∙ c.is_there.ensures) (w.law.at n le) };
+      law = record { at = λ n le. open_written g.E.Encoder.rules b c.args.component.now.presence _ c.args.encoder.now c.encode_open.new.encoder (slot_of c.args.value.now) c.encode_open.result (no_other b c.args.component.now.presence c.in_default.not-Group c.in_default.not-Default) (sym c.if-not-is_there.false ∙ c.is_there.ensures) (w.law.at n le) };
       fails = w.fails;
       kept = w.kept;
     }
@@ -654,4 +552,160 @@ encode_group_of-returns g t c =
       law = record { at = λ n le. group_closed g.E.Encoder.rules g.met.E.Encoder.lawful (s n) _ c.args.encoder.now c.close_group_of.result c.close_group_of.new.self (d.law c.args.encoder.now c.open_addition.new.self n (normal (s n) v) o.law.0 (w.law.at n le)) };
       fails = d.behaves.fails;
       kept = d.behaves.kept ∙ w.behaves.kept ∙ o.behaves.kept;
+    }
+
+pub encode_fields-returns-in_err-outside : goal.encode_fields-returns-in_err-outside
+encode_fields-returns-in_err-outside g t c =
+    let p = err_from_is_err_and c.from_residual.result c.from_residual.ensures.1 in
+    let ts = c.args.kinds.now in
+    let r = c.args.record.now in
+    let ps = parts_at in_root ts r.root.items in
+    let qs = parts_at (grouped ts) ts (behind r.additions) in
+    let vs = c.args.root_values.now in
+    let ws = c.args.added_values.now in
+    let k = record_counted ts r c.presence_bit_count-bits.result c.added_count-count.result (c.presence_bit_count-bits.ensures ∙ ap (λ cs. count_by (λ d. is_not_required d.presence) cs) c.root-components.ensures) c.added_count-count.ensures in
+    let o = c.in_err-outside.ensures.opened ps (is_some r.additions) qs k in
+    rw (p.1, p.2) (record {
+      law = record_unopened g.E.Encoder.rules ps (is_some r.additions) qs _ _ c.args.encoder.now c.open_record.new.self _ o.law;
+      behaves = record { again = o.behaves.again; fails = o.behaves.fails; kept = o.behaves.kept };
+    })
+
+pub encode_fields-returns-in_err-encode_components : goal.encode_fields-returns-in_err-encode_components
+encode_fields-returns-in_err-encode_components g t c =
+    let p = err_from_is_err_and c.from_residual-in_err-encode_components.result c.from_residual-in_err-encode_components.ensures.1 in
+    let ts = c.args.kinds.now in
+    let r = c.args.record.now in
+    let ps = parts_at in_root ts r.root.items in
+    let qs = parts_at (grouped ts) ts (behind r.additions) in
+    let vs = c.args.root_values.now in
+    let ws = c.args.added_values.now in
+    let k = record_counted ts r c.presence_bit_count-bits.result c.added_count-count.result (c.presence_bit_count-bits.ensures ∙ ap (λ cs. count_by (λ d. is_not_required d.presence) cs) c.root-components.ensures) c.added_count-count.ensures in
+    let o = c.in_ok-outside.ensures.opened ps (is_some r.additions) qs k in
+    let w = rw c.root-components.ensures at c.in_err-encode_components.ensures in
+    rw (p.1, p.2) (record {
+      law = record_root_refused g.E.Encoder.rules ps (is_some r.additions) qs (map slot_of vs) (map slot_of ws) _ c.args.encoder.now c.open_record.new.self c.encode_components.new.encoder c.encode_components.new.encoder _ (λ n. (o.law n).1)
+          (λ n le. w.law.at n (le_trans (le-max_left (deepest levels_of vs) (deepest levels_of ws)) le));
+      behaves = record { again = λ q. absurd (o.behaves.again q); fails = w.fails; kept = w.kept ∙ o.behaves.kept };
+    })
+
+pub encode_fields-returns-in_err-encode_additions : goal.encode_fields-returns-in_err-encode_additions
+encode_fields-returns-in_err-encode_additions g t c =
+    let p = err_from_is_err_and c.from_residual-in_err-encode_additions.result c.from_residual-in_err-encode_additions.ensures.1 in
+    let ts = c.args.kinds.now in
+    let r = c.args.record.now in
+    let ps = parts_at in_root ts r.root.items in
+    let qs = parts_at (grouped ts) ts (behind r.additions) in
+    let vs = c.args.root_values.now in
+    let ws = c.args.added_values.now in
+    let k = record_counted ts r c.presence_bit_count-bits.result c.added_count-count.result (c.presence_bit_count-bits.ensures ∙ ap (λ cs. count_by (λ d. is_not_required d.presence) cs) c.root-components.ensures) c.added_count-count.ensures in
+    let o = c.in_ok-outside.ensures.opened ps (is_some r.additions) qs k in
+    let w = rw c.root-components.ensures at c.in_ok-encode_components.ensures in
+    let a = rw c.behind-additions.ensures at c.in_err-encode_additions.ensures in
+    rw (p.1, p.2) (record {
+      law = record_addition_refused g.E.Encoder.rules g.met.E.Encoder.lawful ps (is_some r.additions) qs (map slot_of vs) (map slot_of ws) _ c.args.encoder.now c.open_record.new.self c.encode_components.new.encoder c.encode_additions.new.encoder c.encode_additions.new.encoder _ (λ n. (o.law n).1)
+          (λ n le. w.law.at n (le_trans (le-max_left (deepest levels_of vs) (deepest levels_of ws)) le)) (λ n le. a.law.at n (le_trans (le-max_right (deepest levels_of vs) (deepest levels_of ws)) le));
+      behaves = record { again = λ q. absurd (o.behaves.again q); fails = a.fails; kept = a.kept ∙ w.kept ∙ o.behaves.kept };
+    })
+
+pub encode_fields-returns : goal.encode_fields-returns
+encode_fields-returns g t c =
+    let ts = c.args.kinds.now in
+    let r = c.args.record.now in
+    let ps = parts_at in_root ts r.root.items in
+    let qs = parts_at (grouped ts) ts (behind r.additions) in
+    let vs = c.args.root_values.now in
+    let ws = c.args.added_values.now in
+    let k = record_counted ts r c.presence_bit_count-bits.result c.added_count-count.result (c.presence_bit_count-bits.ensures ∙ ap (λ cs. count_by (λ d. is_not_required d.presence) cs) c.root-components.ensures) c.added_count-count.ensures in
+    let o = c.in_ok-outside.ensures.opened ps (is_some r.additions) qs k in
+    let w = rw c.root-components.ensures at c.in_ok-encode_components.ensures in
+    let a = rw c.behind-additions.ensures at c.in_ok-encode_additions.ensures in
+    let d = c.close_record.ensures.closed ps (is_some r.additions) qs (unmarked_none ts r.additions) in
+    record {
+      law = record_ended g.E.Encoder.rules g.E.Encoder.opens ps (is_some r.additions) qs (map slot_of vs) (map slot_of ws) _ c.args.encoder.now c.open_record.new.self c.encode_components.new.encoder c.encode_additions.new.encoder _ (λ n. (o.law n).0)
+          (λ n le. w.law.at n (le_trans (le-max_left (deepest levels_of vs) (deepest levels_of ws)) le)) (λ n le. a.law.at n (le_trans (le-max_right (deepest levels_of vs) (deepest levels_of ws)) le)) c.close_record.result c.close_record.new.self d;
+      behaves = record { again = λ q. absurd (o.behaves.again q); fails = d.behaves.fails; kept = d.behaves.kept ∙ a.kept ∙ w.kept ∙ o.behaves.kept };
+    }
+
+pub encode_record-returns : goal.encode_record-returns
+encode_record-returns g t c =
+    let v = c.args.value.now in
+    let ts = c.args.kinds.now in
+    let r = c.args.record.now in
+    let vs = c.deref-root_values.result.now in
+    let ws = c.deref-added_values.result.now in
+    let e = c.in-Fields.is ∙ sym (rolls-Fields c.in-Fields.root c.in-Fields.added) in
+    let el = fields_levels v _ _ e ∙ ap₂ (λ vs ws. suc (max (deepest levels_of vs) (deepest levels_of ws))) (sym c.deref-root_values.ensures.value) (sym c.deref-added_values.ensures.value) in
+    let ev = fields_value v _ _ e ∙ ap₂ (λ vs ws. record_value (map slot_of vs) (map slot_of ws)) (sym c.deref-root_values.ensures.value) (sym c.deref-added_values.ensures.value) in
+    encodes_value (record_schema ts r) (levels_of v) _ (value_of v) (record_value (map slot_of vs) (map slot_of ws)) _ _ _ el ev c.encode_fields.ensures
+
+pub encode_record-encode_fields-requires : goal.encode_record-encode_fields-requires
+encode_record-encode_fields-requires g t c =
+    let v = c.args.value.now in
+    let e = c.in-Fields.is ∙ sym (rolls-Fields c.in-Fields.root c.in-Fields.added) in
+    let el = fields_levels v _ _ e ∙ ap₂ (λ vs ws. suc (max (deepest levels_of vs) (deepest levels_of ws))) (sym c.deref-root_values.ensures.value) (sym c.deref-added_values.ensures.value) in
+    grind (arith, common_steps, el)
+
+pub encode_fields-returns-then-not-root_told : goal.encode_fields-returns-then-not-root_told
+encode_fields-returns-then-not-root_told g t c = nothing_written _ _ _ _ _ _ c.refuse_out_of_memory.ensures
+
+pub encode_fields-returns-then-not-added_told : goal.encode_fields-returns-then-not-added_told
+encode_fields-returns-then-not-added_told g t c = nothing_written _ _ _ _ _ _ c.refuse_out_of_memory-then-not-added_told.ensures
+
+pub encode_fields-encode_components-requires : goal.encode_fields-encode_components-requires
+encode_fields-encode_components-requires g t c = grind (arith, common_steps, sym c.fit-root_told.ensures ∙ c.if-not-root_told.false)
+
+pub encode_fields-encode_additions-requires : goal.encode_fields-encode_additions-requires
+encode_fields-encode_additions-requires g t c = grind (arith, common_steps, sym c.fit-added_told.ensures ∙ c.if-not-added_told.false)
+
+pub encode_component-returns-in-Default : goal.encode_component-returns-in-Default
+encode_component-returns-in-Default g t c = λ q. rw c.in-Default.is (c.encode_default.ensures (stands_there c.in-Default.otherwise (slot_of c.args.value.now) (rw c.in-Default.is at q)))
+
+pub encode_default-returns-in_err-set_presence : goal.encode_default-returns-in_err-set_presence
+encode_default-returns-in_err-set_presence g t c =
+    let p = err_from_is_err_and c.from_residual.result c.from_residual.ensures.1 in
+    let o = c.in_err-set_presence.ensures in
+    λ q. rw (p.1, p.2) (record {
+      law = record { at = λ n le. default_unmarked g.E.Encoder.rules c.args.otherwise.now _ c.args.encoder.now c.set_presence.new.self c.set_presence.new.self (slot_of c.args.value.now) c.is_default-differs.result _ _ c.is_default-differs.ensures refl q o.law };
+      fails = o.behaves.fails;
+      kept = o.behaves.kept;
+    })
+
+pub encode_default-returns-then-not-differs : goal.encode_default-returns-then-not-differs
+encode_default-returns-then-not-differs g t c =
+    let o = c.in_ok-set_presence.ensures in
+    λ q. record {
+      law = record { at = λ n le. default_left g.E.Encoder.rules c.args.otherwise.now _ c.args.encoder.now c.set_presence.new.self (slot_of c.args.value.now) c.is_default-differs.result _ c.is_default-differs.ensures refl (ap not c.if-not-differs.true) q o.law };
+      fails = tt;
+      kept = o.behaves.kept;
+    }
+
+pub encode_default-returns : goal.encode_default-returns
+encode_default-returns g t c =
+    let o = c.in_ok-set_presence.ensures in
+    let w = c.encode_value.ensures in
+    λ q. record {
+      law = record { at = λ n le. default_there g.E.Encoder.rules c.args.otherwise.now g.met.E.Encoder.lawful _ c.args.encoder.now c.set_presence.new.self c.encode_value.new.encoder (slot_of c.args.value.now) c.is_default-differs.result _ c.encode_value.result c.is_default-differs.ensures refl (ap not c.if-not-differs.false) q o.law (w.law.at n le) };
+      fails = w.behaves.fails;
+      kept = w.behaves.kept ∙ o.behaves.kept;
+    }
+
+pub encode_addition-returns-in-Default : goal.encode_addition-returns-in-Default
+encode_addition-returns-in-Default g t c = λ q. rw c.in-Default.is (c.encode_differing.ensures (sym c.is_there.ensures ∙ c.if-not-is_there.false))
+
+pub encode_differing-returns-then-is_default : goal.encode_differing-returns-then-is_default
+encode_differing-returns-then-is_default g t c =
+    let w = c.skip_addition.ensures in
+    λ q. record {
+      law = record { at = λ n le. default_skipped g.E.Encoder.rules c.args.otherwise.now _ c.args.encoder.now c.skip_addition.new.self (slot_of c.args.value.now) c.is_default.result c.skip_addition.result c.is_default.ensures c.if-is_default.true q w.law };
+      fails = w.behaves.fails;
+      kept = w.behaves.kept;
+    }
+
+pub encode_differing-returns : goal.encode_differing-returns
+encode_differing-returns g t c =
+    let w = c.encode_open.ensures in
+    λ q. record {
+      law = record { at = λ n le. default_open g.E.Encoder.rules c.args.otherwise.now _ c.args.encoder.now c.encode_open.new.encoder (slot_of c.args.value.now) c.is_default.result c.encode_open.result c.is_default.ensures c.if-is_default.false q (w.law.at n le) };
+      fails = w.fails;
+      kept = w.kept;
     }

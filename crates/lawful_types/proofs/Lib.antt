@@ -1,0 +1,4 @@
+pub mod Contents
+pub mod Lawful
+pub mod Passing
+pub mod Values

@@ -1,0 +1,9 @@
+use Rattle.std.proofs.Common.{◌∙◌}
+use Rattle.rasn_dynamic.proofs.SameDefaults.{no_characters, same_characters}
+use Rattle.rasn_dynamic.proofs.defaults.are_characters.Goals as goal
+
+pub returns-in-Some : goal.returns-in-Some
+returns-in-Some c = rw c.in-Some.ensures (c.eq.ensures ∙ same_characters c.in-Some.own.now c.args.told.now)
+
+pub returns-in-None : goal.returns-in-None
+returns-in-None c = no_characters _ c.args.told.now c.in-None.ensures
