@@ -8,6 +8,7 @@ pub mod Given
 pub mod OneAddition
 pub mod Levelled
 pub mod Members
+pub mod NamedBits
 pub mod Places
 pub mod Presences
 pub mod Reading

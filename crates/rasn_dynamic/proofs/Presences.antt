@@ -15,7 +15,6 @@ use Rattle.rasn_dynamic.specs.declared.types.DefaultValue.{DefaultValue}
 use Rattle.rasn_dynamic.specs.declared.types.Presence.{Presence}
 use Rattle.rasn_dynamic.specs.declared.types.Presence.TheVariants.{Default, Group, Optional, Required}
 use Rattle.rasn_dynamic.specs.Types.{default_value, presence_of}
-use Rattle.rasn_dynamic.proofs.SameDefaults.{same_normal}
 use Rattle.rasn_dynamic.specs.Values.{there}
 use Rattle.rasn_dynamic.specs.Writes.{may_stand}
 
@@ -95,25 +94,25 @@ module _ {E X : Type 0} (rules : EncoderRules E X) where
 
 module _ {E X : Type 0} (rules : EncoderRules E X) (d : DefaultValue) where
   -- the bit of a component with a default
-  bit_told : (s : Schema) (v : Content) (r : Bool) → r ≡ same v (default_value d) → presence_bit (default (default_value d)) (Some (normal s v)) ≡ Some (not r)
-  bit_told s v r e = ap (λ b. Some (not b)) (sym (e ∙ same_normal s v d))
+  bit_told : (s : Schema) (v : Content) (r : Bool) → r ≡ same (normal s v) (default_value d) → presence_bit (default (default_value d)) (Some (normal s v)) ≡ Some (not r)
+  bit_told s v r e = ap (λ b. Some (not b)) (sym e)
 
   -- a component with a default whose presence bit is refused
-  pub default_unmarked : (s : Schema) (x y z : X) (o : Option Content) (r b : Bool) (e : E) → r ≡ same (there o) (default_value d) → b ≡ not r → is_some o ≡ true → GivesPresence rules b x (Err e) y
+  pub default_unmarked : (s : Schema) (x y z : X) (o : Option Content) (r b : Bool) (e : E) → r ≡ same (normal s (there o)) (default_value d) → b ≡ not r → is_some o ≡ true → GivesPresence rules b x (Err e) y
       → WrittenPart rules (default (default_value d)) s (normal_addition (default (default_value d)) s o) x (Err e) z
   unfolding settle
   default_unmarked s x y z None r b e i j q h = absurd (cc)
   default_unmarked s x y z (Some v) r b e i j q h = inr (refuses_bit (bit_told s v r i) h)
 
   -- one that is its default
-  pub default_left : (s : Schema) (x y : X) (o : Option Content) (r b : Bool) → r ≡ same (there o) (default_value d) → b ≡ not r → b ≡ false → is_some o ≡ true → rules.marks x b y
+  pub default_left : (s : Schema) (x y : X) (o : Option Content) (r b : Bool) → r ≡ same (normal s (there o)) (default_value d) → b ≡ not r → b ≡ false → is_some o ≡ true → rules.marks x b y
       → WrittenPart rules (default (default_value d)) s (normal_addition (default (default_value d)) s o) x (Ok tt) y
   unfolding settle
   default_left s x y None r b i j f q h = absurd (cc)
   default_left s x y (Some v) r b i j f q h = presents_left_out (bit_told s v r i ∙ ap Some (sym j ∙ f)) (rw (← f) h)
 
   -- one that isn't
-  pub default_there : PresentsWell rules → (s : Schema) (x m y : X) (o : Option Content) (r b : Bool) (result : Result (Unit {0}) E) → r ≡ same (there o) (default_value d) → b ≡ not r → b ≡ true → is_some o ≡ true → rules.marks x b m
+  pub default_there : PresentsWell rules → (s : Schema) (x m y : X) (o : Option Content) (r b : Bool) (result : Result (Unit {0}) E) → r ≡ same (normal s (there o)) (default_value d) → b ≡ not r → b ≡ true → is_some o ≡ true → rules.marks x b m
       → Written rules s (normal s (there o)) m result y → WrittenPart rules (default (default_value d)) s (normal_addition (default (default_value d)) s o) x result y
   unfolding settle
   default_there L s x m y None r b result i j f q h w = absurd (cc)
@@ -122,14 +121,14 @@ module _ {E X : Type 0} (rules : EncoderRules E X) (d : DefaultValue) where
   default_there L s x m y (Some v) r b (Err e) i j f q h (inr k) = inr (refuses_there (bit_told s v r i ∙ ap Some (sym j ∙ f)) (rw (← f) h) k)
 
   -- an addition that is its default
-  pub default_skipped : (s : Schema) (x y : X) (o : Option Content) (r : Bool) (result : Result (Unit {0}) E) → r ≡ same (there o) (default_value d) → r ≡ true → is_some o ≡ true → AdditionSkipped rules x result y
+  pub default_skipped : (s : Schema) (x y : X) (o : Option Content) (r : Bool) (result : Result (Unit {0}) E) → r ≡ same (normal s (there o)) (default_value d) → r ≡ true → is_some o ≡ true → AdditionSkipped rules x result y
       → WrittenAddition rules (default (default_value d)) s (normal_addition (default (default_value d)) s o) x result y
   unfolding settle
   default_skipped s x y None r result i f q h = absurd (cc)
   default_skipped s x y (Some v) r result i f q h = given_absent rules (default (default_value d)) s (Some (normal s v)) x result y (bit_told s v r i ∙ ap (λ b. Some (not b)) f) h
 
   -- an addition that isn't
-  pub default_open : (s : Schema) (x y : X) (o : Option Content) (r : Bool) (result : Result (Unit {0}) E) → r ≡ same (there o) (default_value d) → r ≡ false → is_some o ≡ true → AdditionWritten rules s (normal s (there o)) x result y
+  pub default_open : (s : Schema) (x y : X) (o : Option Content) (r : Bool) (result : Result (Unit {0}) E) → r ≡ same (normal s (there o)) (default_value d) → r ≡ false → is_some o ≡ true → AdditionWritten rules s (normal s (there o)) x result y
       → WrittenAddition rules (default (default_value d)) s (normal_addition (default (default_value d)) s o) x result y
   unfolding settle
   default_open s x y None r result i f q h = absurd (cc)

@@ -9,7 +9,7 @@ use Rattle.std.proofs.lemmas.Bool.{and_from, and_parts, eq-eqb, ne_eqb}
 use Rattle.std.proofs.lemmas.Bool.Decides.{same_from_decides, Decides-eqb, Decides-int_eq}
 use Rattle.std.proofs.lemmas.Slice.Eq.{slice_eq-Decides}
 use Rattle.rasn_types.specs.Alphabets.{has, has_all}
-use Rattle.rasn_types.specs.Values.{Value, bag_of, characters, code, equal_lists, nothing, octets, same, truth, whole}
+use Rattle.rasn_types.specs.Values.{Value, bag_of, bits, characters, code, equal_lists, nothing, octets, same, truth, whole}
 use Rattle.rasn_types.specs.Values
 use Rattle.rasn_types.proofs.Codes.{same_true}
 use Rattle.rasn_constraints.specs.Bounds.{unbounded}
@@ -24,11 +24,10 @@ use Rattle.rasn_dynamic.specs.declared.types.DefaultValue.{DefaultValue}
 use Rattle.rasn_dynamic.specs.declared.types.DefaultValue.TheVariants
 use Rattle.rasn_dynamic.specs.Types.{default_value}
 use Rattle.rasn_dynamic.specs.declared.values.Value.{Value as Tree}
-use Rattle.rasn_dynamic.specs.Values.{value_of, NotCharacters, NotElements, NotItem, NotNull, NotOctets, NotTruth, NotWhole}
+use Rattle.rasn_dynamic.specs.Values.{value_of, NotBits, NotCharacters, NotElements, NotItem, NotNull, NotOctets, NotTruth, NotWhole}
 
 -- values that are no default, and that a schema doesn't make one
 abbrev is_other : Value → Bool
-is_other (Values.bits bs) = true
 is_other (Values.bag vs) = true
 is_other (Values.fields r x) = true
 is_other (Values.alternative s i v) = true
@@ -42,6 +41,7 @@ no_other (TheVariants.Integer z) = refl
 no_other (TheVariants.Item (Root i)) = refl
 no_other (TheVariants.Item (Added i)) = refl
 no_other (TheVariants.Octets os) = refl
+no_other (TheVariants.Bits bs) = refl
 no_other (TheVariants.Characters cs) = refl
 no_other TheVariants.NoElements = refl
 
@@ -56,7 +56,7 @@ other_differs v d e = go (same v (default_value d)) refl
 other_normal : (s : Schema) (v : Value) → is_other v ≡ true → is_other (normal s v) ≡ true
 unfolding normal over_bag bag_of
 other_normal (Schemas.containing s) v e = other_normal s v e
-other_normal (Schemas.bit_string z m true) (Values.bits bs) e = refl
+other_normal (Schemas.bit_string z m true) (Values.bits bs) e = absurd cc
 other_normal (Schemas.bit_string z m true) v e = e
 other_normal (Schemas.bit_string z m false) v e = e
 other_normal (Schemas.list s z m) (Values.elements (Values.value v vs)) e = refl
@@ -70,31 +70,36 @@ other_normal (Schemas.choice ps qs x) (Values.alternative Values.added i v) e = 
 other_normal (Schemas.choice ps qs x) v e = e
 other_normal _ v e = e
 
--- any other value is in normal form
-plain_normal : (s : Schema) (v : Value) → is_other v ≡ false → normal s v ≡ v
-unfolding normal over_bag
-plain_normal (Schemas.containing s) v e = plain_normal s v e
-plain_normal (Schemas.bit_string z m true) (Values.bits bs) e = absurd cc
-plain_normal (Schemas.bit_string z m true) v e = refl
-plain_normal (Schemas.bit_string z m false) v e = refl
-plain_normal (Schemas.list s z m) (Values.elements Values.no_values) e = refl
-plain_normal (Schemas.list s z m) (Values.elements (Values.value v vs)) e = absurd cc
-plain_normal (Schemas.list s z m) v e = refl
-plain_normal (Schemas.set_of s z m) (Values.bag vs) e = absurd cc
-plain_normal (Schemas.set_of s z m) v e = refl
-plain_normal (Schemas.sequence o ps x qs) (Values.fields r a) e = absurd cc
-plain_normal (Schemas.sequence o ps x qs) v e = refl
-plain_normal (Schemas.choice ps qs x) (Values.alternative d i v) e = absurd cc
-plain_normal (Schemas.choice ps qs x) v e = refl
-plain_normal _ v e = refl
+-- whether values are named bits, or octets that contain them
+abbrev pub is_named : Schema → Bool
+is_named (Schemas.bit_string z m b) = b
+is_named (Schemas.containing s) = is_named s
+is_named s = false
 
--- a value is a default as its normal form is, whichever the schema
-pub same_normal : (s : Schema) (v : Value) (d : DefaultValue) → same v (default_value d) ≡ same (normal s v) (default_value d)
-same_normal s v d = go (is_other v) refl
+-- any other value is in normal form, where bits have no names
+plain_normal : (s : Schema) (v : Value) → is_named s ≡ false → is_other v ≡ false → normal s v ≡ v
+unfolding normal over_bag
+plain_normal (Schemas.containing s) v n e = plain_normal s v n e
+plain_normal (Schemas.bit_string z m true) v n e = absurd cc
+plain_normal (Schemas.bit_string z m false) v n e = refl
+plain_normal (Schemas.list s z m) (Values.elements Values.no_values) n e = refl
+plain_normal (Schemas.list s z m) (Values.elements (Values.value v vs)) n e = absurd cc
+plain_normal (Schemas.list s z m) v n e = refl
+plain_normal (Schemas.set_of s z m) (Values.bag vs) n e = absurd cc
+plain_normal (Schemas.set_of s z m) v n e = refl
+plain_normal (Schemas.sequence o ps x qs) (Values.fields r a) n e = absurd cc
+plain_normal (Schemas.sequence o ps x qs) v n e = refl
+plain_normal (Schemas.choice ps qs x) (Values.alternative d i v) n e = absurd cc
+plain_normal (Schemas.choice ps qs x) v n e = refl
+plain_normal _ v n e = refl
+
+-- a value is a default as its normal form is, whichever the schema, where bits have no names
+pub same_normal : (s : Schema) (v : Value) (d : DefaultValue) → is_named s ≡ false → same v (default_value d) ≡ same (normal s v) (default_value d)
+same_normal s v d n = go (is_other v) refl
   where
     go : (b : Bool) → is_other v ≡ b → same v (default_value d) ≡ same (normal s v) (default_value d)
     go true e = other_differs v d e ∙ sym (other_differs (normal s v) d (other_normal s v e))
-    go false e = ap (λ w. same w (default_value d)) (sym (plain_normal s v e))
+    go false e = ap (λ w. same w (default_value d)) (sym (plain_normal s v n e))
 
 -- what is of no kind of a default's isn't one
 equal_lists_same : (xs ys : List ℕ) → equal_lists xs ys ≡ true → xs ≡ ys
@@ -115,7 +120,7 @@ pub same_self : (v : Value) → same v v ≡ true
 unfolding same
 same_self v = equal_lists_self (code v)
 
-differs : (v w : Value) → (v ≡ w → ⊥) → same v w ≡ false
+pub differs : (v w : Value) → (v ≡ w → ⊥) → same v w ≡ false
 differs v w h = go (same v w) refl
   where
     go : (b : Bool) → same v w ≡ b → same v w ≡ false
@@ -168,6 +173,22 @@ same_characters xs ys = same_from_decides _ _ (slice_eq-Decides Decides-eqb xs y
 
 pub no_elements : (v : Value) → NotElements v → false ≡ same v (list_value [])
 no_elements v h = sym (differs v (list_value []) (λ e. absurd (let f : true ≡ false = sym (ap (is_of_kind (Schemas.list Schemas.null (record { least = None; most = None }) false)) e) ∙ h Schemas.null (record { least = None; most = None }) false in cc)))
+
+-- bits
+bools_decide : (a b : Bool) → Decides (beq a b) (a ≡ b)
+bools_decide true true = (λ e. refl, λ e. refl)
+bools_decide true false = (λ e. absurd (cc), λ e. absurd (cc))
+bools_decide false true = (λ e. absurd (cc), λ e. absurd (cc))
+bools_decide false false = (λ e. refl, λ e. refl)
+
+bits_of : (xs ys : List Bool) → bits xs ≡ bits ys → xs ≡ ys
+bits_of xs ys e = cc
+
+pub same_bits : (xs ys : List Bool) → pointwise beq xs ys ≡ same (bits xs) (bits ys)
+same_bits xs ys = same_from_decides _ _ (slice_eq-Decides bools_decide xs ys (pointwise beq xs ys) refl) (decided bits xs ys (bits_of xs ys))
+
+pub no_bits : (v : Value) (bs : List Bool) → NotBits v → false ≡ same v (bits bs)
+no_bits v bs h = sym (differs v (bits bs) (λ e. absurd (let f : true ≡ false = sym (ap (is_of_kind (Schemas.bit_string (record { least = None; most = None }) false false)) e) ∙ h (record { least = None; most = None }) false false in cc)))
 
 -- items, by their places
 pub same_root : (i j : ℕ) → eqb i j ≡ same (item_at (Root i)) (item_at (Root j))

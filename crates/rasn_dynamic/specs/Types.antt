@@ -4,7 +4,7 @@ use Rattle.std.specs.Prelude.{count_by, is_some, nat_lt, option_map, slice_get, 
 use Rattle.std.specs.Global.{Vec}
 use Rattle.rasn_types.specs.Alphabets.{bmp, ia5, numeric, printable, visible}
 use Rattle.rasn_types.specs.Contents.{other, utf8}
-use Rattle.rasn_types.specs.Values.{Value, truth, nothing, whole, octets, characters}
+use Rattle.rasn_types.specs.Values.{Value, truth, nothing, whole, octets, bits, characters}
 use Rattle.rasn_constraints.specs.Bounds.{unbounded}
 use Rattle.rasn_constraints.specs.Constraints.{effective}
 use Rattle.rasn_constraints.specs.declared.constraints.Bounded.{Bounded}
@@ -90,6 +90,16 @@ simple_schema Text = Schemas.text other
 simple_schema ObjectIdentifier = Schemas.identifier
 simple_schema Open = Schemas.any
 
+-- X.680 22.7: of a type whose values are named bits, their size
+abbrev pub named_size : Option Kind → Option (Extensible (Bounded ℕ))
+named_size (Some (SimpleKind (NamedBits c))) = Some c
+named_size k = None
+
+-- what stands within octets that contain it, and else the type itself
+abbrev pub within : List Kind → Option Kind → Option Kind
+within ts (Some (Containing i)) = slice_get ts i
+within ts k = k
+
 -- the value that a default is
 abbrev pub default_value : DefaultValue → Value
 default_value (TheVariants.Boolean b) = truth b
@@ -97,6 +107,7 @@ default_value TheVariants.Null = nothing
 default_value (TheVariants.Integer z) = whole z
 default_value (TheVariants.Item p) = item_at p
 default_value (TheVariants.Octets os) = octets os
+default_value (TheVariants.Bits bs) = bits bs
 default_value (TheVariants.Characters cs) = characters cs
 default_value TheVariants.NoElements = list_value []
 

@@ -175,15 +175,15 @@ fn decode_elements<D: CountedDecoder>(
 fn decode_record<D: CountedDecoder>(
     decoder: &mut D,
     kinds: &[Kind],
-    record: &Record,
+    sequence: &Record,
 ) -> Result<Value, D::Error>
-    ensures { ReadsValue D.rules (record_schema kinds.now record.now (D.rules.levels decoder.old))
+    ensures { ReadsValue D.rules (record_schema kinds.now sequence.now (D.rules.levels decoder.old))
         decoder.old result decoder.new }
 {
-    let components = record.root();
-    let additions = record.behind();
+    let components = sequence.root();
+    let additions = sequence.behind();
     let bits = presence_bit_count(components);
-    let count = record.added_count();
+    let count = sequence.added_count();
     let outside = decoder.open_record(Tag::SEQUENCE, bits, count)?;
     let root = decode_components(decoder, kinds, components)?;
     let added = decode_additions(decoder, kinds, additions)?;

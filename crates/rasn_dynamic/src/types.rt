@@ -9,6 +9,7 @@ ghost use Rattle.rasn_dynamic.specs.Types.{is_not_required, required_in, schema_
 use rasn_constraints::constraints::{Bounded, Extensible};
 use rasn_schema::items::{ItemCounts, Place};
 use rasn_strings::strings::BmpString;
+use rasn_types::bit_string::BitString;
 use rasn_types::types::{Any, Integer, Tag};
 
 /// The bounds of a number, and whether they have an extension marker (X.680 51.4, 52).
@@ -109,6 +110,9 @@ pub enum DefaultValue {
     Item(Place),
     /// Of each type whose values are octets.
     Octets(Any),
+    /// Of BIT STRING: where its bits have names, those of the normal form, which are without zero bits at their end,
+    /// but as many as the size asks for (X.680 22.7; X.691 16.2).
+    Bits(BitString),
     /// Of a character string.
     Characters(BmpString),
     /// Of SEQUENCE OF: without elements.

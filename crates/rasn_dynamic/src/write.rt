@@ -29,7 +29,9 @@ use rasn_schema::items::Place;
 use rasn_traits::counted::CountedEncoder;
 use rasn_types::types::{Identifier, Tag};
 
-/// Writes a value of the type at a place of a table.
+/// Writes a value of the type at a place of a table. A component with a default always has a value, also where that is
+/// the default, which isn't written. One that is absent has no encoding, and is refused as for want of memory, since
+/// `CountedEncoder` has no other refusal for it.
 #[cycle(writing)]
 pub fn encode_value<E: CountedEncoder>(
     encoder: &mut E,
@@ -208,10 +210,10 @@ fn encode_members<E: CountedEncoder>(
 fn encode_record<E: CountedEncoder>(
     encoder: &mut E,
     kinds: &[Kind],
-    record: &Record,
+    sequence: &Record,
     value: &Value,
 ) -> Result<(), E::Error>
-    ensures { Encodes E.rules (record_schema kinds.now record.now) (levels_of value.now) (value_of value.now)
+    ensures { Encodes E.rules (record_schema kinds.now sequence.now) (levels_of value.now) (value_of value.now)
         encoder.old result encoder.new }
 {
     let Value::Fields(root, added) = value else {
@@ -219,8 +221,8 @@ fn encode_record<E: CountedEncoder>(
     };
     let root_values: &[Value] = root;
     let added_values: &[Value] = added;
-    let components = record.root();
-    let additions = record.behind();
+    let components = sequence.root();
+    let additions = sequence.behind();
     let root_fits = fit(components, root_values, false);
     if !root_fits {
         return encoder.refuse_other();
@@ -229,7 +231,7 @@ fn encode_record<E: CountedEncoder>(
     if !added_fits {
         return encoder.refuse_other();
     }
-    encode_fields(encoder, kinds, record, root_values, added_values)
+    encode_fields(encoder, kinds, sequence, root_values, added_values)
 }
 
 /// Writes a SEQUENCE by its root components and its additions. One with a default that isn't told has no encoding.
@@ -237,16 +239,16 @@ fn encode_record<E: CountedEncoder>(
 fn encode_fields<E: CountedEncoder>(
     encoder: &mut E,
     kinds: &[Kind],
-    record: &Record,
+    sequence: &Record,
     root_values: &[Value],
     added_values: &[Value],
 ) -> Result<(), E::Error>
-    ensures { Encodes E.rules (record_schema kinds.now record.now)
+    ensures { Encodes E.rules (record_schema kinds.now sequence.now)
         (suc (max (deepest levels_of root_values.now) (deepest levels_of added_values.now)))
         (record_value (map slot_of root_values.now) (map slot_of added_values.now)) encoder.old result encoder.new }
 {
-    let components = record.root();
-    let additions = record.behind();
+    let components = sequence.root();
+    let additions = sequence.behind();
     let root_told = fit(components, root_values, true);
     if !root_told {
         return encoder.refuse_out_of_memory();
@@ -256,7 +258,7 @@ fn encode_fields<E: CountedEncoder>(
         return encoder.refuse_out_of_memory();
     }
     let bits = presence_bit_count(components);
-    let count = record.added_count();
+    let count = sequence.added_count();
     let outside = encoder.open_record(Tag::SEQUENCE, bits, count, Identifier::EMPTY)?;
     encode_components(encoder, kinds, components, root_values)?;
     encode_additions(encoder, kinds, additions, added_values)?;
@@ -336,7 +338,7 @@ fn encode_default<E: CountedEncoder>(
         WritesOne E.rules (WrittenPart E.rules) (default (default_value otherwise.now)) (schema_at kinds.now place)
         (levels_of value.now) (slot_of value.now) encoder.old result encoder.new }
 {
-    let differs = !value.is_default(otherwise);
+    let differs = !value.is_default_at(kinds, place, otherwise);
     encoder.set_presence(differs)?;
     if !differs {
         return Ok(());
@@ -454,7 +456,7 @@ fn encode_differing<E: CountedEncoder>(
         WritesOne E.rules (WrittenAddition E.rules) (default (default_value otherwise.now)) (schema_at kinds.now place)
         (levels_of value.now) (slot_of value.now) encoder.old result encoder.new }
 {
-    if value.is_default(otherwise) {
+    if value.is_default_at(kinds, place, otherwise) {
         return encoder.skip_addition();
     }
     encode_open(encoder, kinds, place, value)

@@ -212,7 +212,7 @@ encode_list-returns-in_default g t c =
 pub encode_record-returns-in_default : goal.encode_record-returns-in_default
 encode_record-returns-in_default g t c =
     let v = c.args.value.now in
-    let r = c.args.record.now in
+    let r = c.args.sequence.now in
     other_refused_within (record_schema c.args.kinds.now r) (levels_of v) (value_of v) _ _ _ c.refuse_other.ensures
     (no_record (parts_at in_root c.args.kinds.now r.root.items) (parts_at (grouped c.args.kinds.now) c.args.kinds.now (behind r.additions)) (is_some r.additions) v (not_fields v c.in_default.not-Fields))
 
@@ -220,7 +220,7 @@ pub encode_record-returns-then-not-root_fits : goal.encode_record-returns-then-n
 encode_record-returns-then-not-root_fits g t c =
     let v = c.args.value.now in
     let ts = c.args.kinds.now in
-    let r = c.args.record.now in
+    let r = c.args.sequence.now in
     let ps = parts_at in_root ts r.root.items in
     let qs = parts_at (grouped ts) ts (behind r.additions) in
     let vs = c.deref-root_values.result.now in
@@ -236,7 +236,7 @@ pub encode_record-returns-then-not-added_fits : goal.encode_record-returns-then-
 encode_record-returns-then-not-added_fits g t c =
     let v = c.args.value.now in
     let ts = c.args.kinds.now in
-    let r = c.args.record.now in
+    let r = c.args.sequence.now in
     let ps = parts_at in_root ts r.root.items in
     let qs = parts_at (grouped ts) ts (behind r.additions) in
     let vs = c.deref-root_values.result.now in
@@ -558,7 +558,7 @@ pub encode_fields-returns-in_err-outside : goal.encode_fields-returns-in_err-out
 encode_fields-returns-in_err-outside g t c =
     let p = err_from_is_err_and c.from_residual.result c.from_residual.ensures.1 in
     let ts = c.args.kinds.now in
-    let r = c.args.record.now in
+    let r = c.args.sequence.now in
     let ps = parts_at in_root ts r.root.items in
     let qs = parts_at (grouped ts) ts (behind r.additions) in
     let vs = c.args.root_values.now in
@@ -574,7 +574,7 @@ pub encode_fields-returns-in_err-encode_components : goal.encode_fields-returns-
 encode_fields-returns-in_err-encode_components g t c =
     let p = err_from_is_err_and c.from_residual-in_err-encode_components.result c.from_residual-in_err-encode_components.ensures.1 in
     let ts = c.args.kinds.now in
-    let r = c.args.record.now in
+    let r = c.args.sequence.now in
     let ps = parts_at in_root ts r.root.items in
     let qs = parts_at (grouped ts) ts (behind r.additions) in
     let vs = c.args.root_values.now in
@@ -592,7 +592,7 @@ pub encode_fields-returns-in_err-encode_additions : goal.encode_fields-returns-i
 encode_fields-returns-in_err-encode_additions g t c =
     let p = err_from_is_err_and c.from_residual-in_err-encode_additions.result c.from_residual-in_err-encode_additions.ensures.1 in
     let ts = c.args.kinds.now in
-    let r = c.args.record.now in
+    let r = c.args.sequence.now in
     let ps = parts_at in_root ts r.root.items in
     let qs = parts_at (grouped ts) ts (behind r.additions) in
     let vs = c.args.root_values.now in
@@ -610,7 +610,7 @@ encode_fields-returns-in_err-encode_additions g t c =
 pub encode_fields-returns : goal.encode_fields-returns
 encode_fields-returns g t c =
     let ts = c.args.kinds.now in
-    let r = c.args.record.now in
+    let r = c.args.sequence.now in
     let ps = parts_at in_root ts r.root.items in
     let qs = parts_at (grouped ts) ts (behind r.additions) in
     let vs = c.args.root_values.now in
@@ -630,7 +630,7 @@ pub encode_record-returns : goal.encode_record-returns
 encode_record-returns g t c =
     let v = c.args.value.now in
     let ts = c.args.kinds.now in
-    let r = c.args.record.now in
+    let r = c.args.sequence.now in
     let vs = c.deref-root_values.result.now in
     let ws = c.deref-added_values.result.now in
     let e = c.in-Fields.is ∙ sym (rolls-Fields c.in-Fields.root c.in-Fields.added) in
@@ -665,7 +665,7 @@ encode_default-returns-in_err-set_presence g t c =
     let p = err_from_is_err_and c.from_residual.result c.from_residual.ensures.1 in
     let o = c.in_err-set_presence.ensures in
     λ q. rw (p.1, p.2) (record {
-      law = record { at = λ n le. default_unmarked g.E.Encoder.rules c.args.otherwise.now _ c.args.encoder.now c.set_presence.new.self c.set_presence.new.self (slot_of c.args.value.now) c.is_default-differs.result _ _ c.is_default-differs.ensures refl q o.law };
+      law = record { at = λ n le. default_unmarked g.E.Encoder.rules c.args.otherwise.now _ c.args.encoder.now c.set_presence.new.self c.set_presence.new.self (slot_of c.args.value.now) c.is_default_at-differs.result _ _ (c.is_default_at-differs.ensures n) refl q o.law };
       fails = o.behaves.fails;
       kept = o.behaves.kept;
     })
@@ -674,7 +674,7 @@ pub encode_default-returns-then-not-differs : goal.encode_default-returns-then-n
 encode_default-returns-then-not-differs g t c =
     let o = c.in_ok-set_presence.ensures in
     λ q. record {
-      law = record { at = λ n le. default_left g.E.Encoder.rules c.args.otherwise.now _ c.args.encoder.now c.set_presence.new.self (slot_of c.args.value.now) c.is_default-differs.result _ c.is_default-differs.ensures refl (ap not c.if-not-differs.true) q o.law };
+      law = record { at = λ n le. default_left g.E.Encoder.rules c.args.otherwise.now _ c.args.encoder.now c.set_presence.new.self (slot_of c.args.value.now) c.is_default_at-differs.result _ (c.is_default_at-differs.ensures n) refl (ap not c.if-not-differs.true) q o.law };
       fails = tt;
       kept = o.behaves.kept;
     }
@@ -684,7 +684,7 @@ encode_default-returns g t c =
     let o = c.in_ok-set_presence.ensures in
     let w = c.encode_value.ensures in
     λ q. record {
-      law = record { at = λ n le. default_there g.E.Encoder.rules c.args.otherwise.now g.met.E.Encoder.lawful _ c.args.encoder.now c.set_presence.new.self c.encode_value.new.encoder (slot_of c.args.value.now) c.is_default-differs.result _ c.encode_value.result c.is_default-differs.ensures refl (ap not c.if-not-differs.false) q o.law (w.law.at n le) };
+      law = record { at = λ n le. default_there g.E.Encoder.rules c.args.otherwise.now g.met.E.Encoder.lawful _ c.args.encoder.now c.set_presence.new.self c.encode_value.new.encoder (slot_of c.args.value.now) c.is_default_at-differs.result _ c.encode_value.result (c.is_default_at-differs.ensures n) refl (ap not c.if-not-differs.false) q o.law (w.law.at n le) };
       fails = w.behaves.fails;
       kept = w.behaves.kept ∙ o.behaves.kept;
     }
@@ -692,11 +692,11 @@ encode_default-returns g t c =
 pub encode_addition-returns-in-Default : goal.encode_addition-returns-in-Default
 encode_addition-returns-in-Default g t c = λ q. rw c.in-Default.is (c.encode_differing.ensures (sym c.is_there.ensures ∙ c.if-not-is_there.false))
 
-pub encode_differing-returns-then-is_default : goal.encode_differing-returns-then-is_default
-encode_differing-returns-then-is_default g t c =
+pub encode_differing-returns-then-is_default_at : goal.encode_differing-returns-then-is_default_at
+encode_differing-returns-then-is_default_at g t c =
     let w = c.skip_addition.ensures in
     λ q. record {
-      law = record { at = λ n le. default_skipped g.E.Encoder.rules c.args.otherwise.now _ c.args.encoder.now c.skip_addition.new.self (slot_of c.args.value.now) c.is_default.result c.skip_addition.result c.is_default.ensures c.if-is_default.true q w.law };
+      law = record { at = λ n le. default_skipped g.E.Encoder.rules c.args.otherwise.now _ c.args.encoder.now c.skip_addition.new.self (slot_of c.args.value.now) c.is_default_at.result c.skip_addition.result (c.is_default_at.ensures n) c.if-is_default_at.true q w.law };
       fails = w.behaves.fails;
       kept = w.behaves.kept;
     }
@@ -705,7 +705,7 @@ pub encode_differing-returns : goal.encode_differing-returns
 encode_differing-returns g t c =
     let w = c.encode_open.ensures in
     λ q. record {
-      law = record { at = λ n le. default_open g.E.Encoder.rules c.args.otherwise.now _ c.args.encoder.now c.encode_open.new.encoder (slot_of c.args.value.now) c.is_default.result c.encode_open.result c.is_default.ensures c.if-is_default.false q (w.law.at n le) };
+      law = record { at = λ n le. default_open g.E.Encoder.rules c.args.otherwise.now _ c.args.encoder.now c.encode_open.new.encoder (slot_of c.args.value.now) c.is_default_at.result c.encode_open.result (c.is_default_at.ensures n) c.if-is_default_at.false q (w.law.at n le) };
       fails = w.fails;
       kept = w.kept;
     }

@@ -13,6 +13,9 @@ returns-in-Item c = rw c.in-Item.is c.is_item.ensures
 pub returns-in-Octets : goal.returns-in-Octets
 returns-in-Octets c = rw c.in-Octets.is c.are_octets.ensures
 
+pub returns-in-Bits : goal.returns-in-Bits
+returns-in-Bits c = rw c.in-Bits.is c.are_bits.ensures
+
 pub returns-in-Characters : goal.returns-in-Characters
 returns-in-Characters c = rw c.in-Characters.is c.are_characters.ensures
 
