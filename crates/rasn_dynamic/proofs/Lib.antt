@@ -1,17 +1,5 @@
-pub mod Alphabets
-pub mod BagsReading
-pub mod Choosing
-pub mod Components
 pub mod SameDefaults
-pub mod Elements
-pub mod Given
-pub mod OneAddition
 pub mod Levelled
-pub mod Members
 pub mod NamedBits
-pub mod Places
-pub mod Presences
-pub mod Reading
 pub mod Slots
 pub mod Trees
-pub mod Unfit

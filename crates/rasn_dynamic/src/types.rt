@@ -327,7 +327,7 @@ impl Record {
 }
 
 /// How many components have a presence bit (X.691 19.2).
-pub(crate) fn presence_bit_count(components: &[Component]) -> usize
+pub fn presence_bit_count(components: &[Component]) -> usize
     ensures { result ≡ count_by (λ c. is_not_required c.presence) components.now }
 {
     components
@@ -345,7 +345,7 @@ pub fn are_levelled(types: &Types)
 }
 
 /// Whether a root component of the SEQUENCE at a place of a table has to be there, where one stands there.
-pub(crate) fn required_in(kinds: &[Kind], place: usize) -> Option<bool>
+pub fn required_in(kinds: &[Kind], place: usize) -> Option<bool>
     ensures { result ≡ required_in (slice_get kinds.now place) }
 {
     match kind_at(kinds, place)? {
@@ -355,7 +355,7 @@ pub(crate) fn required_in(kinds: &[Kind], place: usize) -> Option<bool>
 }
 
 /// What stands at a place of a table.
-pub(crate) fn kind_at(kinds: &[Kind], place: usize) -> Option<&Kind>
+pub fn kind_at(kinds: &[Kind], place: usize) -> Option<&Kind>
     ensures { option_map (λ k. k.now) result ≡ slice_get kinds.now place }
 {
     kinds.get(place)

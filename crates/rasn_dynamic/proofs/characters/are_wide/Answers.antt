@@ -1,6 +1,0 @@
-use Rattle.std.proofs.Common.{sym}
-use Rattle.rasn_dynamic.proofs.Alphabets.{wide}
-use Rattle.rasn_dynamic.proofs.characters.are_wide.Goals as goal
-
-pub returns : goal.returns
-returns g c = λ character h. wide c.intervals.result.now character c.intervals.ensures.ascends (rw c.intervals.ensures.expands h)

@@ -1,0 +1,12 @@
+pub mod Alphabets
+pub mod BagsReading
+pub mod Choosing
+pub mod Components
+pub mod Elements
+pub mod Given
+pub mod OneAddition
+pub mod Members
+pub mod Places
+pub mod Presences
+pub mod Reading
+pub mod Unfit

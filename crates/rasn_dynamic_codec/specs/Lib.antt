@@ -1,0 +1,3 @@
+pub mod OneAddition
+pub mod Reads
+pub mod Writes

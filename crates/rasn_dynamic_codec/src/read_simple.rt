@@ -1,0 +1,220 @@
+//! How values are read of types in which no other type stands.
+
+ghost use Rattle.std.specs.Prelude.{◌≡◌};
+ghost use Rattle.rasn_types.specs.Contents.{other, utf8};
+ghost use Rattle.rasn_types.specs.Values.{characters};
+ghost use Rattle.rasn_constraints.specs.Bounds.{unbounded};
+ghost use Rattle.rasn_schema.specs.Enumerations.{items_of};
+ghost use Rattle.rasn_schema.specs.Forms.{bit_schema, character_schema, named_bit_schema};
+ghost use Rattle.rasn_schema.specs.Forms.{number_schema, octet_schema};
+ghost use Rattle.rasn_schema.specs.Schemas.{Schema};
+ghost use Rattle.rasn_traits.specs.Calls.{Reads};
+ghost use Rattle.rasn_dynamic_codec.specs.Reads.{ReadsValue};
+ghost use Rattle.rasn_dynamic.specs.Types.{counts_of, of_characters, of_size, of_value, simple_schema, string_schema};
+
+use crate::characters::StringOf;
+use rasn_dynamic::types::{CharacterString, CharacterType, Items, NumberBounds, Simple, SizeBounds};
+use rasn_dynamic::values::Value;
+use rasn_constraints::constraints::{Constraint, Constraints, Extensible};
+use rasn_strings::strings::{
+    BmpKind, CharacterKind, Ia5Kind, NumericKind, PrintableKind, VisibleKind,
+};
+use rasn_traits::counted::CountedDecoder;
+use rasn_traits::de::Octets;
+use rasn_types::ber::object_identifier_as_bytes;
+use rasn_types::types::{Any, Integer, Tag};
+
+/// Reads a value of a type in which no other stands.
+pub(crate) fn decode_simple<D: CountedDecoder>(
+    decoder: &mut D,
+    simple: &Simple,
+) -> Result<Value, D::Error>
+    ensures { ReadsValue D.rules (simple_schema simple.now) decoder.old result decoder.new }
+{
+    match simple {
+        Simple::Boolean => decode_boolean(decoder),
+        Simple::Null => decode_null(decoder),
+        Simple::Integer(bounds) => decode_integer(decoder, bounds),
+        Simple::Enumerated(items) => decode_enumerated(decoder, items),
+        Simple::OctetString(size) => decode_octets(decoder, size),
+        Simple::BitString(size) => decode_bits(decoder, size),
+        Simple::NamedBits(size) => decode_named_bits(decoder, size),
+        Simple::Characters(string) => decode_characters(decoder, string),
+        Simple::Utf8 => decode_utf8(decoder),
+        Simple::Text => decode_text(decoder),
+        Simple::ObjectIdentifier => decode_identifier(decoder),
+        Simple::Open => decode_any(decoder),
+    }
+}
+
+/// Refuses where nothing stands at a place, as for a REAL.
+pub(crate) fn decode_nothing<D: CountedDecoder>(decoder: &mut D) -> Result<Value, D::Error>
+    ensures { ReadsValue D.rules Schema.real decoder.old result decoder.new }
+{
+    decoder.decode_real(Tag::EOC, &Constraints::NONE)?;
+    Ok(Value::Absent)
+}
+
+/// Reads a BOOLEAN.
+fn decode_boolean<D: CountedDecoder>(decoder: &mut D) -> Result<Value, D::Error>
+    ensures { ReadsValue D.rules Schema.boolean decoder.old result decoder.new }
+{
+    let truth = decoder.decode_bool(Tag::BOOL)?;
+    Ok(Value::Boolean(truth))
+}
+
+/// Reads a NULL.
+fn decode_null<D: CountedDecoder>(decoder: &mut D) -> Result<Value, D::Error>
+    ensures { ReadsValue D.rules Schema.null decoder.old result decoder.new }
+{
+    decoder.decode_null(Tag::NULL)?;
+    Ok(Value::Null)
+}
+
+/// Reads an INTEGER within bounds.
+fn decode_integer<D: CountedDecoder>(
+    decoder: &mut D,
+    bounds: &NumberBounds,
+) -> Result<Value, D::Error>
+    ensures { ReadsValue D.rules (number_schema (of_value bounds.now) unbounded) decoder.old result decoder.new }
+{
+    let stated = [Constraint::Value(*bounds)];
+    let number: Integer = decoder.decode_integer(Tag::INTEGER, &Constraints::new(&stated))?;
+    Ok(Value::Integer(number))
+}
+
+/// Reads an item of an ENUMERATED.
+fn decode_enumerated<D: CountedDecoder>(decoder: &mut D, items: &Items) -> Result<Value, D::Error>
+    ensures { ReadsValue D.rules (items_of (counts_of items.now)) decoder.old result decoder.new }
+{
+    let place = decoder.decode_item(Tag::ENUMERATED, items.counts())?;
+    Ok(Value::Item(place))
+}
+
+/// Reads an OCTET STRING of a size.
+fn decode_octets<D: CountedDecoder>(decoder: &mut D, size: &SizeBounds) -> Result<Value, D::Error>
+    ensures { ReadsValue D.rules (octet_schema (of_size size.now)) decoder.old result decoder.new }
+{
+    let stated = [Constraint::Size(*size)];
+    let octets = decoder.decode_octet_string(Tag::OCTET_STRING, &Constraints::new(&stated))?;
+    match octets.into_owned(decoder.alloc()) {
+        Ok(octets) => Ok(Value::Octets(Any::new(octets))),
+        Err(_) => Err(decoder.out_of_memory()),
+    }
+}
+
+/// Reads a BIT STRING of a size.
+fn decode_bits<D: CountedDecoder>(decoder: &mut D, size: &SizeBounds) -> Result<Value, D::Error>
+    ensures { ReadsValue D.rules (bit_schema (of_size size.now)) decoder.old result decoder.new }
+{
+    let stated = [Constraint::Size(*size)];
+    let bits = decoder.decode_bit_string(Tag::BIT_STRING, &Constraints::new(&stated))?;
+    Ok(Value::Bits(bits))
+}
+
+/// Reads a BIT STRING of a size whose bits have names.
+fn decode_named_bits<D: CountedDecoder>(
+    decoder: &mut D,
+    size: &SizeBounds,
+) -> Result<Value, D::Error>
+    ensures { ReadsValue D.rules (named_bit_schema (of_size size.now)) decoder.old result decoder.new }
+{
+    let stated = [Constraint::Size(*size)];
+    let bits = decoder.decode_named_bits(Tag::BIT_STRING, &Constraints::new(&stated))?;
+    Ok(Value::Bits(bits))
+}
+
+/// Reads a character string.
+fn decode_characters<D: CountedDecoder>(
+    decoder: &mut D,
+    string: &CharacterString,
+) -> Result<Value, D::Error>
+    ensures { ReadsValue D.rules (string_schema string.now) decoder.old result decoder.new }
+{
+    match string.of {
+        CharacterType::Visible => {
+            decode_kind_of::<D, VisibleKind>(decoder, Tag::VISIBLE_STRING, string)
+        }
+        CharacterType::Ia5 => decode_kind_of::<D, Ia5Kind>(decoder, Tag::IA5_STRING, string),
+        CharacterType::Printable => {
+            decode_kind_of::<D, PrintableKind>(decoder, Tag::PRINTABLE_STRING, string)
+        }
+        CharacterType::Numeric => {
+            decode_kind_of::<D, NumericKind>(decoder, Tag::NUMERIC_STRING, string)
+        }
+        CharacterType::Bmp => decode_kind_of::<D, BmpKind>(decoder, Tag::BMP_STRING, string),
+    }
+}
+
+/// Reads a character string whose characters are of a kind.
+fn decode_kind_of<D: CountedDecoder, K: CharacterKind>(
+    decoder: &mut D,
+    tag: Tag,
+    string: &CharacterString,
+) -> Result<Value, D::Error>
+    ensures { ReadsValue D.rules (character_schema K.alphabet (of_characters string.now))
+        decoder.old result decoder.new }
+{
+    let read = decode_string_of::<D, K>(decoder, tag, string)?;
+    Ok(Value::Characters(read.into_characters()))
+}
+
+/// Reads characters of a kind as those of a type of a size, of which some are permitted.
+fn decode_string_of<D: CountedDecoder, K: CharacterKind>(
+    decoder: &mut D,
+    tag: Tag,
+    string: &CharacterString,
+) -> Result<StringOf<K>, D::Error>
+    ensures { Reads D.rules (character_schema K.alphabet (of_characters string.now)) (λ x. characters x)
+        decoder.old result decoder.new }
+{
+    match &string.alphabet {
+        None => {
+            let stated = [Constraint::Size(string.size)];
+            decoder.decode_known_multiplier_string(tag, &Constraints::new(&stated))
+        }
+        Some(permitted) => {
+            let stated = [
+                Constraint::Size(string.size),
+                Constraint::PermittedAlphabet(Extensible::new(permitted.as_slice())),
+            ];
+            decoder.decode_known_multiplier_string(tag, &Constraints::new(&stated))
+        }
+    }
+}
+
+/// Reads a UTF8String.
+fn decode_utf8<D: CountedDecoder>(decoder: &mut D) -> Result<Value, D::Error>
+    ensures { ReadsValue D.rules (Schema.text utf8) decoder.old result decoder.new }
+{
+    let text = decoder.decode_utf8_string(Tag::UTF8_STRING, &Constraints::NONE)?;
+    Ok(Value::Octets(Any::new(text.into_bytes())))
+}
+
+/// Reads a character string whose octets may be any.
+fn decode_text<D: CountedDecoder>(decoder: &mut D) -> Result<Value, D::Error>
+    ensures { ReadsValue D.rules (Schema.text other) decoder.old result decoder.new }
+{
+    let text = decoder.decode_general_string(Tag::GENERAL_STRING, &Constraints::NONE)?;
+    Ok(Value::Octets(Any::new(text.into_vec())))
+}
+
+/// Reads an OBJECT IDENTIFIER.
+fn decode_identifier<D: CountedDecoder>(decoder: &mut D) -> Result<Value, D::Error>
+    ensures { ReadsValue D.rules Schema.identifier decoder.old result decoder.new }
+{
+    let arcs = decoder.decode_object_identifier(Tag::OBJECT_IDENTIFIER)?;
+    let mut octets = Vec::new(decoder.alloc());
+    match object_identifier_as_bytes(&arcs, &mut octets) {
+        Ok(()) => Ok(Value::Octets(Any::new(octets))),
+        Err(_) => Err(decoder.out_of_memory()),
+    }
+}
+
+/// Reads the octets of an open type.
+fn decode_any<D: CountedDecoder>(decoder: &mut D) -> Result<Value, D::Error>
+    ensures { ReadsValue D.rules Schema.any decoder.old result decoder.new }
+{
+    let octets = decoder.decode_any(Tag::EOC)?;
+    Ok(Value::Octets(octets))
+}
