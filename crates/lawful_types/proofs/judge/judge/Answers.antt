@@ -1,4 +1,3 @@
-use Rattle.std.proofs.Common.{sym}
 use Rattle.lawful_types.proofs.Lawful.{judged}
 use Rattle.lawful_types.proofs.judge.judge.Goals as goal
 
