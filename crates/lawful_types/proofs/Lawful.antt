@@ -1,6 +1,6 @@
 -- A table whose types keep the rules is lawful to any number of levels, and a type that is lawful to two keeps them.
-use Rattle.std.proofs.Common.{◌≡◌, refl, sym, ap, ap₂, ◌∙◌, ℕ, zero, suc, ◌+◌, Bool, true, false, cond, ◌&&◌, List, [], ◌∷◌, ◌++◌, Option, Some, None}
-use Rattle.std.specs.Prelude.{count_by, is_some, nat_lt, slice_get}
+use Rattle.std.proofs.Common.{◌≡◌, refl, sym, ap, ap₂, ◌∙◌, ℕ, zero, suc, ◌+◌, Bool, true, false, cond, ◌&&◌, List, [], ◌∷◌, ◌++◌, Option, Some, None, Result, Ok, Err, true≢false}
+use Rattle.std.specs.Prelude.{MatchResult, count_by, is_some, nat_lt, slice_get}
 use Rattle.std.proofs.lemmas.List.Sums.{sum_by-cons}
 use Rattle.rasn_schema.specs.Depth.{meets_cut}
 use Rattle.rasn_schema.specs.Fields.{tag_of}
@@ -24,7 +24,8 @@ use Rattle.rasn_dynamic.proofs.Levelled.{schema_levels}
 use Rattle.per_laws.proofs.Levelled.{levelled_type_unfolds}
 use Rattle.lawful_types.specs.declared.fault.Reason.{Reason}
 use Rattle.lawful_types.specs.declared.fault.Reason.TheVariants as Reasons
-use Rattle.lawful_types.specs.Keeps.{has_lawful_default, is_default_of, is_default_of_plain, is_default_within, is_lawful_kind, keeps, keeps_bounds, keeps_defaults, keeps_presence_bits, keeps_size, keeps_tags, tags_of}
+use Rattle.lawful_types.specs.declared.fault.Fault.{Fault}
+use Rattle.lawful_types.specs.Keeps.{IsFaultOf, has_lawful_default, is_default_of, is_default_of_plain, is_default_within, is_lawful_kind, keeps, keeps_bounds, keeps_defaults, keeps_presence_bits, keeps_size, keeps_tags, tags_of}
 use Rattle.lawful_types.proofs.Passing.{passes_at}
 
 -- ---- defaults: their values are values of what the kinds say, unless cut off, and in normal form
@@ -365,9 +366,19 @@ module _ (ts : List Kind) where
   each_kept Reasons.Tags k x = kept_tags k x
   each_kept Reasons.Default k x = kept_defaults k x
 
-  pub lawful_keeps : (i : ℕ) (r : Reason) (k : Kind) → slice_get ts i ≡ Some k → IsLawful (schema_at ts i 2) → keeps r ts k ≡ true
+  lawful_keeps : (i : ℕ) (r : Reason) (k : Kind) → slice_get ts i ≡ Some k → IsLawful (schema_at ts i 2) → keeps r ts k ≡ true
   unfolding schema_at
   lawful_keeps i r k e x = each_kept r k (go (slice_get ts i) e x)
     where
       go : (o : Option Kind) → o ≡ Some k → IsLawful (at_place (kind_in ts (λ j. schema_at ts j 1) 2) o) → IsLawful (kind_in ts (λ j. schema_at ts j 1) 2 k)
       go o f y = rw f at y
+
+-- a type that breaks a rule isn't
+pub unlawful : (ts : List Kind) (i : ℕ) (r : Reason) (k : Kind) → slice_get ts i ≡ Some k → keeps r ts k ≡ false → IsLawful (schema_at ts i 2) → ⊥
+unlawful ts i r k e f x = true≢false (sym (lawful_keeps ts i r k e x) ∙ f)
+
+-- what is told of a table's types
+pub judged : (ts : List Kind) (r : Result (Unit {0}) Fault) → MatchResult r (λ done. all_pass (is_lawful_kind ts) ts ≡ true) (λ fault. IsFaultOf ts fault) →
+    MatchResult r (λ done. (i : ℕ) → IsLawfulType (schema_at ts i)) (λ fault. IsFaultOf ts fault)
+judged ts (Ok u) h = types_lawful ts h
+judged ts (Err f) h = h

@@ -1,7 +1,7 @@
 //! Judges a table of types.
 
 ghost use Rattle.std.specs.Prelude.{◌≡◌, ℕ, MatchResult, false, true};
-ghost use Rattle.rasn_schema.specs.Lawful.{IsLawfulType};
+ghost use Rattle.rasn_schema.specs.Lawful.{all_pass, IsLawfulType};
 ghost use Rattle.rasn_dynamic.specs.Types.{schema_at};
 ghost use Rattle.lawful_types.specs.Keeps.{IsFaultOf, is_lawful_kind, keeps};
 
@@ -19,12 +19,19 @@ pub fn judge(types: &Types) -> Result<(), Fault>
         (λ done. (place : ℕ) → IsLawfulType (schema_at types.now.kinds.items place))
         (λ fault. IsFaultOf types.now.kinds.items fault) }
 {
-    let mut place = 0;
-    for kind in &types.kinds {
-        if let Err(reason) = judge_kind(&types.kinds, kind) {
+    judge_kinds(&types.kinds)
+}
+
+/// Judges whether each type of a table keeps each rule.
+fn judge_kinds(kinds: &[Kind]) -> Result<(), Fault>
+    ensures { MatchResult result
+        (λ done. all_pass (is_lawful_kind kinds.now) kinds.now ≡ true)
+        (λ fault. IsFaultOf kinds.now fault) }
+{
+    for (place, kind) in kinds.iter().enumerate() {
+        if let Err(reason) = judge_kind(kinds, kind) {
             return Err(Fault { place, reason });
         }
-        place += 1;
     }
     Ok(())
 }

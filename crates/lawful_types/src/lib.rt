@@ -5,5 +5,6 @@ mod defaults;
 pub mod fault;
 mod identifiers;
 pub mod judge;
+pub mod places;
 mod rules;
 mod tags;
