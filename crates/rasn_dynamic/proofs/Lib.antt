@@ -1,5 +1,6 @@
 pub mod SameDefaults
 pub mod Levelled
 pub mod NamedBits
+pub mod Places
 pub mod Slots
 pub mod Trees

@@ -6,7 +6,6 @@ pub mod Elements
 pub mod Given
 pub mod OneAddition
 pub mod Members
-pub mod Places
 pub mod Presences
 pub mod Reading
 pub mod Unfit

@@ -21,7 +21,7 @@ use Rattle.rasn_dynamic_codec.proofs.OneAddition.{addition_normal}
 use Rattle.rasn_dynamic.specs.declared.types.Component.{Component}
 use Rattle.rasn_dynamic.specs.declared.types.Kind.{Kind}
 use Rattle.rasn_dynamic.specs.declared.types.Kind.TheVariants.{Simple as SimpleKind, List as ListKind, SetOf, Record as RecordKind, Choice as ChoiceKind, Containing}
-use Rattle.rasn_dynamic_codec.proofs.Places.{record_there}
+use Rattle.rasn_dynamic.proofs.Places.{record_there}
 use Rattle.rasn_dynamic.specs.declared.types.Presence.{Presence}
 use Rattle.rasn_dynamic.specs.declared.types.Presence.TheVariants.{Default, Group, Optional, Required}
 use Rattle.rasn_dynamic.specs.declared.types.Record.{Record}

@@ -13,7 +13,7 @@ use Rattle.rasn_schema.specs.Bags.{set_at}
 use Rattle.rasn_dynamic.specs.Values.{value_of}
 use Rattle.rasn_dynamic_codec.proofs.OneAddition.{addition_unread}
 use Rattle.rasn_dynamic_codec.proofs.BagsReading.{bag_answered, bag_refused}
-use Rattle.rasn_dynamic_codec.proofs.Places.{choice_plain, contained_none, contained_there, containing_plain, containing_there, list_plain, none_there, plain_there, record_plain, set_plain, simple_plain}
+use Rattle.rasn_dynamic.proofs.Places.{choice_plain, contained_none, contained_there, containing_plain, containing_there, list_plain, none_there, plain_there, record_plain, set_plain, simple_plain}
 use Rattle.rasn_dynamic_codec.proofs.Presences.{group_left}
 use Rattle.rasn_dynamic_codec.proofs.Reading.{contents_unread, default_added, default_taken, given_read, inside_unread, lacking_read, none_given, none_opened, octets_unended, octets_unopened, onward_all, onward_fails, onward_read, onward_room, open_unended, read_additions, read_components, reads_same, required_taken, slotted}
 use Rattle.rasn_dynamic.proofs.Trees.{absent_slot, bag_slot, elements_slot, fields_slot, slot_there, value_there, alternative_slot}

@@ -20,7 +20,7 @@ use Rattle.rasn_schema.specs.Normal.{normal}
 use Rattle.rasn_dynamic.specs.Values.{levels_of, slot_of, value_of}
 use Rattle.rasn_dynamic_codec.specs.Writes.{fit}
 use Rattle.rasn_dynamic_codec.proofs.Components.{additions, components, onward_ended, onward_index, onward_presented, onward_refused, onward_stands}
-use Rattle.rasn_dynamic_codec.proofs.Places.{choice_plain, contained_none, contained_there, containing_plain, containing_there, encodes_same, encodes_value, list_plain, no_bag, no_list, no_place, no_record, nothing_written, other_refused, other_refused_within, plain_there, record_plain, set_plain, simple_plain}
+use Rattle.rasn_dynamic.proofs.Places.{choice_plain, contained_none, contained_there, containing_plain, containing_there, encodes_same, encodes_value, list_plain, no_bag, no_list, no_place, no_record, nothing_written, other_refused, other_refused_within, plain_there, record_plain, set_plain, simple_plain}
 use Rattle.rasn_dynamic_codec.proofs.Presences.{absent_written, default_left, default_open, default_skipped, default_there, default_unmarked, no_other, open_written, required_there, skipped_written, stands_there, surplus_refused, there_written, unmarked_part}
 use Rattle.rasn_dynamic.proofs.Trees.{bag_levels, bag_value, deepest_at, elements_levels, elements_value, fields_levels, fields_value, not_bag, not_elements, not_fields, alternative_levels, alternative_value, not_alternative}
 use Rattle.rasn_dynamic_codec.proofs.Unfit.{record_counted, record_unopened, sequence_group, unfit_added, unfit_root, unmarked_none}

@@ -4,7 +4,7 @@ use Rattle.rasn_schema.specs.Normal.{normal}
 use Rattle.rasn_schema.specs.Schemas
 use Rattle.rasn_dynamic.specs.Types.{of_size}
 use Rattle.rasn_dynamic.specs.Values.{levels_of, value_of}
-use Rattle.rasn_dynamic_codec.proofs.Places.{other_refused}
+use Rattle.rasn_dynamic.proofs.Places.{other_refused}
 use Rattle.rasn_dynamic_codec.proofs.write_simple.encode_bits.Goals as goal
 
 pub returns : goal.returns

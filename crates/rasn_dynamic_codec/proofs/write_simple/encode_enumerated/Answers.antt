@@ -7,7 +7,7 @@ use Rattle.rasn_schema.specs.Schemas
 use Rattle.rasn_traits.specs.Counted.{stands_in}
 use Rattle.rasn_dynamic.specs.Types.{counts_of}
 use Rattle.rasn_dynamic.specs.Values.{levels_of, value_of}
-use Rattle.rasn_dynamic_codec.proofs.Places.{no_item, other_refused}
+use Rattle.rasn_dynamic.proofs.Places.{no_item, other_refused}
 use Rattle.rasn_dynamic_codec.proofs.write_simple.encode_enumerated.Goals as goal
 
 pub returns-in_default : goal.returns-in_default

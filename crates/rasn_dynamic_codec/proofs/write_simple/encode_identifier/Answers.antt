@@ -3,7 +3,7 @@ use Rattle.rasn_schema.specs.Forms.{always}
 use Rattle.rasn_schema.specs.Normal.{normal}
 use Rattle.rasn_schema.specs.Schemas
 use Rattle.rasn_dynamic.specs.Values.{levels_of, value_of}
-use Rattle.rasn_dynamic_codec.proofs.Places.{nothing_written, other_refused}
+use Rattle.rasn_dynamic.proofs.Places.{nothing_written, other_refused}
 use Rattle.rasn_dynamic_codec.proofs.write_simple.encode_identifier.Goals as goal
 
 pub returns-in_default : goal.returns-in_default

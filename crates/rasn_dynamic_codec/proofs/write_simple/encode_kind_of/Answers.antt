@@ -4,7 +4,7 @@ use Rattle.rasn_schema.specs.Normal.{normal}
 use Rattle.rasn_dynamic.specs.Types.{of_characters}
 use Rattle.rasn_dynamic.specs.Values.{levels_of, value_of}
 use Rattle.rasn_dynamic_codec.proofs.Alphabets.{not_permitted}
-use Rattle.rasn_dynamic_codec.proofs.Places.{nothing_written, other_refused}
+use Rattle.rasn_dynamic.proofs.Places.{nothing_written, other_refused}
 use Rattle.rasn_dynamic_codec.proofs.write_simple.encode_kind_of.Goals as goal
 
 pub returns-in_default : goal.returns-in_default

@@ -6,7 +6,7 @@ use Rattle.rasn_schema.specs.Normal.{normal}
 use Rattle.rasn_schema.specs.Schemas
 use Rattle.rasn_dynamic.specs.Types.{counts_of}
 use Rattle.rasn_dynamic.specs.Values.{levels_of, value_of}
-use Rattle.rasn_dynamic_codec.proofs.Places.{null_written, other_refused}
+use Rattle.rasn_dynamic.proofs.Places.{null_written, other_refused}
 use Rattle.rasn_dynamic_codec.proofs.write_simple.encode_null.Goals as goal
 
 pub returns-then-is_null : goal.returns-then-is_null
