@@ -18,8 +18,8 @@ pub enum PastTable {
     OfName(usize),
 }
 
-/// Judges whether each place that a type of a table names, or a name has, is one of the table. A place past the table is
-/// REAL, which is lawful (`judge`), but has no encoding.
+/// Judges whether each place that a type of a table names, or a name has, is one of the table. A place past the table
+/// is REAL, which is lawful (`judge`), but has no encoding.
 pub fn judge_places(types: &Types) -> Result<(), PastTable>
     ensures { MatchResult result
         (λ done. AreAllInside types.now.kinds.items types.now.names.items)
