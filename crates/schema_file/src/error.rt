@@ -118,11 +118,13 @@ pub enum Reason {
     /// A word isn't hexadecimal digits, two an octet.
     #[error("a word is no hexadecimal octets")]
     NotHexadecimal,
+    /// A word isn't bits.
+    #[error("a word is no bits")]
+    NotBits,
     /// Numbers aren't the arcs of an OBJECT IDENTIFIER.
     #[error("numbers are no OBJECT IDENTIFIER")]
     NotIdentifier,
-    /// What the codec has only on pages, or not at all: a default that holds values or bits, a time, DATE,
-    /// UniversalString.
+    /// What the codec has only on pages, or not at all: a default that holds values, a time, DATE, UniversalString.
     #[error("this isn't data yet")]
     NotHeld,
     /// A value holds values more than 255 deep.

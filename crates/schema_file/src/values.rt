@@ -11,7 +11,7 @@ use std::alloc::Global;
 /// How deep a value holds values at most.
 pub const MOST_LEVELS: usize = 255;
 
-/// The default that words say, the first of which was read. A value that holds values isn't data yet.
+/// The default that words say, the first of which was read. One that holds values isn't data yet.
 pub fn default_value(
     alloc: Global,
     head: &str,
@@ -24,10 +24,11 @@ pub fn default_value(
         "int" => DefaultValue::Integer(Integer::from(words.number()?)),
         "item" => DefaultValue::Item(words.place()?),
         "octets" => DefaultValue::Octets(Any::new(words.octets(alloc)?)),
+        "bits" => DefaultValue::Bits(words.bits(alloc)?),
         "characters" => DefaultValue::Characters(characters(alloc, words)?),
         "oid" => DefaultValue::Octets(identifier(alloc, words)?),
         "list" if words.count()? == 0 => DefaultValue::NoElements,
-        "bits" | "list" | "record" | "chosen" => return Err(Reason::NotHeld),
+        "list" | "record" | "chosen" => return Err(Reason::NotHeld),
         _ => return Err(Reason::UnknownValue),
     };
     Ok(value)

@@ -5,7 +5,7 @@ use hex::FromHexError;
 use rasn_constraints::constraints::{Bounded, Extensible};
 use rasn_dynamic::types::{NumberBounds, SizeBounds};
 use rasn_schema::items::Place;
-use rasn_types::types::{Class, Tag};
+use rasn_types::types::{BitString, Class, Tag};
 use std::alloc::Global;
 
 /// How many characters an alphabet has at most.
@@ -206,6 +206,22 @@ impl<'text> Words<'text> {
             Err(FromHexError::OutOfMemory) => Err(Reason::OutOfMemory),
             Err(_) => Err(Reason::NotHexadecimal),
         }
+    }
+
+    /// Bits as digits; none where `-` stands.
+    pub fn bits(&mut self, alloc: Global) -> Result<BitString, Reason> {
+        let word = self.word()?;
+        let mut bits = Vec::new(alloc);
+        if word != "-" {
+            for digit in word.bytes() {
+                match digit {
+                    b'0' => bits.push(false)?,
+                    b'1' => bits.push(true)?,
+                    _ => return Err(Reason::NotBits),
+                }
+            }
+        }
+        Ok(BitString::from_slice(alloc, &bits)?)
     }
 
     /// The place of an item or an alternative.

@@ -30,7 +30,7 @@ const TEXTS: [(&[u8], &str); 6] = [
 ];
 
 /// Numbers of lines of the example, what stands there in their place, and what is said.
-const LINES: [(usize, &str, &str); 44] = [
+const LINES: [(usize, &str, &str); 46] = [
     (
         1,
         "per_schema 1 1 7 2",
@@ -131,6 +131,16 @@ const LINES: [(usize, &str, &str); 44] = [
         3,
         "sequence 1 - id c0 d 2 characters 1 65536",
         "line 3: a number is too large",
+    ),
+    (
+        3,
+        "sequence 1 - id c0 d 1 true",
+        "line 3: a default is no value of its type",
+    ),
+    (
+        3,
+        "sequence 1 - id c0 d 1 bits 012",
+        "line 3: a word is no bits",
     ),
     (
         3,

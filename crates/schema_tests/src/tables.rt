@@ -109,14 +109,26 @@ fn order_of_a_set(rt: HostRuntime) -> Result<(), Fail> {
     Ok(())
 }
 
+/// A record with a default of each form.
+const DEFAULTS: &str = "per_schema 1 1 9 1
+module Example -
+sequence 8 - a c0 d 1 int -5 b c1 d 2 true c c2 d 3 octets 0aff d c3 d 4 item added 0 e c4 d 5 characters 2 65 66 \
+f c5 d 6 oid 3 1 2 840 g c6 d 7 bits 0110 h c7 d 8 bits 011
+integer 0 7 ...
+boolean
+octet_string 0 - -
+enumerated 1 1 x y
+ia5_string 0 - - -
+object_identifier
+bit_string 0 - -
+named_bits 0 - -
+root Example Message 0
+";
+
 /// Defaults of each form.
 #[test]
 fn defaults(rt: HostRuntime) -> Result<(), Fail> {
-    let line =
-        "sequence 6 - a c0 d 1 int -5 b c1 d 1 true c c2 d 1 octets 0aff d c3 d 1 item added 3 \
-        e c4 d 1 characters 2 65 66 f c5 d 1 oid 3 1 2 840";
-    let text = with_line(rt.alloc(), 3, line)?;
-    let types = load(rt.alloc(), text.as_bytes())?;
+    let types = load(rt.alloc(), DEFAULTS.as_bytes())?;
     let record = record(&types)?;
     let told = |at: usize| match &record.root.get(at)?.presence {
         Presence::Default(value) => Some(value),
@@ -129,12 +141,16 @@ fn defaults(rt: HostRuntime) -> Result<(), Fail> {
     assert!(rt;
         matches!(told(2), Some(DefaultValue::Octets(octets)) if octets.as_bytes() == [0x0a, 0xff].as_slice())
     );
-    assert!(rt; matches!(told(3), Some(DefaultValue::Item(Place::Added(3)))));
+    assert!(rt; matches!(told(3), Some(DefaultValue::Item(Place::Added(0)))));
     assert!(rt;
         matches!(told(4), Some(DefaultValue::Characters(text)) if text.as_units() == [65, 66].as_slice())
     );
     assert!(rt;
         matches!(told(5), Some(DefaultValue::Octets(octets)) if octets.as_bytes() == [0x2a, 0x86, 0x48].as_slice())
     );
+    assert!(rt;
+        matches!(told(6), Some(DefaultValue::Bits(bits)) if bits.len() == 4 && bits.is_set(1))
+    );
+    assert!(rt; matches!(told(7), Some(DefaultValue::Bits(bits)) if bits.len() == 3));
     Ok(())
 }
