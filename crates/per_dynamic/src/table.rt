@@ -6,9 +6,9 @@ ghost use Rattle.rasn_dynamic.specs.Values.{levels_of, value_of};
 
 use per_de::{DecodeError, Decoder};
 use per_enc::{EncodeError, Encoder};
-use rasn_dynamic_codec::read::decode_value;
 use rasn_dynamic::types::{Kind, Types};
 use rasn_dynamic::values::Value;
+use rasn_dynamic_codec::read::decode_value;
 use rasn_dynamic_codec::write::encode_value;
 use rasn_per::types::{DecodeAs, EncodeAs};
 use std::alloc::Allocator;

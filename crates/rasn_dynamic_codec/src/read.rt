@@ -18,12 +18,12 @@ ghost use Rattle.rasn_dynamic.specs.Types.{parts_at, plain_at, presence_of, reco
 ghost use Rattle.rasn_dynamic.specs.Values.{slot_of, value_of};
 
 use crate::read_simple::{decode_nothing, decode_simple};
+use rasn_constraints::constraints::{Constraint, Constraints};
 use rasn_dynamic::types::{
     Choice, Component, DefaultValue, Kind, Presence, Record, SizeBounds, kind_at,
     presence_bit_count,
 };
 use rasn_dynamic::values::Value;
-use rasn_constraints::constraints::{Constraint, Constraints};
 use rasn_schema::items::Place;
 use rasn_traits::counted::CountedDecoder;
 use rasn_types::types::Tag;

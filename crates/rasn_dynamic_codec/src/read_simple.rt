@@ -13,9 +13,11 @@ ghost use Rattle.rasn_dynamic_codec.specs.Reads.{ReadsValue};
 ghost use Rattle.rasn_dynamic.specs.Types.{counts_of, of_characters, of_size, of_value, simple_schema, string_schema};
 
 use crate::characters::StringOf;
-use rasn_dynamic::types::{CharacterString, CharacterType, Items, NumberBounds, Simple, SizeBounds};
-use rasn_dynamic::values::Value;
 use rasn_constraints::constraints::{Constraint, Constraints, Extensible};
+use rasn_dynamic::types::{
+    CharacterString, CharacterType, Items, NumberBounds, Simple, SizeBounds,
+};
+use rasn_dynamic::values::Value;
 use rasn_strings::strings::{
     BmpKind, CharacterKind, Ia5Kind, NumericKind, PrintableKind, VisibleKind,
 };

@@ -18,13 +18,13 @@ ghost use Rattle.rasn_dynamic.specs.Types.{parts_at, plain_at, presence_of, reco
 ghost use Rattle.rasn_dynamic.specs.Values.{levels_of, slot_of, value_of};
 ghost use Rattle.rasn_dynamic_codec.specs.Writes.{fit, may_stand, GivesOpen, GivesSettled, OpensChosen, WritesOne};
 
+use crate::write_simple::encode_simple;
+use rasn_constraints::constraints::{Constraint, Constraints};
 use rasn_dynamic::types::{
     Choice, Component, DefaultValue, Kind, Presence, Record, SizeBounds, kind_at,
     presence_bit_count, required_in,
 };
 use rasn_dynamic::values::Value;
-use crate::write_simple::encode_simple;
-use rasn_constraints::constraints::{Constraint, Constraints};
 use rasn_schema::items::Place;
 use rasn_traits::counted::CountedEncoder;
 use rasn_types::types::{Identifier, Tag};

@@ -16,9 +16,11 @@ ghost use Rattle.rasn_dynamic.specs.Values.{levels_of, value_of};
 ghost use Rattle.rasn_types.specs.declared.ber.BerError.TheVariants.{InvalidObjectIdentifier};
 
 use crate::characters::{StringOf, has_characters};
-use rasn_dynamic::types::{CharacterString, CharacterType, Items, NumberBounds, Simple, SizeBounds};
-use rasn_dynamic::values::Value;
 use rasn_constraints::constraints::{Constraint, Constraints, Extensible};
+use rasn_dynamic::types::{
+    CharacterString, CharacterType, Items, NumberBounds, Simple, SizeBounds,
+};
+use rasn_dynamic::values::Value;
 use rasn_schema::items::{ItemCounts, Place};
 use rasn_strings::strings::{
     BmpKind, CharacterKind, Ia5Kind, NumericKind, PrintableKind, VisibleKind,
