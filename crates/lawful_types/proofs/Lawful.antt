@@ -2,6 +2,8 @@
 use Rattle.std.proofs.Common.{◌≡◌, refl, sym, ap, ap₂, ◌∙◌, ℕ, zero, suc, ◌+◌, Bool, true, false, cond, ◌&&◌, List, [], ◌∷◌, ◌++◌, Option, Some, None, Result, Ok, Err, true≢false}
 use Rattle.std.specs.Prelude.{MatchResult, count_by, is_some, nat_lt, slice_get}
 use Rattle.std.proofs.lemmas.List.Sums.{sum_by-cons}
+use Rattle.rasn_types.specs.Values.{Value, same}
+use Rattle.rasn_types.proofs.Codes.{same_true}
 use Rattle.rasn_schema.specs.Depth.{meets_cut}
 use Rattle.rasn_schema.specs.Fields.{tag_of}
 use Rattle.rasn_schema.specs.Lawful.{all_pass, are_distinct, are_required, AreLawful, has_bit, if_bag, is_group_schema, is_value, IsLawful, IsLawfulDefault, IsLawfulPresence, IsLawfulType, leaves, no_groups, presence_bits, tags_below}
@@ -21,21 +23,35 @@ use Rattle.rasn_dynamic.specs.declared.types.Simple.{Simple}
 use Rattle.rasn_dynamic.specs.declared.types.Simple.TheVariants.{BitString, Boolean, Characters, Integer, NamedBits, OctetString}
 use Rattle.rasn_dynamic.specs.Types.{alternatives_in, at_place, behind, default_value, grouped, in_root, is_not_required, kind_in, parts_in, plain_in, presence_of, required_in, schema_at, simple_schema}
 use Rattle.rasn_dynamic.proofs.Levelled.{schema_levels}
+use Rattle.rasn_dynamic.proofs.SameDefaults.{same_self}
 use Rattle.per_laws.proofs.Levelled.{levelled_type_unfolds}
 use Rattle.lawful_types.specs.declared.fault.Reason.{Reason}
 use Rattle.lawful_types.specs.declared.fault.Reason.TheVariants as Reasons
 use Rattle.lawful_types.specs.declared.fault.Fault.{Fault}
-use Rattle.lawful_types.specs.Keeps.{IsFaultOf, has_lawful_default, is_default_of, is_default_of_plain, is_default_within, is_lawful_kind, keeps, keeps_bounds, keeps_defaults, keeps_presence_bits, keeps_size, keeps_tags, tags_of}
-use Rattle.lawful_types.proofs.Passing.{passes_at}
+use Rattle.lawful_types.specs.Keeps.{IsFaultOf, has_lawful_default, is_default_of, is_default_of_plain, is_default_of_simple, is_default_within, is_lawful_kind, keeps, keeps_bounds, keeps_defaults, keeps_presence_bits, keeps_size, keeps_tags, tags_of}
+use Rattle.lawful_types.proofs.Passing.{and_true, passes_at}
 
--- ---- defaults: their values are values of what the kinds say, unless cut off, and in normal form
+-- ---- defaults: they are in normal form, and values of what the kinds say, unless cut off
+
+and_self : (b : Bool) (v : Value) → (b && same v v) ≡ b
+and_self true v = same_self v
+and_self false v = refl
+
+simple_value : (d : DefaultValue) (k : Simple) → (is_value (simple_schema k) (default_value d) && same (normal (simple_schema k) (default_value d)) (default_value d)) ≡ is_default_of_simple d k
+unfolding is_value normal
+simple_value d (NamedBits c) = refl
+simple_value d k = and_self (is_value (simple_schema k) (default_value d)) (default_value d)
+
+-- whether a default is a value of a schema, and in normal form
+abbrev is_right : Schema → DefaultValue → Bool
+is_right s d = is_value s (default_value d) && same (normal s (default_value d)) (default_value d)
 
 module _ (ts : List Kind) (s : ℕ → Schema) where
-  plain_value : (n : ℕ) (d : DefaultValue) (k : Kind) → meets_cut (plain_in ts s n k) (default_value d) ≡ false → is_value (plain_in ts s n k) (default_value d) ≡ is_default_of_plain d k
-  unfolding meets_cut is_value if_bag
-  plain_value n d (SimpleKind k) e = refl
+  plain_value : (n : ℕ) (d : DefaultValue) (k : Kind) → meets_cut (plain_in ts s n k) (default_value d) ≡ false → is_right (plain_in ts s n k) d ≡ is_default_of_plain d k
+  unfolding meets_cut is_value if_bag normal over_bag
+  plain_value n d (SimpleKind k) e = simple_value d k
   plain_value zero d (ListKind i c) e = absurd cc
-  plain_value (suc n) TheVariants.NoElements (ListKind i c) e = refl
+  plain_value (suc n) TheVariants.NoElements (ListKind i c) e = same_self (default_value TheVariants.NoElements)
   plain_value (suc n) _ (ListKind i c) e = refl
   plain_value zero d (SetOf i c) e = absurd cc
   plain_value (suc n) TheVariants.Null (SetOf i c) e = refl
@@ -47,25 +63,6 @@ module _ (ts : List Kind) (s : ℕ → Schema) where
   plain_value (suc n) TheVariants.Null (ChoiceKind c) e = refl
   plain_value (suc n) _ (ChoiceKind c) e = refl
   plain_value n d (Containing i) e = refl
-
-  plain_normal : (n : ℕ) (d : DefaultValue) (k : Kind) → normal (plain_in ts s n k) (default_value d) ≡ default_value d
-  unfolding normal over_bag
-  plain_normal n TheVariants.Null (SimpleKind (NamedBits c)) = refl
-  plain_normal n _ (SimpleKind (NamedBits c)) = refl
-  plain_normal n d (SimpleKind _) = refl
-  plain_normal zero d (ListKind i c) = refl
-  plain_normal (suc n) TheVariants.Null (ListKind i c) = refl
-  plain_normal (suc n) _ (ListKind i c) = refl
-  plain_normal zero d (SetOf i c) = refl
-  plain_normal (suc n) TheVariants.Null (SetOf i c) = refl
-  plain_normal (suc n) _ (SetOf i c) = refl
-  plain_normal zero d (RecordKind r) = refl
-  plain_normal (suc n) TheVariants.Null (RecordKind r) = refl
-  plain_normal (suc n) _ (RecordKind r) = refl
-  plain_normal zero d (ChoiceKind c) = refl
-  plain_normal (suc n) TheVariants.Null (ChoiceKind c) = refl
-  plain_normal (suc n) _ (ChoiceKind c) = refl
-  plain_normal n d (Containing i) = refl
 
   plain_uncut : (n : ℕ) (d : DefaultValue) (k : Kind) → meets_cut (plain_in ts s (suc n) k) (default_value d) ≡ false
   unfolding meets_cut
@@ -81,23 +78,18 @@ module _ (ts : List Kind) (s : ℕ → Schema) where
   plain_uncut n _ (ChoiceKind c) = refl
   plain_uncut n d (Containing i) = refl
 
-  within_value : (n : ℕ) (d : DefaultValue) (o : Option Kind) → meets_cut (at_place (plain_in ts s n) o) (default_value d) ≡ false → is_value (at_place (plain_in ts s n) o) (default_value d) ≡ is_default_within d o
+  within_value : (n : ℕ) (d : DefaultValue) (o : Option Kind) → meets_cut (at_place (plain_in ts s n) o) (default_value d) ≡ false → is_right (at_place (plain_in ts s n) o) d ≡ is_default_within d o
   unfolding is_value
   within_value n d None e = refl
   within_value n d (Some k) e = plain_value n d k e
-
-  within_normal : (n : ℕ) (d : DefaultValue) (o : Option Kind) → normal (at_place (plain_in ts s n) o) (default_value d) ≡ default_value d
-  unfolding normal
-  within_normal n d None = refl
-  within_normal n d (Some k) = plain_normal n d k
 
   within_uncut : (n : ℕ) (d : DefaultValue) (o : Option Kind) → meets_cut (at_place (plain_in ts s (suc n)) o) (default_value d) ≡ false
   unfolding meets_cut
   within_uncut n d None = refl
   within_uncut n d (Some k) = plain_uncut n d k
 
-  place_value : (n : ℕ) (d : DefaultValue) (o : Option Kind) → meets_cut (at_place (kind_in ts s n) o) (default_value d) ≡ false → is_value (at_place (kind_in ts s n) o) (default_value d) ≡ is_default_of ts d o
-  unfolding meets_cut is_value
+  place_value : (n : ℕ) (d : DefaultValue) (o : Option Kind) → meets_cut (at_place (kind_in ts s n) o) (default_value d) ≡ false → is_right (at_place (kind_in ts s n) o) d ≡ is_default_of ts d o
+  unfolding meets_cut is_value normal
   place_value n d None e = refl
   place_value n d (Some (Containing i)) e = within_value n d (slice_get ts i) e
   place_value n d (Some (SimpleKind k)) e = plain_value n d (SimpleKind k) e
@@ -105,16 +97,6 @@ module _ (ts : List Kind) (s : ℕ → Schema) where
   place_value n d (Some (SetOf i c)) e = plain_value n d (SetOf i c) e
   place_value n d (Some (RecordKind r)) e = plain_value n d (RecordKind r) e
   place_value n d (Some (ChoiceKind c)) e = plain_value n d (ChoiceKind c) e
-
-  place_normal : (n : ℕ) (d : DefaultValue) (o : Option Kind) → normal (at_place (kind_in ts s n) o) (default_value d) ≡ default_value d
-  unfolding normal
-  place_normal n d None = refl
-  place_normal n d (Some (Containing i)) = within_normal n d (slice_get ts i)
-  place_normal n d (Some (SimpleKind k)) = plain_normal n d (SimpleKind k)
-  place_normal n d (Some (ListKind i c)) = plain_normal n d (ListKind i c)
-  place_normal n d (Some (SetOf i c)) = plain_normal n d (SetOf i c)
-  place_normal n d (Some (RecordKind r)) = plain_normal n d (RecordKind r)
-  place_normal n d (Some (ChoiceKind c)) = plain_normal n d (ChoiceKind c)
 
   place_uncut : (n : ℕ) (d : DefaultValue) (o : Option Kind) → meets_cut (at_place (kind_in ts s (suc n)) o) (default_value d) ≡ false
   unfolding meets_cut
@@ -126,11 +108,24 @@ module _ (ts : List Kind) (s : ℕ → Schema) where
   place_uncut n d (Some (RecordKind r)) = plain_uncut n d (RecordKind r)
   place_uncut n d (Some (ChoiceKind c)) = plain_uncut n d (ChoiceKind c)
 
-  place_lawful : (n : ℕ) (d : DefaultValue) (o : Option Kind) → is_default_of ts d o ≡ true → IsLawfulDefault (at_place (kind_in ts s n) o) (default_value d)
-  place_lawful n d o h = record { is_of_kind = λ e. place_value n d o e ∙ h; is_normal = λ e. place_normal n d o }
+  module _ (n : ℕ) (d : DefaultValue) (o : Option Kind) where
+    abbrev of_kind : Bool
+    of_kind = is_value (at_place (kind_in ts s n) o) (default_value d)
+
+    abbrev in_form : Bool
+    in_form = same (normal (at_place (kind_in ts s n) o) (default_value d)) (default_value d)
+
+    place_lawful : is_default_of ts d o ≡ true → IsLawfulDefault (at_place (kind_in ts s n) o) (default_value d)
+    place_lawful h = record {
+      is_of_kind = λ e. and_first of_kind in_form (place_value n d o e ∙ h);
+      is_normal = λ e. same_true (normal (at_place (kind_in ts s n) o) (default_value d)) (default_value d) (and_second of_kind in_form (place_value n d o e ∙ h));
+    }
+
+    lawful_form : meets_cut (at_place (kind_in ts s n) o) (default_value d) ≡ false → IsLawfulDefault (at_place (kind_in ts s n) o) (default_value d) → is_default_of ts d o ≡ true
+    lawful_form u x = sym (place_value n d o u) ∙ and_true of_kind in_form (x.is_of_kind u) (ap (λ v. same v (default_value d)) (x.is_normal u) ∙ same_self (default_value d))
 
   lawful_place : (n : ℕ) (d : DefaultValue) (o : Option Kind) → IsLawfulDefault (at_place (kind_in ts s (suc n)) o) (default_value d) → is_default_of ts d o ≡ true
-  lawful_place n d o x = sym (place_value (suc n) d o (place_uncut n d o)) ∙ x.is_of_kind (place_uncut n d o)
+  lawful_place n d o x = lawful_form (suc n) d o (place_uncut n d o) x
 
 default_lawful : (ts : List Kind) (n i : ℕ) (d : DefaultValue) → is_default_of ts d (slice_get ts i) ≡ true → IsLawfulDefault (schema_at ts i n) (default_value d)
 unfolding schema_at

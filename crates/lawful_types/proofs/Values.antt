@@ -1,16 +1,18 @@
 -- Which defaults are values of the types in which no other stands.
-use Rattle.std.proofs.Common.{◌≡◌, refl, sym, ap, ap₂, ℕ, suc, ◌<◌, ◌^◌, Bool, true, false, ◌&&◌, List, [], ◌∷◌, length, get_or, Fits, w8, lt-ltb, IsUtf8, ◌⊎◌, inl, inr}
+use Rattle.std.proofs.Common.{◌≡◌, refl, sym, ap, ap₂, ◌∙◌, ℕ, suc, ◌<◌, ◌^◌, Bool, true, false, ◌&&◌, List, [], ◌∷◌, length, get_or, Fits, w8, lt-ltb, IsUtf8, ◌⊎◌, inl, inr}
 use Rattle.std.specs.Prelude.{is_ok, MatchResult, option_map, ℤ, Option, Some, None, Result, Ok, Err}
 use Rattle.std.specs.Global.{Vec}
 use Rattle.rasn_types.specs.Contents.{is_text, other, utf8}
 use Rattle.rasn_types.proofs.Texts.{is_text-false, is_text-IsUtf8}
 use Rattle.rasn_types.specs.Values
-use Rattle.rasn_types.specs.Values.{Value}
-use Rattle.rasn_constraints.specs.Bounds.{Bounds, Size}
+use Rattle.rasn_types.specs.Values.{Value, same}
+use Rattle.rasn_constraints.specs.Bounds.{Bounds}
 use Rattle.rasn_constraints.specs.declared.constraints.Bounded.{Bounded}
 use Rattle.rasn_constraints.specs.declared.constraints.Extensible.{Extensible}
 use Rattle.rasn_schema.specs.Enumerations.{addeds_of, items_of}
-use Rattle.rasn_schema.specs.Lawful.{are_octets, if_characters, if_octets, is_countable, is_value}
+use Rattle.rasn_schema.specs.Forms.{named_bit_schema}
+use Rattle.rasn_schema.specs.Lawful.{are_octets, if_bits, if_characters, if_octets, is_countable, is_value}
+use Rattle.rasn_schema.specs.Normal.{normal}
 use Rattle.rasn_schema.specs.Schemas
 use Rattle.rasn_schema.specs.declared.items.ItemCounts.{ItemCounts}
 use Rattle.rasn_schema.specs.declared.items.Place.{Place}
@@ -20,7 +22,8 @@ use Rattle.rasn_dynamic.specs.declared.types.DefaultValue.TheVariants
 use Rattle.rasn_traits.specs.Counted.{item_at, stands_in}
 use Rattle.rasn_dynamic.specs.declared.types.Simple.{Simple}
 use Rattle.rasn_dynamic.specs.declared.types.Simple.TheVariants.{OctetString, Open, Text}
-use Rattle.rasn_dynamic.specs.Types.{behind, default_value, simple_schema}
+use Rattle.rasn_dynamic.specs.Types.{behind, default_value, of_size, simple_schema}
+use Rattle.lawful_types.specs.Keeps.{is_default_of_named, is_default_of_simple}
 
 pub no_truth : (d : DefaultValue) → ((b : Bool) → d ≡ TheVariants.Boolean b → ⊥) → is_value Schemas.boolean (default_value d) ≡ false
 unfolding is_value
@@ -37,11 +40,16 @@ unfolding is_value
 no_whole b m r (TheVariants.Integer z) h = absurd (h z refl)
 no_whole b m r _ h = refl
 
--- bits are none
-pub no_bits : (z : Size) (m n : Bool) (d : DefaultValue) → false ≡ is_value (Schemas.bit_string z m n) (default_value d)
-unfolding is_value
-no_bits z m n TheVariants.Null = refl
-no_bits z m n _ = refl
+-- what isn't bits is no default of named bits
+pub no_named : (c : Extensible (Bounded ℕ)) (d : DefaultValue) → ((bs : List Bool) → d ≡ TheVariants.Bits bs → ⊥) → false ≡ is_default_of_named c d
+no_named c (TheVariants.Bits bs) h = absurd (h bs refl)
+no_named c _ h = refl
+
+pub named_bits : (c : Extensible (Bounded ℕ)) (bs : List Bool) (b : Bool) → if_bits (Values.bits bs) ≡ true → b ≡ same (normal (named_bit_schema (of_size c)) (Values.bits bs)) (Values.bits bs) → b ≡ is_default_of_named c (TheVariants.Bits bs)
+named_bits c bs b e h = h ∙ sym (ap (λ a. a && same (normal (named_bit_schema (of_size c)) (Values.bits bs)) (Values.bits bs)) e)
+
+pub any_bits : (bs : List Bool) → length bs < 2 ^ 64 → if_bits (Values.bits bs) ≡ true
+any_bits bs l = lt-ltb (length bs) (2 ^ 64) l
 
 pub no_item : (c : ItemCounts) (d : DefaultValue) → ((p : Place) → d ≡ TheVariants.Item p → ⊥) → is_value (items_of c) (default_value d) ≡ false
 unfolding is_value
@@ -65,11 +73,11 @@ unfolding is_value is_text
 other_text _ = refl
 
 -- kinds whose values are any octets
-pub octets_kind : (k : Simple) (v : Value) → ((x : Extensible (Bounded ℕ)) × (k ≡ OctetString x)) ⊎ ((k ≡ Text) ⊎ (k ≡ Open)) → if_octets (λ os. true) v ≡ is_value (simple_schema k) v
+pub octets_kind : (k : Simple) (d : DefaultValue) → ((x : Extensible (Bounded ℕ)) × (k ≡ OctetString x)) ⊎ ((k ≡ Text) ⊎ (k ≡ Open)) → if_octets (λ os. true) (default_value d) ≡ is_default_of_simple d k
 unfolding is_value
-octets_kind k v (inl h) = rw h.1 refl
-octets_kind k v (inr (inl h)) = rw h (other_text v)
-octets_kind k v (inr (inr h)) = rw h refl
+octets_kind k d (inl h) = rw h.1 refl
+octets_kind k d (inr (inl h)) = rw h (other_text (default_value d))
+octets_kind k d (inr (inr h)) = rw h refl
 
 -- as many items behind the extension marker
 pub behind_counted : {A : Type 0} (o : Option (Vec A)) → length (behind o) ≡ addeds_of (option_map (λ v. length v.items) o)

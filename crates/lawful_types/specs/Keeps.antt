@@ -1,12 +1,15 @@
 -- The rules that a lawful type of a table keeps (ITU-T X.680), by what stands at its place.
 use Rattle.std.specs.Prelude.{ℕ, ◌≡◌, Bool, true, false, ◌&&◌, nat_lt, List, ◌++◌, count_by, map, slice_get}
 use Rattle.std.specs.Prelude.{Option, Some, None, ℤ}
+use Rattle.rasn_types.specs.Values.{same}
 use Rattle.rasn_constraints.specs.Constraints.{bounds_in, size_in}
 use Rattle.rasn_constraints.specs.LawfulConstraints.{are_lawful_bounds, is_lawful_size}
 use Rattle.rasn_constraints.specs.declared.constraints.Bounded.{Bounded}
 use Rattle.rasn_constraints.specs.declared.constraints.Extensible.{Extensible}
 use Rattle.rasn_schema.specs.Fields.{tag_of}
-use Rattle.rasn_schema.specs.Lawful.{all_pass, are_distinct, IsLawful, is_value}
+use Rattle.rasn_schema.specs.Forms.{named_bit_schema}
+use Rattle.rasn_schema.specs.Lawful.{all_pass, are_distinct, if_bits, IsLawful, is_value}
+use Rattle.rasn_schema.specs.Normal.{normal}
 use Rattle.rasn_schema.specs.Schemas
 use Rattle.rasn_dynamic.specs.declared.types.Alternative.{Alternative}
 use Rattle.rasn_dynamic.specs.declared.types.Component.{Component}
@@ -19,7 +22,7 @@ use Rattle.rasn_dynamic.specs.declared.types.Kind.TheVariants.{Simple as SimpleK
 use Rattle.rasn_dynamic.specs.declared.types.Kind.TheVariants.{Record as RecordKind, Choice as ChoiceKind, Containing}
 use Rattle.rasn_dynamic.specs.declared.types.Simple.{Simple}
 use Rattle.rasn_dynamic.specs.declared.types.Simple.TheVariants.{BitString, Characters, Integer, NamedBits, OctetString}
-use Rattle.rasn_dynamic.specs.Types.{behind, default_value, is_not_required, schema_at, simple_schema}
+use Rattle.rasn_dynamic.specs.Types.{behind, default_value, is_not_required, of_size, schema_at, simple_schema}
 use Rattle.lawful_types.specs.declared.fault.Fault.{Fault}
 use Rattle.lawful_types.specs.declared.fault.Reason.{Reason}
 use Rattle.lawful_types.specs.declared.fault.Reason.TheVariants as Reasons
@@ -66,10 +69,20 @@ abbrev pub keeps_tags : Kind → Bool
 keeps_tags (ChoiceKind c) = are_distinct (tags_of c.roots.items ++ tags_of (behind c.addeds))
 keeps_tags k = true
 
+-- X.680 22.7: whether a default is named bits in normal form: without zero bits at their end but those that their size
+-- asks for
+abbrev pub is_default_of_named : Extensible (Bounded ℕ) → DefaultValue → Bool
+is_default_of_named c d = let v = default_value d in if_bits v && same (normal (named_bit_schema (of_size c)) v) v
+
+-- whether a default is a value of a type in which no other stands, and in normal form
+abbrev pub is_default_of_simple : DefaultValue → Simple → Bool
+is_default_of_simple d (NamedBits c) = is_default_of_named c d
+is_default_of_simple d k = is_value (simple_schema k) (default_value d)
+
 -- whether a default is a value of a type that isn't octets that contain a value; of other than simple types the empty
 -- list is the one default
 abbrev pub is_default_of_plain : DefaultValue → Kind → Bool
-is_default_of_plain d (SimpleKind k) = is_value (simple_schema k) (default_value d)
+is_default_of_plain d (SimpleKind k) = is_default_of_simple d k
 is_default_of_plain NoElements (ListKind i c) = true
 is_default_of_plain d k = false
 

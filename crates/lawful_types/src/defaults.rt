@@ -4,14 +4,17 @@ ghost use Rattle.std.specs.Prelude.{◌≡◌, slice_get, true};
 ghost use Rattle.rasn_types.specs.Contents.{is_identifier, is_text, utf8};
 ghost use Rattle.rasn_types.specs.Values;
 ghost use Rattle.rasn_schema.specs.Enumerations.{items_of};
-ghost use Rattle.rasn_schema.specs.Lawful.{all_pass, if_characters, if_octets, is_value};
+ghost use Rattle.rasn_schema.specs.Lawful.{all_pass, if_bits, if_characters, if_octets, is_value};
 ghost use Rattle.rasn_traits.specs.Counted.{stands_in};
-ghost use Rattle.rasn_dynamic.specs.Types.{counts_of, default_value, simple_schema};
+ghost use Rattle.rasn_dynamic.specs.Types.{counts_of, default_value};
 ghost use Rattle.lawful_types.specs.Keeps.{has_lawful_default, is_default_of, is_default_of_plain};
+ghost use Rattle.lawful_types.specs.Keeps.{is_default_of_named, is_default_of_simple};
 
 use crate::identifiers::are_contents;
-use rasn_dynamic::types::{Component, DefaultValue, Items, Kind, Presence, Simple};
+use rasn_dynamic::defaults::are_normal;
+use rasn_dynamic::types::{Component, DefaultValue, Items, Kind, Presence, Simple, SizeBounds};
 use rasn_schema::items::Place;
+use rasn_types::bit_string::BitString;
 
 /// Whether the default of each component that has one is a value of its type (X.680 25.9).
 pub(crate) fn have_lawful_defaults(kinds: &[Kind], components: &[Component]) -> bool
@@ -60,9 +63,9 @@ fn is_default_of_plain(default: &DefaultValue, kind: &Kind) -> bool
     }
 }
 
-/// Whether a default is a value of a type in which no other stands.
+/// Whether a default is a value of a type in which no other stands, and in normal form.
 fn is_default_of_simple(default: &DefaultValue, simple: &Simple) -> bool
-    ensures { result ≡ is_value (simple_schema simple.now) (default_value default.now) }
+    ensures { result ≡ is_default_of_simple default.now simple.now }
 {
     match simple {
         Simple::Boolean => matches!(default, DefaultValue::Boolean(_)),
@@ -70,8 +73,8 @@ fn is_default_of_simple(default: &DefaultValue, simple: &Simple) -> bool
         Simple::Integer(_) => matches!(default, DefaultValue::Integer(_)),
         Simple::Enumerated(items) => is_item_of(default, items),
         Simple::Characters(_) => are_characters(default),
-        Simple::BitString(_) => false,
-        Simple::NamedBits(_) => false,
+        Simple::BitString(_) => are_bits(default),
+        Simple::NamedBits(size) => are_named_bits(default, size),
         Simple::OctetString(_) | Simple::Text | Simple::Open => are_octets(default),
         Simple::Utf8 => is_text(default),
         Simple::ObjectIdentifier => is_object(default),
@@ -106,6 +109,33 @@ fn are_characters(default: &DefaultValue) -> bool
         DefaultValue::Characters(characters) => {
             characters_are_countable(characters.as_units());
             true
+        }
+        _ => false,
+    }
+}
+
+/// Whether a default is bits.
+fn are_bits(default: &DefaultValue) -> bool
+    ensures { result ≡ if_bits (default_value default.now) }
+{
+    match default {
+        DefaultValue::Bits(bits) => {
+            bits_are_countable(bits);
+            true
+        }
+        _ => false,
+    }
+}
+
+/// Whether a default is named bits in normal form: without zero bits at their end but those that their size asks for
+/// (X.680 22.7).
+fn are_named_bits(default: &DefaultValue, size: &SizeBounds) -> bool
+    ensures { result ≡ is_default_of_named size.now default.now }
+{
+    match default {
+        DefaultValue::Bits(bits) => {
+            bits_are_countable(bits);
+            are_normal(bits, size)
         }
         _ => false,
     }
@@ -162,6 +192,13 @@ fn octets_are_countable(octets: &[u8])
     ensures { if_octets (λ os. true) (Values.octets octets.now) ≡ true }
 {
     let _ = octets;
+}
+
+/// Bits in memory are a value of a BIT STRING, as their length is a `usize`. This is a law.
+fn bits_are_countable(bits: &BitString)
+    ensures { if_bits (Values.bits bits.now) ≡ true }
+{
+    let _ = bits.len();
 }
 
 /// Characters in memory are a value of a character string. This is a law, and nothing runs.

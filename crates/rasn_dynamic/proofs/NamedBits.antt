@@ -11,7 +11,7 @@ use Rattle.rasn_types.specs.Values.{Value, bits, same}
 use Rattle.rasn_types.proofs.Trimming.{trimmed-split}
 use Rattle.rasn_constraints.specs.declared.constraints.Bounded.{Bounded}
 use Rattle.rasn_constraints.specs.declared.constraints.Extensible.{Extensible}
-use Rattle.rasn_schema.specs.Forms.{size_of}
+use Rattle.rasn_schema.specs.Forms.{named_bit_schema, size_of}
 use Rattle.rasn_schema.specs.Normal.{normal, normal_bits, over_bits}
 use Rattle.rasn_dynamic.specs.declared.types.DefaultValue.{DefaultValue}
 use Rattle.rasn_dynamic.specs.declared.types.DefaultValue.TheVariants as Defaults
@@ -22,7 +22,7 @@ use Rattle.rasn_dynamic.specs.declared.types.Simple.TheVariants as Simples
 use Rattle.rasn_dynamic.specs.Types.{contained_at, default_value, named_size, of_size, plain_at, schema_at, simple_schema, within}
 use Rattle.rasn_dynamic.specs.Values.{NotBits}
 use Rattle.rasn_dynamic.proofs.Places.{contained_none, contained_there, containing_there, none_there, plain_there, simple_plain}
-use Rattle.rasn_dynamic.proofs.SameDefaults.{differs, is_named}
+use Rattle.rasn_dynamic.proofs.SameDefaults.{differs, is_named, same_bits}
 
 -- a bit of zero bits, and of bits with zero bits behind them
 zero_bit : (n i : ℕ) → get_or (replicate n false) i false ≡ false
@@ -149,3 +149,9 @@ named_normal ts i c v e n = go (slice_get ts i) refl e
 pub named_same : (ts : List Kind) (i m : ℕ) (c : Extensible (Bounded ℕ)) (v w : Value) (b : Bool) → named_size (within ts (slice_get ts i)) ≡ Some c → m ≡ unwrap_or (size_of (of_size c)).least 0 → m < 2 ^ 64
     → b ≡ same (over_bits (λ bs. filled_up m (trimmed bs)) v) w → (n : ℕ) → b ≡ same (normal (schema_at ts i n) v) w
 named_same ts i m c v w b e f l h n = h ∙ ap (λ u. same u w) (over_form (size_of (of_size c)).least m v f l ∙ sym (named_normal ts i c v e n))
+
+-- whether named bits are in normal form
+pub bits_normal : (c : Extensible (Bounded ℕ)) (m : ℕ) (bs : List Bool) (b : Bool) → m ≡ unwrap_or (size_of (of_size c)).least 0 → m < 2 ^ 64 → b ≡ pointwise beq (filled_up m (trimmed bs)) bs
+    → b ≡ same (normal (named_bit_schema (of_size c)) (bits bs)) (bits bs)
+unfolding normal
+bits_normal c m bs b e l h = h ∙ same_bits (filled_up m (trimmed bs)) bs ∙ ap (λ cs. same (bits cs) (bits bs)) (normal_form (size_of (of_size c)).least m bs e l)

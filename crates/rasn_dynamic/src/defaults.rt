@@ -6,7 +6,7 @@ ghost use Rattle.std.specs.Cmp.Lexicographic.{pointwise};
 ghost use Rattle.std.specs.Option.{unwrap_or};
 ghost use Rattle.rasn_types.specs.Trimmed.{filled_up, trimmed};
 ghost use Rattle.rasn_types.specs.Values.{bits, characters, nothing, octets, same, truth, whole};
-ghost use Rattle.rasn_schema.specs.Forms.{size_of};
+ghost use Rattle.rasn_schema.specs.Forms.{named_bit_schema, size_of};
 ghost use Rattle.rasn_schema.specs.Lists.{list_value};
 ghost use Rattle.rasn_schema.specs.Normal.{normal, over_bits};
 ghost use Rattle.rasn_traits.specs.Counted.{item_at};
@@ -132,6 +132,14 @@ fn are_bits(value: &Value, told: &BitString) -> bool
         Some(own) => own == told,
         None => false,
     }
+}
+
+/// Whether named bits are in normal form by their size: without zero bits at their end but those that it asks for
+/// (X.680 22.7, X.691 16.2).
+pub fn are_normal(own: &BitString, size: &SizeBounds) -> bool
+    ensures { result ≡ same (normal (named_bit_schema (of_size size.now)) (bits own.now)) (bits own.now) }
+{
+    are_filled_up(own, least_count(size), own)
 }
 
 /// Whether a value, without the zero bits at the end of its bits, and then with zero bits up to `least` bits, is a

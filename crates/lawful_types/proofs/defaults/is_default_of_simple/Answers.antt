@@ -1,7 +1,6 @@
-use Rattle.std.proofs.Common.{refl, sym, ◌∙◌, false, true}
+use Rattle.std.proofs.Common.{refl, sym, ◌∙◌}
 use Rattle.rasn_schema.specs.Lawful.{is_value}
-use Rattle.rasn_dynamic.specs.Types.{default_value}
-use Rattle.lawful_types.proofs.Values.{no_bits, no_null, no_truth, no_whole, octets_kind}
+use Rattle.lawful_types.proofs.Values.{no_null, no_truth, no_whole, octets_kind}
 use Rattle.lawful_types.proofs.defaults.is_default_of_simple.Goals as goal
 
 pub returns-in-Boolean-matches : goal.returns-in-Boolean-matches
@@ -38,10 +37,11 @@ unfolding is_value
 returns-in-ObjectIdentifier c = rw c.in-ObjectIdentifier.is c.is_object.ensures
 
 pub returns-in-OctetString : goal.returns-in-OctetString
-returns-in-OctetString c = c.are_octets.ensures ∙ octets_kind c.args.simple.now (default_value c.args.default.now) c.in-OctetString.is
+returns-in-OctetString c = c.are_octets.ensures ∙ octets_kind c.args.simple.now c.args.default.now c.in-OctetString.is
 
 pub returns-in-BitString : goal.returns-in-BitString
-returns-in-BitString c = rw c.in-BitString.is (no_bits _ _ false c.args.default.now)
+unfolding is_value
+returns-in-BitString c = rw c.in-BitString.is c.are_bits.ensures
 
 pub returns-in-NamedBits : goal.returns-in-NamedBits
-returns-in-NamedBits c = rw c.in-NamedBits.is (no_bits _ _ true c.args.default.now)
+returns-in-NamedBits c = rw c.in-NamedBits.is c.are_named_bits.ensures
