@@ -35,8 +35,8 @@ def copied(crate, to):
 
 
 def written_program(top, known, crates):
-    """Writes the program of these types into a folder with the list of the crates that it needs, and returns its folder.
-    `crates` says of those crates that stand there what each needs; the others are this repository's."""
+    """Writes the program of these types into a folder with the list of the crates that it needs, and returns its
+    folder. `crates` says of those crates that stand there what each needs; the others are this repository's."""
     lines = {**read_crates(), **crates}
     needed = ["rasn_below", "rasn_per", *sorted({it.path.split("::")[0] for it in known})]
     for name in below(needed, lines):
