@@ -7,7 +7,7 @@ from notation import Refused, placed
 from resolve import TEXTS, Type, Use
 from spelling import definition
 
-# Lines of a list on either side of its marker; items of an ENUMERATED with its additions: an `enum` has no more variants.
+# Lines of a list on either side of its marker; items of an ENUMERATED with its additions, as an `enum` has variants.
 MOST, MOST_ADDED = 48, 40
 MOST_ITEMS = 256
 WITH_PAGE = ("SEQUENCE", "CHOICE", "ENUMERATED")

@@ -1,4 +1,4 @@
-"""Trials of octets, for tools/asn1/test: what the pages of samples/Faults.asn read and write again, run by `rt try`. The
+"""Trials of octets, for tools/asn1/test: what the pages of samples/Faults.asn read and write again, by `rt try`. The
 octets are worked out by X.691, and never by the program."""
 import os
 import sys
