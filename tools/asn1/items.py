@@ -7,7 +7,7 @@ from notation import Refused, placed
 from resolve import TEXTS, Type, Use
 from spelling import definition
 
-# Lines of a list on either side of its marker, and items of an ENUMERATED.
+# Lines of a list on either side of its marker; items of an ENUMERATED with its additions, as an `enum` has variants.
 MOST, MOST_ADDED = 48, 40
 MOST_ITEMS = 256
 WITH_PAGE = ("SEQUENCE", "CHOICE", "ENUMERATED")
@@ -103,17 +103,25 @@ class Items:
         elif of.kind in NAMED:
             self.expect_named(of)
         elif of.kind == "ENUMERATED":
-            self.expect_few(of.items, of.added_items, MOST_ITEMS, MOST_ITEMS)
+            self.expect_few_items(of)
         elif of.parts is not None:
             self.need_parts(item)
         self.order.append(item)
         return item
 
     @staticmethod
-    def expect_few(root, added, most, most_added):
-        for side, limit, where in ((root, most, "before"), (added or [], most_added, "behind")):
+    def expect_few_lines(of):
+        """Refuses a list that is too long for the macros that read it."""
+        for side, limit, where in ((of.parts, MOST, "before"), (of.added or [], MOST_ADDED, "behind")):
             if len(side) > limit:
                 raise Refused(f"{len(side)} lines of a list {where} its marker are more than the {limit} that a page can have")
+
+    @staticmethod
+    def expect_few_items(of):
+        """Refuses an ENUMERATED of more items than a page has variants."""
+        count = len(of.items) + len(of.added_items or [])
+        if count > MOST_ITEMS:
+            raise Refused(f"{count} items are more than the {MOST_ITEMS} that a page can have")
 
     @staticmethod
     def expect_named(of):
@@ -139,7 +147,7 @@ class Items:
 
     def need_parts(self, item):
         """Gives the types of a record's or a choice's parts their items."""
-        self.expect_few(item.type.parts, item.type.added, MOST, MOST_ADDED)
+        self.expect_few_lines(item.type)
         refused = len(self.modules.refusals.found)
         for number, part in enumerate(item.type.all_parts):
             with self.modules.refusals.kept(part.module, part.line):

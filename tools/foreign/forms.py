@@ -1,9 +1,15 @@
 """Forms of types that asn1ct encodes otherwise than X.691 has it. Differences of a type in which one stands are told with its
 name, by which rows of explained.tsv explain them."""
 
+# The least upper bound of a size that is none (X.691 11.9.4.1).
+NO_BOUND = 65536
+
 
 def is_size_without_end(of):
-    return bool(of.limits.size) and of.limits.size[1] is None and of.limits.size[2]
+    if not of.limits.size:
+        return False
+    _, most, is_marked = of.limits.size
+    return is_marked and (most is None or most >= NO_BOUND)
 
 
 def is_string_from_nothing(of):

@@ -123,7 +123,7 @@ class Judge:
         """Judges the program's replies, and what asn1ct makes of octets with a bit turned. What is made of an encoding that is
         another here is left out."""
         turned, others = {variant: [] for variant in VARIANTS}, set()
-        for one, reply in zip(every, program.replies([it.line for it in every], [it.room for it in every])):
+        for one, reply in zip(every, program.replies(*asked_of(every))):
             if one.what == WHOLE and not self.is_same(one, reply):
                 others.add(one.key)
             elif one.what == AGAIN and reply != one.base and one.key not in others:
@@ -136,16 +136,16 @@ class Judge:
     def is_same(self, one, reply):
         """Tells whether the octets that are written here of what asn1ct wrote, and the value that is shown, are its."""
         (value, term), (ours, _, shown) = one.row, reply.partition(" ")
-        term += in_words(one.known.item.type)
+        forms = in_words(one.known.item.type)
         self.figures[one.variant][WHOLE] += 1
         self.figures[one.variant]["octets"] += len(one.octets)
         expected = one.known.shown(self.protocol.shown, value)
         if ours == "!":
-            self.differ(one.variant, REFUSED, one.known.name, f"{one.base}: {reply} here: {term}")
+            self.differ(one.variant, REFUSED, one.known.name, f"{one.base}: {reply} here: {term}{forms}")
         elif ours != one.base:
-            self.differ(one.variant, OCTETS, one.known.name, f"{ours} here, {one.base} of asn1ct: {term}")
+            self.differ(one.variant, OCTETS, one.known.name, f"{ours} here, {one.base} of asn1ct: {term}{forms}")
         elif shown != expected:
-            self.differ(one.variant, VALUE, one.known.name, f"{one.base}: {shown} here, and not {expected}")
+            self.differ(one.variant, VALUE, one.known.name, f"{one.base}: {shown} here, and not {expected}{forms}")
         return ours == one.base and shown == expected
 
     def judge_changed(self, one, reply):
@@ -180,6 +180,11 @@ class Judge:
             self.figures[message.variant]["by value"] += by_value
             for line in lines:
                 self.differ(message.variant, SHOWN, known.name, f"{message.name}: {line}")
+
+
+def asked_of(every):
+    """Returns the lines that the program is given, and how long their replies may be."""
+    return [it.line for it in every], [it.room for it in every]
 
 
 def two_answers(one, ours, theirs):

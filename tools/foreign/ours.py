@@ -34,18 +34,18 @@ def copied(crate, to):
             shutil.copytree(f"{folder_of(crate)}/{part}", f"{to}/{part}")
 
 
-def written_program(top, paths, crates):
-    """Writes the program of these types, by their paths, into a folder with the list of the crates that it needs, and returns
-    its folder. `crates` says of those crates that stand there what each needs; the others are this repository's."""
+def written_program(top, known, crates):
+    """Writes the program of these types into a folder with the list of the crates that it needs, and returns its
+    folder. `crates` says of those crates that stand there what each needs; the others are this repository's."""
     lines = {**read_crates(), **crates}
-    needed = ["rasn_below", "rasn_per", *sorted({it.split("::")[0] for it in paths})]
+    needed = ["rasn_below", "rasn_per", *sorted({it.path.split("::")[0] for it in known})]
     for name in below(needed, lines):
         if name not in crates:
             copied(name, f"{top}/crates/{name}")
     texts = [f"{name}: {' '.join(lines[name])}\n" for name in below(needed, lines)]
     written(f"{top}/crates.txt", "".join([*texts, f"foreign: {' '.join(needed)} anyhow hex\n"]))
     shutil.copy(f"{TOP}/HANDLES", f"{top}/HANDLES")
-    arms = [f"        {number} => reply_as::<{path}>(alloc, asked)," for number, path in enumerate(paths)]
+    arms = [f"        {it.number} => reply_as::<{it.path}>(alloc, asked)," for it in known]
     written(f"{top}/crates/foreign/src/types.rt", TYPES.replace("ARMS", "\n".join(arms)))
     shutil.copy(f"{HERE}/main.rt.txt", f"{top}/crates/foreign/src/main.rt")
     return f"{top}/crates/foreign"
@@ -64,13 +64,16 @@ class Program:
         self.crate = crate
         self.kept = Kept(f"{os.path.dirname(os.path.dirname(os.path.dirname(crate)))}/replies", sum_of(*sources(crate)))
 
-    def replies(self, lines, room):
-        """Returns the reply to each line; `room` says how long each may be."""
-        files = [*files_of(lines, room)]
-        left = [file for file in files if self.kept.lines(*file) is None]
+    def ask(self, asked):
+        """Has the program reply to all that is asked, each of it lines and how long their replies may be."""
+        left = [file for lines, room in asked for file in files_of(lines, room) if self.kept.lines(*file) is None]
         if left:
             self.run(left)
-        return [reply for file in files for reply in self.kept.lines(*file)]
+
+    def replies(self, lines, room):
+        """Returns the reply to each line; `room` says how long each may be."""
+        self.ask([(lines, room)])
+        return [reply for file in files_of(lines, room) for reply in self.kept.lines(*file)]
 
     def run(self, files):
         """Runs the program for files of lines, and keeps the replies to each as it ends."""

@@ -91,10 +91,10 @@ class Known:
 
 class Protocol:
     """A protocol, or a release of it: the items of a call of the compiler, and the modules that these stand on. `other` has
-    the texts that asn1ct gets in place of these."""
+    the texts that asn1ct gets in place of these; `first` is the number of the first type in the program."""
 
-    def __init__(self, name, words, other=None):
-        self.name, self.words = name, words
+    def __init__(self, name, words, other=None, first=0):
+        self.name, self.words, self.first = name, words, first
         call = given(words)
         texts = modules_wanted(call.files, call.types, call.crate)
         with tempfile.TemporaryDirectory() as room:
@@ -152,7 +152,7 @@ class Protocol:
     def known_types(self):
         """Gives the types that both know. asn1ct has no name for one that is written within another, or has parameters; and a
         name here may be without its constraints. All these stand in others."""
-        number = 0
+        number = self.first
         for item in self.items.order:
             is_limited = not item.has_page and item.is_limited and bool(item.type.limits)
             is_whole = item.has_page or is_limited or not item.type.limits

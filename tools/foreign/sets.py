@@ -156,4 +156,6 @@ class Sets:
             return Spelled(self.random.choice((f" (FROM ({text}), ...)", f" (FROM ({text}, ...))")))
         if how < 0.7 and size.written.count("(SIZE") == 1 and size.written.endswith("))"):
             return Spelled(f" ({size.written[2:-1]} ^ FROM ({text}))", f"{seen}{size.seen}")
+        if size.written.endswith("), ...)"):     # of two constraints asn1ct takes the marker of the last for both
+            size = Spelled(size.seen, size.seen)
         return Spelled(f" (FROM ({text})){size.written}", f"{seen}{size.seen}")
