@@ -11,7 +11,7 @@ use Rattle.rasn_constraints.specs.declared.constraints.Bounded.{Bounded}
 use Rattle.rasn_constraints.specs.declared.constraints.Extensible.{Extensible}
 use Rattle.rasn_schema.specs.Enumerations.{addeds_of, items_of}
 use Rattle.rasn_schema.specs.Forms.{named_bit_schema}
-use Rattle.rasn_schema.specs.Lawful.{are_octets, if_bits, if_characters, if_octets, is_countable, is_value}
+use Rattle.rasn_schema.specs.Lawful.{are_octets, if_bits, if_characters, if_octets, is_value}
 use Rattle.rasn_schema.specs.Normal.{normal}
 use Rattle.rasn_schema.specs.Schemas
 use Rattle.rasn_schema.specs.declared.items.ItemCounts.{ItemCounts}
