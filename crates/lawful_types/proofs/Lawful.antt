@@ -9,7 +9,7 @@ use Rattle.rasn_schema.specs.Fields.{tag_of}
 use Rattle.rasn_schema.specs.Lawful.{all_pass, are_distinct, are_required, AreLawful, has_bit, if_bag, is_group_schema, is_value, IsLawful, IsLawfulDefault, IsLawfulPresence, IsLawfulType, leaves, no_groups, presence_bits, tags_below}
 use Rattle.rasn_schema.specs.Normal.{normal, over_bag}
 use Rattle.rasn_schema.specs.Schemas
-use Rattle.rasn_schema.specs.Schemas.{leaf, part, Parts, Schema}
+use Rattle.rasn_schema.specs.Schemas.{leaf, part, Schema}
 use Rattle.rasn_schema.proofs.Places.{and_first, and_second}
 use Rattle.rasn_dynamic.specs.declared.types.Alternative.{Alternative}
 use Rattle.rasn_dynamic.specs.declared.types.Component.{Component}

@@ -11,7 +11,7 @@ use Rattle.rasn_constraints.specs.declared.constraints.Bounded.{Bounded}
 use Rattle.rasn_constraints.specs.declared.constraints.Extensible.{Extensible}
 use Rattle.rasn_schema.specs.Enumerations.{addeds_of, items_of}
 use Rattle.rasn_schema.specs.Forms.{named_bit_schema}
-use Rattle.rasn_schema.specs.Lawful.{are_octets, if_bits, if_characters, if_octets, is_countable, is_value}
+use Rattle.rasn_schema.specs.Lawful.{are_octets, if_bits, if_characters, if_octets, is_value}
 use Rattle.rasn_schema.specs.Normal.{normal}
 use Rattle.rasn_schema.specs.Schemas
 use Rattle.rasn_schema.specs.declared.items.ItemCounts.{ItemCounts}
@@ -22,7 +22,7 @@ use Rattle.rasn_dynamic.specs.declared.types.DefaultValue.TheVariants
 use Rattle.rasn_traits.specs.Counted.{item_at, stands_in}
 use Rattle.rasn_dynamic.specs.declared.types.Simple.{Simple}
 use Rattle.rasn_dynamic.specs.declared.types.Simple.TheVariants.{OctetString, Open, Text}
-use Rattle.rasn_dynamic.specs.Types.{behind, default_value, of_size, simple_schema}
+use Rattle.rasn_dynamic.specs.Types.{behind, default_value, of_size}
 use Rattle.lawful_types.specs.Keeps.{is_default_of_named, is_default_of_simple}
 
 pub no_truth : (d : DefaultValue) → ((b : Bool) → d ≡ TheVariants.Boolean b → ⊥) → is_value Schemas.boolean (default_value d) ≡ false

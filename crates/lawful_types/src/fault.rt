@@ -28,7 +28,8 @@ pub enum Reason {
     /// Two alternatives of a CHOICE have one tag (X.680 29.3).
     #[error("two alternatives have one tag")]
     Tags,
-    /// A default isn't a value of its component's type (X.680 25.9).
+    /// A default isn't a value of its component's type (X.680 25.9), or it is named bits that aren't in normal form
+    /// (X.680 22.7): their last bit is zero, though their size doesn't ask for it, or they have too few bits for it.
     #[error("a default is no value of its type")]
     Default,
 }
