@@ -1,0 +1,4 @@
+pub mod Leaves
+pub mod Puts
+pub mod Shown
+pub mod Told

@@ -1,0 +1,148 @@
+-- The JSON of a value by a table of types (ITU-T X.697).
+use Rattle.std.specs.Prelude.{ℕ, Bool, true, false, if◌then◌else◌, ◌==◌, List, [], ◌∷◌, ◌++◌, length, flat_map, zip}
+use Rattle.std.specs.Prelude.{Option, Some, None, option_map, slice_get, string_bytes}
+use Rattle.rasn_types.specs.AllOf.{all_of}
+use Rattle.rasn_types.specs.Values
+use Rattle.rasn_types.specs.Values.{same}
+use Rattle.rasn_schema.specs.Normal.{normal}
+use Rattle.rasn_dynamic.specs.Types.{behind, default_value, schema_at, standing, within}
+use Rattle.rasn_dynamic.specs.Values.{slot_step}
+use Rattle.rasn_dynamic.specs.declared.types.Alternative.{Alternative}
+use Rattle.rasn_dynamic.specs.declared.types.Component.{Component}
+use Rattle.rasn_dynamic.specs.declared.types.DefaultValue.{DefaultValue}
+use Rattle.rasn_dynamic.specs.declared.types.Kind.{Kind}
+use Rattle.rasn_dynamic.specs.declared.types.Kind.TheVariants.{Simple, List as ListKind, SetOf, Record as RecordKind}
+use Rattle.rasn_dynamic.specs.declared.types.Kind.TheVariants.{Choice}
+use Rattle.rasn_dynamic.specs.declared.types.Presence.{Presence}
+use Rattle.rasn_dynamic.specs.declared.types.Presence.TheVariants.{Required, Optional, Group, Default}
+use Rattle.rasn_dynamic.specs.declared.types.Record.{Record}
+use Rattle.rasn_dynamic.specs.declared.values.Value.{Value}
+use Rattle.rasn_dynamic.specs.declared.values.Value.TheOpen.{Value-F, Elements, Bag, Fields, Alternative as AlternativeF}
+use Rattle.rasn_dynamic.specs.declared.values.Value.TheFolds.{fold-Value, map-Value}
+use Rattle.json.specs.Json.{Json, array, object, Members, no_members, member}
+use Rattle.json.specs.Value.{items_of}
+use Rattle.rasn_dynamic_jer.specs.Leaves.{below, simple_json}
+
+-- a member of an object: its name and its value
+abbrev pub Member : Type 0
+Member = List ℕ × Json
+
+-- members in their order
+abbrev pub members_from : List Member → Members
+members_from [] = no_members
+members_from (m ∷ ms) = member m.0 m.1 (members_from ms)
+
+-- what is known of a value, or of none: the value of the grammar that it is, where it is there; its JSON within so many
+-- levels of arrays and objects, by what its type is; and of a record its members within so many, by its components
+pub record Known : Type 0 where
+  pub slot : Option Values.Value
+  pub json : ℕ → Option Kind → Option Json
+  pub members : ℕ → Record → Option (List Member)
+
+-- what the type at a place is, or contains
+abbrev pub kind_within : List Kind → ℕ → Option Kind
+kind_within ts i = within ts (slice_get ts i)
+
+-- X.697: the member of a name, where there is JSON for it
+abbrev pub named : List ℕ → Option Json → Option (List Member)
+named name j = option_map (λ j. (name, j) ∷ []) j
+
+-- X.691 19.5: whether a value's normal form is a default; this is one at all levels
+abbrev pub is_default : List Kind → ℕ → Values.Value → DefaultValue → Bool
+is_default ts i v d = same (normal (schema_at ts i 0) v) (default_value d)
+
+-- X.680 25.1: the record of a component's type, where the component is a group
+abbrev pub record_of_group : Presence → Option Kind → Option Record
+record_of_group Group (Some (RecordKind r)) = if length (behind r.additions) == 0 then Some r else None
+record_of_group p k = None
+
+abbrev pub group_in : List Kind → Component → Option Record
+group_in ts c = record_of_group c.presence (slice_get ts c.of)
+
+-- no root component is a group
+abbrev pub no_group : Component → Option Record
+no_group c = None
+
+-- the members of a component that is there: those of a group, or one
+abbrev pub members_there : List Kind → ℕ → Option Record → Component → Known → Option (List Member)
+members_there ts n (Some r) c x = x.members n r
+members_there ts n None c x = named (string_bytes c.name) (x.json n (kind_within ts c.of))
+
+-- X.697: the members of a component: none where it is absent, or its value the default
+abbrev pub members_of : List Kind → ℕ → Option Record → Component → Known → Option Values.Value → Presence
+    → Option (List Member)
+members_of ts n g c x None Required = None
+members_of ts n g c x None (Default d) = None
+members_of ts n g c x None p = Some []
+members_of ts n g c x (Some v) (Default d) =
+    if is_default ts c.of v d then Some [] else members_there ts n g c x
+members_of ts n g c x (Some v) p = members_there ts n g c x
+
+abbrev pub component_members : List Kind → (Component → Option Record) → ℕ → (Component × Known) → Option (List Member)
+component_members ts g n p = members_of ts n (g p.0) p.0 p.1 p.1.slot p.0.presence
+
+-- one list of several
+abbrev pub flat : List (List Member) → List Member
+flat mss = flat_map (λ ms. ms) mss
+
+-- the members of components, of which there are as many as values
+abbrev pub list_members : List Kind → (Component → Option Record) → ℕ → List Component → List Known
+    → Option (List Member)
+list_members ts g n cs xs =
+    if length cs == length xs then option_map flat (all_of (component_members ts g n) (zip cs xs)) else None
+
+-- some members before others, where both are there
+abbrev pub both : Option (List Member) → Option (List Member) → Option (List Member)
+both None ns = None
+both (Some ms) None = None
+both (Some ms) (Some ns) = Some (ms ++ ns)
+
+-- X.697: the members of a record: those of its root components, and those of its additions
+abbrev pub record_members : List Kind → ℕ → Record → List Known → List Known → Option (List Member)
+record_members ts n r xs ys =
+    both (list_members ts no_group n r.root.items xs) (list_members ts (group_in ts) n (behind r.additions) ys)
+
+-- X.697: an object of one member, the alternative's
+abbrev pub alternative_json : List Kind → ℕ → Option Alternative → Known → Option Json
+alternative_json ts n None x = None
+alternative_json ts n (Some a) x =
+    option_map (λ ms. object (members_from ms)) (named (string_bytes a.name) (x.json n (kind_within ts a.of)))
+
+-- X.697: an array of values of a type
+abbrev pub array_json : List Kind → ℕ → ℕ → List Known → Option Json
+array_json ts n i xs = option_map (λ js. array (items_of js)) (all_of (λ x. x.json n (kind_within ts i)) xs)
+
+-- X.697: the JSON of a value by what its type is; none of a value of another kind
+abbrev pub kind_json : List Kind → ℕ → Option Kind → Value-F Known → Option Json
+kind_json ts n (Some (Simple k)) x = simple_json n k x
+kind_json ts n (Some (ListKind i c)) (Elements v) = below n (λ m. array_json ts m i v.items)
+kind_json ts n (Some (SetOf i c)) (Bag v) = below n (λ m. array_json ts m i v.items)
+kind_json ts n (Some (RecordKind r)) (Fields v w) =
+    below n (λ m. option_map (λ ms. object (members_from ms)) (record_members ts m r v.items w.items))
+kind_json ts n (Some (Choice c)) (AlternativeF p v) = below n (λ m. alternative_json ts m (standing c p) v.value)
+kind_json ts n k x = None
+
+-- the members of a value that is a record
+abbrev pub fields_members : List Kind → ℕ → Record → Value-F Known → Option (List Member)
+fields_members ts n r (Fields v w) = record_members ts n r v.items w.items
+fields_members ts n r x = None
+
+-- one level of a value, which has what is known of its parts in their place
+abbrev pub known_step : List Kind → Value-F Known → Known
+known_step ts x = record {
+  slot = slot_step (map-Value Known (Option Values.Value) (λ k. k.slot) x);
+  json = λ n k. kind_json ts n k x;
+  members = λ n r. fields_members ts n r x;
+}
+
+-- what is known of a value
+abbrev pub known : List Kind → Value → Known
+known ts = fold-Value Known (known_step ts)
+
+-- the JSON of a value by what its type is, within so many levels of arrays and objects
+abbrev pub json_by : List Kind → ℕ → Option Kind → Value → Option Json
+json_by ts n k v = (known ts v).json n k
+
+-- the JSON of a value by the type at a place, within so many levels of arrays and objects
+abbrev pub json_at : List Kind → ℕ → ℕ → Value → Option Json
+json_at ts n i v = json_by ts n (kind_within ts i) v
