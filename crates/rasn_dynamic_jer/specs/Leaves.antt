@@ -1,8 +1,8 @@
 -- The JSON of values in which no others are (ITU-T X.697).
-use Rattle.std.specs.Prelude.{ℕ, zero, suc, Bool, false, if◌then◌else◌, ◌==◌, nat_lt, List, Option, Some, None, length}
+use Rattle.std.specs.Prelude.{ℕ, zero, suc, Bool, false, if◌then◌else◌, nat_eq, List, Option, Some, None, length}
 use Rattle.std.specs.Prelude.{codes, decimal, encode_utf8_all, option_map, ℤ}
 use Rattle.std.specs.Fmt.{signed_decimal}
-use Rattle.std.specs.Option.{unwrap_or}
+use Rattle.std.specs.Option.{option_eq, unwrap_or}
 use Rattle.std.specs.Str.{all_scalars, is_utf8}
 use Rattle.rasn_types.specs.Bits.{Bits}
 use Rattle.rasn_types.specs.Integers.{is_i128}
@@ -12,6 +12,7 @@ use Rattle.rasn_constraints.specs.Constraints.{bounds_in}
 use Rattle.rasn_constraints.specs.declared.constraints.Bounded.{Bounded}
 use Rattle.rasn_constraints.specs.declared.constraints.Extensible.{Extensible}
 use Rattle.rasn_schema.specs.Forms.{is_size_marked, size_of}
+use Rattle.rasn_schema.specs.declared.items.Place.{Place}
 use Rattle.rasn_dynamic.specs.Names.{name_at}
 use Rattle.rasn_dynamic.specs.Types.{of_size}
 use Rattle.rasn_dynamic.specs.declared.types.Simple.{Simple}
@@ -27,29 +28,53 @@ abbrev pub below : {A : Type 0} → ℕ → (ℕ → Option A) → Option A
 below zero f = None
 below (suc n) f = f n
 
--- X.697: a whole number is its decimal digits; one past an i128 has no JSON (this project's choice)
-abbrev pub whole_json : ℤ → Option Json
-whole_json z = if is_i128 z then Some (number (signed_decimal z)) else None
+-- X.697 20: BOOLEAN
+abbrev pub truth_json : Simple → Bool → Option Json
+truth_json Simples.Boolean b = Some (boolean b)
+truth_json k b = None
 
--- X.697: octets are their hexadecimal digits
-abbrev pub octets_json : List ℕ → Json
-octets_json os = string (encode_upper os)
+-- X.697: NULL
+abbrev pub null_json : Simple → Option Json
+null_json Simples.Null = Some null
+null_json k = None
 
--- whether there is a number, which is the other
-abbrev pub is_number : Option ℕ → ℕ → Bool
-is_number None n = false
-is_number (Some m) n = m == n
+-- X.697: INTEGER: decimal digits; a number past an i128 has no JSON (this project's choice)
+abbrev pub number_json : Simple → ℤ → Option Json
+number_json (Simples.Integer c) z = if is_i128 z then Some (number (signed_decimal z)) else None
+number_json k z = None
+
+-- X.697: ENUMERATED: the name of the item
+abbrev pub item_json : Simple → Place → Option Json
+item_json (Simples.Enumerated i) p = option_map string (name_at i p)
+item_json k p = None
+
+-- octets by their hexadecimal digits
+abbrev pub hexadecimal : List ℕ → Json
+hexadecimal os = string (encode_upper os)
+
+-- octets that are a text in UTF-8
+abbrev pub utf8_json : List ℕ → Option Json
+utf8_json os = if is_utf8 os then Some (string os) else None
+
+-- X.697: OCTET STRING and open types: hexadecimal digits; UTF8String; and GeneralString and its like, of which each
+-- octet is the character with its number
+abbrev pub octets_json : Simple → List ℕ → Option Json
+octets_json (Simples.OctetString c) os = Some (hexadecimal os)
+octets_json Simples.Open os = Some (hexadecimal os)
+octets_json Simples.Utf8 os = utf8_json os
+octets_json Simples.Text os = Some (string (encode_utf8_all os))
+octets_json k os = None
 
 -- bits that tell how many they are
-abbrev pub counted_bits : Bits → Json
-counted_bits bs = object (member (codes "value") (octets_json (packed bs))
+abbrev pub counted : Bits → Json
+counted bs = object (member (codes "value") (hexadecimal (packed bs))
     (member (codes "length") (number (decimal (length bs))) no_members))
 
--- X.697: bits are the hexadecimal digits of their octets, spare bits zero: alone where there are as many as the size
--- fixes, and else in an object that also tells how many there are
-abbrev pub bits_json : ℕ → Option ℕ → Bits → Option Json
-bits_json n fixed bs =
-    if is_number fixed (length bs) then Some (octets_json (packed bs)) else below n (λ m. Some (counted_bits bs))
+-- the digits of bits' octets, spare bits zero: alone where there are as many as are fixed, and else in an object that
+-- also tells how many there are
+abbrev pub bits_shown : ℕ → Option ℕ → Bits → Option Json
+bits_shown n fixed bs =
+    if option_eq nat_eq fixed (Some (length bs)) then Some (hexadecimal (packed bs)) else below n (λ m. Some (counted bs))
 
 -- X.680 51.5: how many there are, where a size without an extension marker is one number
 abbrev pub fixed_by : Extensible (Bounded ℕ) → Option ℕ
@@ -59,31 +84,25 @@ fixed_by c = fixed_count (size_of (of_size c)) (is_size_marked (of_size c))
 abbrev pub least_of : Extensible (Bounded ℕ) → ℕ
 least_of c = unwrap_or (size_of (of_size c)).least 0
 
--- X.680 22.7, X.691 16.2: the bits that are shown of named ones: without zero bits at their end but those that the
--- size asks for
-abbrev pub shown_bits : Extensible (Bounded ℕ) → Bits → Bits
-shown_bits c bs = filled_up (least_of c) (trimmed bs)
+-- X.697: BIT STRING; of named bits those of the normal form: without zero bits at their end but those that the size
+-- asks for (X.680 22.7; X.691 16.2)
+abbrev pub bits_json : ℕ → Simple → Bits → Option Json
+bits_json n (Simples.BitString c) bs = bits_shown n (fixed_by c) bs
+bits_json n (Simples.NamedBits c) bs = bits_shown n (fixed_by c) (filled_up (least_of c) (trimmed bs))
+bits_json n k bs = None
 
--- characters, which are scalar values of Unicode
-abbrev pub characters_json : List ℕ → Option Json
-characters_json cs = if all_scalars cs then Some (string (encode_utf8_all cs)) else None
+-- X.697: a character string whose characters are scalar values of Unicode
+abbrev pub characters_json : Simple → List ℕ → Option Json
+characters_json (Simples.Characters s) cs = if all_scalars cs then Some (string (encode_utf8_all cs)) else None
+characters_json k cs = None
 
--- octets, which are a text in UTF-8
-abbrev pub utf8_json : List ℕ → Option Json
-utf8_json os = if is_utf8 os then Some (string os) else None
-
--- X.697: the JSON of a value of a type in which no other is, within so many levels; none of a value of another kind.
--- Octets of GeneralString and its like are each the character with its number
+-- the JSON of a value of a type in which no other is, within so many levels; none of a value of another kind
 abbrev pub simple_json : {A : Type 0} → ℕ → Simple → Value-F A → Option Json
-simple_json n Simples.Boolean (Boolean b) = Some (boolean b)
-simple_json n Simples.Null Null = Some null
-simple_json n (Simples.Integer c) (Integer z) = whole_json z
-simple_json n (Simples.Enumerated i) (Item p) = option_map string (name_at i p)
-simple_json n (Simples.OctetString c) (Octets os) = Some (octets_json os)
-simple_json n (Simples.BitString c) (BitsF bs) = bits_json n (fixed_by c) bs
-simple_json n (Simples.NamedBits c) (BitsF bs) = bits_json n (fixed_by c) (shown_bits c bs)
-simple_json n (Simples.Characters s) (Characters cs) = characters_json cs
-simple_json n Simples.Utf8 (Octets os) = utf8_json os
-simple_json n Simples.Text (Octets os) = Some (string (encode_utf8_all os))
-simple_json n Simples.Open (Octets os) = Some (octets_json os)
+simple_json n k (Boolean b) = truth_json k b
+simple_json n k Null = null_json k
+simple_json n k (Integer z) = number_json k z
+simple_json n k (Item p) = item_json k p
+simple_json n k (Octets os) = octets_json k os
+simple_json n k (BitsF bs) = bits_json n k bs
+simple_json n k (Characters cs) = characters_json k cs
 simple_json n k x = None

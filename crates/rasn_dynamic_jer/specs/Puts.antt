@@ -1,6 +1,7 @@
 -- What of a value's JSON is written.
-use Rattle.std.specs.Prelude.{ℕ, ◌≡◌, ◌≤◌, ◌⊎◌, List, ◌++◌, flat_map, Option, Some, None, Result, MatchResult, Unit}
-use Rattle.json.specs.Json.{Json, object, document}
+use Rattle.std.specs.Prelude.{ℕ, ◌≡◌, ◌+◌, ◌≤◌, ◌⊎◌, List, [], ◌∷◌, ◌++◌, flat_map, Option, Some, None, Result, MatchResult}
+use Rattle.json.specs.Json.{Json, array, object, document}
+use Rattle.json.specs.Value.{items_of}
 use Rattle.json.specs.Print.{print}
 use Rattle.json.specs.Token.{Token}
 use Rattle.json.specs.Tree.{HasNumbers, json_tokens, depth}
@@ -50,3 +51,22 @@ pub record IsTextOf (o : Option Json) (text : List ℕ) : Type 0 where
   pub shown : o ≡ Some json
   pub printed : text ≡ print (json_tokens json)
   pub read : document text ≡ Some json
+
+-- a token is written after others, or memory ran out
+pub record PutsToken (t : Token) (old : Written) (r : Result (Unit {0}) ToJsonError) (new : Written) : Type 0 where
+  pub law : MatchResult r (λ done. new.tokens ≡ old.tokens ++ t ∷ []) (λ e. e ≡ OutOfMemory)
+  pub before : new.before ≡ old.before
+
+-- JSON of values, one after another
+pub record AreAllPut (o : Option (List Json)) (n : ℕ) (old new : Written) : Type 0 where
+  pub values : List Json
+  pub shown : o ≡ Some values
+  pub numbers : HasNumbers (array (items_of values))
+  pub within : depth (array (items_of values)) ≤ n + 1
+  pub tokens : new.tokens ≡ old.tokens ++ flat_map json_tokens values
+
+-- all values of an array are written, or refused
+pub record PutsAll (o : Option (List Json)) (n : ℕ) (old : Written) (r : Result (Unit {0}) ToJsonError) (new : Written)
+    : Type 0 where
+  pub law : MatchResult r (λ done. AreAllPut o n old new) (IsRefused o)
+  pub before : new.before ≡ old.before

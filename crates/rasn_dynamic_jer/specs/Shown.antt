@@ -1,5 +1,5 @@
 -- The JSON of a value by a table of types (ITU-T X.697).
-use Rattle.std.specs.Prelude.{ℕ, Bool, true, false, if◌then◌else◌, ◌==◌, List, [], ◌∷◌, ◌++◌, length, flat_map, zip}
+use Rattle.std.specs.Prelude.{ℕ, Bool, true, false, if◌then◌else◌, ◌==◌, List, [], ◌∷◌, ◌++◌, length, map}
 use Rattle.std.specs.Prelude.{Option, Some, None, option_map, slice_get, string_bytes}
 use Rattle.rasn_types.specs.AllOf.{all_of}
 use Rattle.rasn_types.specs.Values
@@ -9,12 +9,11 @@ use Rattle.rasn_dynamic.specs.Types.{behind, default_value, schema_at, standing,
 use Rattle.rasn_dynamic.specs.Values.{slot_step}
 use Rattle.rasn_dynamic.specs.declared.types.Alternative.{Alternative}
 use Rattle.rasn_dynamic.specs.declared.types.Component.{Component}
-use Rattle.rasn_dynamic.specs.declared.types.DefaultValue.{DefaultValue}
 use Rattle.rasn_dynamic.specs.declared.types.Kind.{Kind}
 use Rattle.rasn_dynamic.specs.declared.types.Kind.TheVariants.{Simple, List as ListKind, SetOf, Record as RecordKind}
 use Rattle.rasn_dynamic.specs.declared.types.Kind.TheVariants.{Choice}
 use Rattle.rasn_dynamic.specs.declared.types.Presence.{Presence}
-use Rattle.rasn_dynamic.specs.declared.types.Presence.TheVariants.{Required, Optional, Group, Default}
+use Rattle.rasn_dynamic.specs.declared.types.Presence.TheVariants.{Optional, Group, Default}
 use Rattle.rasn_dynamic.specs.declared.types.Record.{Record}
 use Rattle.rasn_dynamic.specs.declared.values.Value.{Value}
 use Rattle.rasn_dynamic.specs.declared.values.Value.TheOpen.{Value-F, Elements, Bag, Fields, Alternative as AlternativeF}
@@ -47,9 +46,19 @@ kind_within ts i = within ts (slice_get ts i)
 abbrev pub named : List ℕ → Option Json → Option (List Member)
 named name j = option_map (λ j. (name, j) ∷ []) j
 
--- X.691 19.5: whether a value's normal form is a default; this is one at all levels
-abbrev pub is_default : List Kind → ℕ → Values.Value → DefaultValue → Bool
-is_default ts i v d = same (normal (schema_at ts i 0) v) (default_value d)
+-- X.691 19.5: whether a component has a default, which a value's normal form is; this is one at all levels
+abbrev pub is_default_of : List Kind → Presence → ℕ → Values.Value → Bool
+is_default_of ts (Default d) i v = same (normal (schema_at ts i 0) v) (default_value d)
+is_default_of ts p i v = false
+
+abbrev pub is_default : List Kind → Component → Values.Value → Bool
+is_default ts c v = is_default_of ts c.presence c.of v
+
+-- X.680 25.6: whether a component may be absent; a value of a record has one with a default always
+abbrev pub is_optional : Presence → Bool
+is_optional Optional = true
+is_optional Group = true
+is_optional p = false
 
 -- X.680 25.1: the record of a component's type, where the component is a group
 abbrev pub record_of_group : Presence → Option Kind → Option Record
@@ -59,9 +68,10 @@ record_of_group p k = None
 abbrev pub group_in : List Kind → Component → Option Record
 group_in ts c = record_of_group c.presence (slice_get ts c.of)
 
--- no root component is a group
-abbrev pub no_group : Component → Option Record
-no_group c = None
+-- the record of a component's type, where the component is a group; among those of a root none is
+abbrev pub group_among : List Kind → Bool → Component → Option Record
+group_among ts false c = None
+group_among ts true c = group_in ts c
 
 -- the members of a component that is there: those of a group, or one
 abbrev pub members_there : List Kind → ℕ → Option Record → Component → Known → Option (List Member)
@@ -69,27 +79,12 @@ members_there ts n (Some r) c x = x.members n r
 members_there ts n None c x = named (string_bytes c.name) (x.json n (kind_within ts c.of))
 
 -- X.697: the members of a component: none where it is absent, or its value the default
-abbrev pub members_of : List Kind → ℕ → Option Record → Component → Known → Option Values.Value → Presence
-    → Option (List Member)
-members_of ts n g c x None Required = None
-members_of ts n g c x None (Default d) = None
-members_of ts n g c x None p = Some []
-members_of ts n g c x (Some v) (Default d) =
-    if is_default ts c.of v d then Some [] else members_there ts n g c x
-members_of ts n g c x (Some v) p = members_there ts n g c x
+abbrev pub members_of : List Kind → ℕ → Option Record → Component → Known → Option Values.Value → Option (List Member)
+members_of ts n g c x None = if is_optional c.presence then Some [] else None
+members_of ts n g c x (Some v) = if is_default ts c v then Some [] else members_there ts n g c x
 
-abbrev pub component_members : List Kind → (Component → Option Record) → ℕ → (Component × Known) → Option (List Member)
-component_members ts g n p = members_of ts n (g p.0) p.0 p.1 p.1.slot p.0.presence
-
--- one list of several
-abbrev pub flat : List (List Member) → List Member
-flat mss = flat_map (λ ms. ms) mss
-
--- the members of components, of which there are as many as values
-abbrev pub list_members : List Kind → (Component → Option Record) → ℕ → List Component → List Known
-    → Option (List Member)
-list_members ts g n cs xs =
-    if length cs == length xs then option_map flat (all_of (component_members ts g n) (zip cs xs)) else None
+abbrev pub component_members : List Kind → Bool → ℕ → Component → Known → Option (List Member)
+component_members ts are_added n c x = members_of ts n (group_among ts are_added c) c x x.slot
 
 -- some members before others, where both are there
 abbrev pub both : Option (List Member) → Option (List Member) → Option (List Member)
@@ -97,10 +92,17 @@ both None ns = None
 both (Some ms) None = None
 both (Some ms) (Some ns) = Some (ms ++ ns)
 
+-- the members of components, of which there are as many as values
+abbrev pub list_members : List Kind → Bool → ℕ → List Component → List Known → Option (List Member)
+list_members ts are_added n [] [] = Some []
+list_members ts are_added n (c ∷ cs) (x ∷ xs) =
+    both (component_members ts are_added n c x) (list_members ts are_added n cs xs)
+list_members ts are_added n cs xs = None
+
 -- X.697: the members of a record: those of its root components, and those of its additions
 abbrev pub record_members : List Kind → ℕ → Record → List Known → List Known → Option (List Member)
 record_members ts n r xs ys =
-    both (list_members ts no_group n r.root.items xs) (list_members ts (group_in ts) n (behind r.additions) ys)
+    both (list_members ts false n r.root.items xs) (list_members ts true n (behind r.additions) ys)
 
 -- X.697: an object of one member, the alternative's
 abbrev pub alternative_json : List Kind → ℕ → Option Alternative → Known → Option Json
@@ -108,9 +110,13 @@ alternative_json ts n None x = None
 alternative_json ts n (Some a) x =
     option_map (λ ms. object (members_from ms)) (named (string_bytes a.name) (x.json n (kind_within ts a.of)))
 
+-- the JSON of each of some values of a type
+abbrev pub all_json : List Kind → ℕ → ℕ → List Known → Option (List Json)
+all_json ts n i xs = all_of (λ x. x.json n (kind_within ts i)) xs
+
 -- X.697: an array of values of a type
 abbrev pub array_json : List Kind → ℕ → ℕ → List Known → Option Json
-array_json ts n i xs = option_map (λ js. array (items_of js)) (all_of (λ x. x.json n (kind_within ts i)) xs)
+array_json ts n i xs = option_map (λ js. array (items_of js)) (all_json ts n i xs)
 
 -- X.697: the JSON of a value by what its type is; none of a value of another kind
 abbrev pub kind_json : List Kind → ℕ → Option Kind → Value-F Known → Option Json
@@ -146,3 +152,7 @@ json_by ts n k v = (known ts v).json n k
 -- the JSON of a value by the type at a place, within so many levels of arrays and objects
 abbrev pub json_at : List Kind → ℕ → ℕ → Value → Option Json
 json_at ts n i v = json_by ts n (kind_within ts i) v
+
+-- the JSON of each of some values of the type at a place
+abbrev pub values_json : List Kind → ℕ → ℕ → List Value → Option (List Json)
+values_json ts n i vs = all_json ts n i (map (known ts) vs)

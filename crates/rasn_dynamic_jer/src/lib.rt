@@ -2,4 +2,5 @@
 #![tactic(auto)]
 
 pub mod error;
+mod leaves;
 pub mod write;

@@ -1,0 +1,9 @@
+use Rattle.std.proofs.Common.{refl, sym, ap, ◌∙◌, subst, Some}
+use Rattle.rasn_dynamic_jer.specs.Leaves.{octets_json}
+use Rattle.rasn_dynamic_jer.proofs.leaves.put_octets.Goals as goal
+
+pub returns-in-Utf8 : goal.returns-in-Utf8
+returns-in-Utf8 c n = rw (c.in-Utf8.is, sym c.as_bytes-in-Utf8.ensures) (c.put_utf8.ensures n)
+
+pub returns-in-Text : goal.returns-in-Text
+returns-in-Text c n = rw (c.in-Text.is, sym c.as_bytes-in-Text.ensures) (c.put_latin.ensures n)
