@@ -46,7 +46,7 @@ pub record PutsMembers (o : Option (List Member)) (n : ℕ) (old : Written) (r :
   pub before : new.before ≡ old.before
 
 -- a text is JSON, and reads back as it
-pub record IsTextOf (o : Option Json) (text : List ℕ) : Type 0 where
+pub record IsJsonText (o : Option Json) (text : List ℕ) : Type 0 where
   pub json : Json
   pub shown : o ≡ Some json
   pub printed : text ≡ print (json_tokens json)

@@ -7,7 +7,7 @@ ghost use Rattle.rasn_dynamic.specs.Values.{value_of};
 ghost use Rattle.rasn_dynamic.specs.declared.types.Kind.TheVariants.{Choice as ChoiceKind, List as ListKind};
 ghost use Rattle.rasn_dynamic.specs.declared.types.Kind.TheVariants.{Record as RecordKind, SetOf, Simple as SimpleKind};
 ghost use Rattle.rasn_dynamic_jer.specs.Leaves.{below};
-ghost use Rattle.rasn_dynamic_jer.specs.Puts.{IsRefused, IsTextOf, Puts, PutsAll, PutsMembers};
+ghost use Rattle.rasn_dynamic_jer.specs.Puts.{IsRefused, IsJsonText, Puts, PutsAll, PutsMembers};
 ghost use Rattle.rasn_dynamic_jer.specs.Shown.{alternative_json, array_json, json_at, json_by, kind_within, known};
 ghost use Rattle.rasn_dynamic_jer.specs.Shown.{component_members, group_among, is_default, is_optional};
 ghost use Rattle.rasn_dynamic_jer.specs.Shown.{list_members, members_there, named, values_json};
@@ -33,7 +33,7 @@ pub fn to_json(
     place: usize,
     value: &Value,
 ) -> Result<Vec<u8>, ToJsonError>
-    ensures text { IfOk result (λ text. IsTextOf (json_at types.now.kinds.items max_depth place value.now) text.items) }
+    ensures text { IfOk result (λ text. IsJsonText (json_at types.now.kinds.items max_depth place value.now) text.items) }
     ensures refused { IfErr result (IsRefused (json_at types.now.kinds.items max_depth place value.now)) }
 {
     let mut writer = Writer::new(Vec::new(alloc));
@@ -229,7 +229,15 @@ fn put_members(
         return Err(ToJsonError::NoJson);
     };
     put_components(writer, alloc, kinds, record.root(), false, root, levels)?;
-    put_components(writer, alloc, kinds, record.behind(), true, additions, levels)
+    put_components(
+        writer,
+        alloc,
+        kinds,
+        record.behind(),
+        true,
+        additions,
+        levels,
+    )
 }
 
 /// Writes the members of components, which may be additions.
@@ -250,7 +258,15 @@ fn put_components(
         return Err(ToJsonError::NoJson);
     }
     for (index, value) in values.iter().enumerate() {
-        put_component(writer, alloc, kinds, &components[index], are_added, value, levels)?;
+        put_component(
+            writer,
+            alloc,
+            kinds,
+            &components[index],
+            are_added,
+            value,
+            levels,
+        )?;
     }
     Ok(())
 }
@@ -332,7 +348,15 @@ fn put_there(
 {
     match group_among(kinds, are_added, component) {
         Some(record) => put_members(writer, alloc, kinds, record, value, levels),
-        None => put_named(writer, alloc, kinds, &component.name, component.of, value, levels),
+        None => put_named(
+            writer,
+            alloc,
+            kinds,
+            &component.name,
+            component.of,
+            value,
+            levels,
+        ),
     }
 }
 
@@ -396,6 +420,14 @@ fn put_alternative(
         return Err(ToJsonError::NoJson);
     }
     put_token(writer, Token::BeginObject)?;
-    put_named(writer, alloc, kinds, &alternative.name, alternative.of, value, levels - 1)?;
+    put_named(
+        writer,
+        alloc,
+        kinds,
+        &alternative.name,
+        alternative.of,
+        value,
+        levels - 1,
+    )?;
     put_token(writer, Token::EndObject)
 }

@@ -28,7 +28,7 @@ put_list-returns-in-Elements t c s =
     let ts = c.args.kinds.now in
     let n = c.args.levels in
     let e = elements_json ts n c.args.of s c.args.value.now _ (c.in-Elements.is ∙ sym (rolls-Elements c.in-Elements.values))
-        ∙ ap (λ vs. below n (λ m. array_json ts m c.args.of (map (known ts) vs))) (sym c.deref.ensures.value) in
+    ∙ ap (λ vs. below n (λ m. array_json ts m c.args.of (map (known ts) vs))) (sym c.deref.ensures.value) in
     subst (λ o. Puts o n c.args.writer.now c.put_array.result c.put_array.new.writer) (sym e) c.put_array.ensures
 
 pub put_list-put_array-requires : goal.put_list-put_array-requires
@@ -41,7 +41,7 @@ put_set_of-returns-in-Bag t c s =
     let ts = c.args.kinds.now in
     let n = c.args.levels in
     let e = bag_json ts n c.args.of s c.args.value.now _ (c.in-Bag.is ∙ sym (rolls-Bag c.in-Bag.values))
-        ∙ ap (λ vs. below n (λ m. array_json ts m c.args.of (map (known ts) vs))) (sym c.deref.ensures.value) in
+    ∙ ap (λ vs. below n (λ m. array_json ts m c.args.of (map (known ts) vs))) (sym c.deref.ensures.value) in
     subst (λ o. Puts o n c.args.writer.now c.put_array.result c.put_array.new.writer) (sym e) c.put_array.ensures
 
 pub put_set_of-put_array-requires : goal.put_set_of-put_array-requires
@@ -90,9 +90,9 @@ put_members-returns t c =
     let ts = c.args.kinds.now in
     let n = c.args.levels in
     let e = fields_members_of ts n c.args.record.now c.args.value.now c.in-Fields.root c.in-Fields.additions (c.in-Fields.is ∙ sym (rolls-Fields c.in-Fields.root c.in-Fields.additions))
-        ∙ ap₂ both
-            (ap₂ (λ cs vs. list_members ts false n cs (map (known ts) vs)) (sym c.root.ensures) (sym c.deref.ensures.value))
-            (ap₂ (λ cs vs. list_members ts true n cs (map (known ts) vs)) (sym c.behind.ensures) (sym c.deref-2.ensures.value)) in
+    ∙ ap₂ both
+    (ap₂ (λ cs vs. list_members ts false n cs (map (known ts) vs)) (sym c.root.ensures) (sym c.deref.ensures.value))
+    (ap₂ (λ cs vs. list_members ts true n cs (map (known ts) vs)) (sym c.behind.ensures) (sym c.deref-2.ensures.value)) in
     subst (λ o. PutsMembers o n c.args.writer.now c.put_components-2.result c.put_components-2.new.writer) (sym e)
     (both_then _ _ n c.put_components-2.result c.in_ok-put_components.ensures.law c.put_components.ensures.before c.put_components-2.ensures)
 
@@ -103,7 +103,7 @@ put_members-returns-in_err-put_components t c =
     let n = c.args.levels in
     let more = list_members ts true n (behind c.args.record.now.additions) (map (known ts) c.in-Fields.additions.items) in
     let e = fields_members_of ts n c.args.record.now c.args.value.now c.in-Fields.root c.in-Fields.additions (c.in-Fields.is ∙ sym (rolls-Fields c.in-Fields.root c.in-Fields.additions))
-        ∙ ap₂ (λ cs vs. both (list_members ts false n cs (map (known ts) vs)) more) (sym c.root.ensures) (sym c.deref.ensures.value) in
+    ∙ ap₂ (λ cs vs. both (list_members ts false n cs (map (known ts) vs)) more) (sym c.root.ensures) (sym c.deref.ensures.value) in
     record {
       law = rw (p.1, p.2) (refused_as _ ((known ts c.args.value.now).members n c.args.record.now) _ (λ none. e ∙ ap (λ o. both o more) none) c.in_err-put_components.ensures.law);
       before = c.put_components.ensures.before;
@@ -112,13 +112,13 @@ put_members-returns-in_err-put_components t c =
 pub put_members-put_components-requires : goal.put_members-put_components-requires
 put_members-put_components-requires t c =
     let e = fields_levels c.args.value.now _ _ (c.in-Fields.is ∙ sym (rolls-Fields c.in-Fields.root c.in-Fields.additions))
-        ∙ ap (λ vs. suc (max (deepest levels_of vs) (deepest levels_of c.in-Fields.additions.items))) (sym c.deref.ensures.value) in
+    ∙ ap (λ vs. suc (max (deepest levels_of vs) (deepest levels_of c.in-Fields.additions.items))) (sym c.deref.ensures.value) in
     grind (arith, common_steps, e)
 
 pub put_members-put_components-requires-2 : goal.put_members-put_components-requires-2
 put_members-put_components-requires-2 t c =
     let e = fields_levels c.args.value.now _ _ (c.in-Fields.is ∙ sym (rolls-Fields c.in-Fields.root c.in-Fields.additions))
-        ∙ ap (λ vs. suc (max (deepest levels_of c.in-Fields.root.items) (deepest levels_of vs))) (sym c.deref-2.ensures.value) in
+    ∙ ap (λ vs. suc (max (deepest levels_of c.in-Fields.root.items) (deepest levels_of vs))) (sym c.deref-2.ensures.value) in
     grind (arith, common_steps, e)
 
 pub put_components-returns-then-components-values : goal.put_components-returns-then-components-values

@@ -52,12 +52,12 @@ decreases-put_alternative l = 16 * levels_of l.value.now + 9
 abbrev pub invariant-put_values-loop-value : goal.invariant-put_values-loop-value
 invariant-put_values-loop-value l = record {
   put : AreAllPut (values_json l.kinds l.levels l.of (take l.value-index l.values)) l.levels l.fn.writer l.writer;
-  before : l.writer.before ≡ l.fn.writer.before
+  before : l.writer.before ≡ l.fn.writer.before;
 }
 
 -- the components up to a place are written
 abbrev pub invariant-put_components-loop-index : goal.invariant-put_components-loop-index
 invariant-put_components-loop-index l = record {
   put : ArePut (list_members l.kinds l.are_added l.levels (take l.index l.components) (map (known l.kinds) (take l.index l.values))) l.levels l.fn.writer l.writer;
-  before : l.writer.before ≡ l.fn.writer.before
+  before : l.writer.before ≡ l.fn.writer.before;
 }
