@@ -6,7 +6,7 @@ import subprocess
 
 from inputs import MESSAGES, lines, octets_line
 from program import built_program
-from repository import TOP, Failure, below, read_crates
+from repository import FURTHER, TOP, Failure, below, put_crate, read_crates
 
 HERE = os.path.dirname(os.path.realpath(__file__))
 VARIANTS = ("uper", "aper")
@@ -97,11 +97,11 @@ def write_inputs(folder):
 
 def build_this_project(folder):
     """Proves and builds the program in Rattle, in a copy of the libraries below it, which are there as they are proved."""
-    crates, copy = read_crates(), f"{folder.path}/copy"
+    crates, copy = {**read_crates(), **read_crates(f"{FURTHER}/CRATES")}, f"{folder.path}/copy"
     found = below(LIBRARIES, crates)
     for name in found:
         shutil.rmtree(f"{copy}/crates/{name}", ignore_errors=True)
-        shutil.copytree(f"{TOP}/crates/{name}", f"{copy}/crates/{name}", copy_function=copied)
+        put_crate(name, f"{copy}/crates/{name}", copy_function=copied)
     lines = [f"{name}: {' '.join(crates[name])}\n" for name in found]
     folder.written("copy/crates.txt", "".join(lines) + f"bench_rasn: {' '.join(LIBRARIES)} anyhow hex\n")
     shutil.copy(f"{TOP}/HANDLES", f"{copy}/HANDLES")

@@ -10,6 +10,4 @@ mod expected;
 #[cfg(test)]
 mod lte_messages;
 #[cfg(test)]
-mod ngap_messages;
-#[cfg(test)]
 mod s1ap_messages;
