@@ -74,7 +74,8 @@ counted bs = object (member (codes "value") (hexadecimal (packed bs))
 -- also tells how many there are
 abbrev pub bits_shown : ℕ → Option ℕ → Bits → Option Json
 bits_shown n fixed bs =
-    if option_eq nat_eq fixed (Some (length bs)) then Some (hexadecimal (packed bs)) else below n (λ m. Some (counted bs))
+    if option_eq nat_eq fixed (Some (length bs)) then Some (hexadecimal (packed bs))
+    else below n (λ m. Some (counted bs))
 
 -- X.680 51.5: how many there are, where a size without an extension marker is one number
 abbrev pub fixed_by : Extensible (Bounded ℕ) → Option ℕ

@@ -1,5 +1,6 @@
 -- What of a value's JSON is written.
-use Rattle.std.specs.Prelude.{ℕ, ◌≡◌, ◌+◌, ◌≤◌, ◌⊎◌, List, [], ◌∷◌, ◌++◌, flat_map, Option, Some, None, Result, MatchResult}
+use Rattle.std.specs.Prelude.{ℕ, ◌≡◌, ◌+◌, ◌≤◌, ◌⊎◌, List, [], ◌∷◌, ◌++◌, flat_map, Option, Some, None}
+use Rattle.std.specs.Prelude.{Result, MatchResult}
 use Rattle.json.specs.Json.{Json, array, object, document}
 use Rattle.json.specs.Value.{items_of}
 use Rattle.json.specs.Print.{print}
@@ -35,7 +36,8 @@ abbrev pub IsRefused : {A : Type 0} → Option A → ToJsonError → Type 0
 IsRefused o e = (e ≡ OutOfMemory) ⊎ ((e ≡ NoJson) × (o ≡ None))
 
 -- JSON is written, or refused
-pub record Puts (o : Option Json) (n : ℕ) (old : Written) (r : Result (Unit {0}) ToJsonError) (new : Written) : Type 0 where
+pub record Puts (o : Option Json) (n : ℕ) (old : Written) (r : Result (Unit {0}) ToJsonError) (new : Written)
+    : Type 0 where
   pub law : MatchResult r (λ done. IsPut o n old new) (IsRefused o)
   pub before : new.before ≡ old.before
 

@@ -16,7 +16,8 @@ use Rattle.rasn_dynamic.specs.declared.types.Presence.{Presence}
 use Rattle.rasn_dynamic.specs.declared.types.Presence.TheVariants.{Optional, Group, Default}
 use Rattle.rasn_dynamic.specs.declared.types.Record.{Record}
 use Rattle.rasn_dynamic.specs.declared.values.Value.{Value}
-use Rattle.rasn_dynamic.specs.declared.values.Value.TheOpen.{Value-F, Elements, Bag, Fields, Alternative as AlternativeF}
+use Rattle.rasn_dynamic.specs.declared.values.Value.TheOpen.{Value-F, Elements, Bag, Fields}
+use Rattle.rasn_dynamic.specs.declared.values.Value.TheOpen.{Alternative as AlternativeF}
 use Rattle.rasn_dynamic.specs.declared.values.Value.TheFolds.{fold-Value, map-Value}
 use Rattle.json.specs.Json.{Json, array, object, Members, no_members, member}
 use Rattle.json.specs.Value.{items_of}

@@ -1,4 +1,4 @@
-//! Values that are data as JSON (ITU-T X.697), by a table of types with the names of components, alternatives and items.
+//! Values that are data to JSON and back (ITU-T X.697), by a table of types, which has the names.
 #![tactic(auto)]
 
 pub mod error;

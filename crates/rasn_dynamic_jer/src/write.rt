@@ -33,7 +33,8 @@ pub fn to_json(
     place: usize,
     value: &Value,
 ) -> Result<Vec<u8>, ToJsonError>
-    ensures text { IfOk result (λ text. IsJsonText (json_at types.now.kinds.items max_depth place value.now) text.items) }
+    ensures text { IfOk result (λ text.
+        IsJsonText (json_at types.now.kinds.items max_depth place value.now) text.items) }
     ensures refused { IfErr result (IsRefused (json_at types.now.kinds.items max_depth place value.now)) }
 {
     let mut writer = Writer::new(Vec::new(alloc));
