@@ -1,0 +1,5 @@
+pub mod Closed
+pub mod Defaults
+pub mod Fronts
+pub mod Parts
+pub mod Simple
