@@ -10,7 +10,7 @@ use Rattle.rasn_dynamic.specs.declared.types.Kind.{Kind}
 use Rattle.rasn_dynamic.specs.Types.{schema_at}
 use Rattle.dynamic_versions.specs.declared.pairs.Pair.{Pair}
 use Rattle.dynamic_versions.specs.OneLevel.{AreClosed, AreVersions, IsFront, IsListed, IsNewerPair}
-use Rattle.dynamic_versions.proofs.Defaults.{cut_keeps, schema_keeps}
+use Rattle.dynamic_versions.proofs.SameValues.{cut_keeps, schema_keeps}
 
 pub closed_newer : (ts' ts : List Kind) (ps : List Pair) → AreClosed ts' ts ps → (n i j : ℕ) → IsListed ps i j → Newer (schema_at ts' i n) (schema_at ts j n)
 unfolding schema_at

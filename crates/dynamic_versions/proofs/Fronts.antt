@@ -1,8 +1,8 @@
 -- What stays true of a list of pairs when more pairs are listed.
-use Rattle.std.proofs.Common.{◌≡◌, refl, sym, ap, ◌∙◌, subst, ℕ, ◌+◌, ◌<◌, ◌≤◌, Bool, List, [], ◌∷◌, ◌++◌, length, take, get_or, Option, Some, None, arith}
+use Rattle.std.proofs.Common.{◌≡◌, refl, sym, ap, ◌∙◌, subst, ℕ, zero, suc, ◌+◌, ◌<◌, ◌≤◌, Bool, List, [], ◌∷◌, ◌++◌, length, take, get_or, Option, Some, None, arith}
 use Rattle.std.specs.Prelude.{Contains, slice_get}
 use Rattle.std.specs.List.{All}
-use Rattle.std.proofs.lemmas.List.{append-nil, append_assoc, take-append-le, take_all, get_or_append_left}
+use Rattle.std.proofs.lemmas.List.{append-nil, append_assoc, length-append, take-append-le, take_all, get_or_append_left}
 use Rattle.std.proofs.lemmas.List.Elements.{All-more, All-weaker, Contains-append_left}
 use Rattle.std.proofs.lemmas.Option.{get_or_from_slice_get, slice_get_cases, slice_get_within}
 use Rattle.rasn_schema.specs.Schemas.{Schema}
@@ -10,7 +10,7 @@ use Rattle.rasn_dynamic.specs.declared.types.Component.{Component}
 use Rattle.rasn_dynamic.specs.declared.types.Alternative.{Alternative}
 use Rattle.rasn_dynamic.specs.declared.types.Kind.{Kind}
 use Rattle.dynamic_versions.specs.declared.pairs.Pair.{Pair}
-use Rattle.dynamic_versions.specs.OneLevel.{AreClosed, AreVersions, IsFront, IsListed, IsNewerAlternative, IsNewerComponent, IsNewerPair}
+use Rattle.dynamic_versions.specs.OneLevel.{AreClosed, AreVersions, IsFront, IsListed, AreNewerAlternatives, AreNewerComponents, IsNewerAlternative, IsNewerComponent, IsNewerPair}
 
 pub front_itself : (ps : List Pair) → IsFront ps ps
 front_itself ps = ([], sym (append-nil ps))
@@ -33,6 +33,12 @@ component_more b ts' ts ps qs c' c f h = record { tag = h.tag; listed = listed_m
 pub alternative_more : (ps qs : List Pair) (c' c : Alternative) → IsFront ps qs → IsNewerAlternative ps c' c → IsNewerAlternative qs c' c
 alternative_more ps qs c' c f h = record { tag = h.tag; listed = listed_more ps qs c'.of c.of f h.listed }
 
+pub components_more : (b : Bool) (ts' ts : List Kind) (ps qs : List Pair) (cs' cs : List Component) → IsFront ps qs → AreNewerComponents b ts' ts ps cs' cs → AreNewerComponents b ts' ts qs cs' cs
+components_more b ts' ts ps qs cs' cs f h = λ s' s v. h s' s (versions_front ts ps qs s' s f v)
+
+pub alternatives_more : (b : Bool) (ps qs : List Pair) (cs' cs : List Alternative) → IsFront ps qs → AreNewerAlternatives b ps cs' cs → AreNewerAlternatives b qs cs' cs
+alternatives_more b ps qs cs' cs f h = λ s' s v. h s' s (λ i j l. v i j (listed_more ps qs i j f l))
+
 -- one more pair is compared
 pub closed_more : (ts' ts : List Kind) (ps qs : List Pair) (i : ℕ) (p : Pair) → Some p ≡ slice_get ps i → IsFront ps qs → IsNewerPair ts' ts qs p → All (IsNewerPair ts' ts ps) (take i ps) →
     All (IsNewerPair ts' ts qs) (take (i + 1) qs)
@@ -52,7 +58,7 @@ closed_more ts' ts ps qs i p e (rest, f) h all =
     here = ap (λ l. get_or l i p) f ∙ get_or_append_left ps rest p i low ∙ get_or_from_slice_get ps i p p (sym e)
 
     more : length ps ≤ length (ps ++ rest)
-    more = grind arith
+    more = subst (λ l. length ps ≤ l) (sym (length-append ps rest)) (omega arith)
 
     inside : i < length qs
     inside = subst (λ l. i < length l) (sym f) (omega (arith, low, more))
@@ -60,3 +66,9 @@ closed_more ts' ts ps qs i p e (rest, f) h all =
 -- all are
 pub closed_all : (ts' ts : List Kind) (ps : List Pair) (i : ℕ) → length ps ≤ i → All (IsNewerPair ts' ts ps) (take i ps) → AreClosed ts' ts ps
 closed_all ts' ts ps i l all = subst (λ x. All (IsNewerPair ts' ts ps) x) (take_all i ps l) all
+
+-- where nothing stands at a place, the list has ended
+pub past : (ps : List Pair) (i : ℕ) → slice_get ps i ≡ None → length ps ≤ i
+past [] i e = omega arith
+past (p ∷ ps) zero e = absurd cc
+past (p ∷ ps) (suc i) e = let l = past ps i e in omega (arith, l)

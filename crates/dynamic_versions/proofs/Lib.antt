@@ -1,5 +1,8 @@
 pub mod Closed
-pub mod Defaults
 pub mod Fronts
+pub mod Leaves
+pub mod Oks
 pub mod Parts
-pub mod Simple
+pub mod Presences
+pub mod SameValues
+pub mod Within

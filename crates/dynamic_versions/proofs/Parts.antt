@@ -1,5 +1,5 @@
 -- Kinds in which others stand are newer where what stands within is.
-use Rattle.std.proofs.Common.{◌≡◌, refl, sym, ap, ◌∙◌, subst, ℕ, zero, suc, ◌+◌, ◌<◌, ◌≤◌, Bool, true, false, List, [], ◌∷◌, length, Option, Some, None, arith, ◌⊎◌, inl, inr}
+use Rattle.std.proofs.Common.{◌≡◌, refl, sym, ap, ◌∙◌, subst, ℕ, zero, suc, ◌+◌, ◌<◌, ◌≤◌, Bool, true, false, List, [], ◌∷◌, length, Option, Some, None, arith, below_more}
 use Rattle.std.specs.Prelude.{is_some, slice_get}
 use Rattle.std.specs.Global.{Vec}
 use Rattle.rasn_constraints.specs.Bounds.{Size}
@@ -50,13 +50,7 @@ pub along_weaker : {A : Type 0} (R S : A → A → Type 0) (xs ys : List A) (n :
 along_weaker R S xs ys n f a k l = let h = a k l in (h.0, h.1, h.2, h.3, f h.0 h.1 h.4)
 
 pub along_more : {A : Type 0} (R : A → A → Type 0) (xs ys : List A) (n : ℕ) (x y : A) → slice_get xs n ≡ Some x → slice_get ys n ≡ Some y → R x y → Along R xs ys n → Along R xs ys (n + 1)
-along_more {A} R xs ys n x y e f h a k l = elim below as (λ z. (v : A) × (w : A) × (slice_get xs k ≡ Some v) × (slice_get ys k ≡ Some w) × R v w) [
-  inl m ↦ a k m
-  | inr q ↦ (x, y, ap (slice_get xs) q ∙ e, ap (slice_get ys) q ∙ f, h)
-]
-  where
-    below : (k < n) ⊎ (k ≡ n)
-    below = omega (arith, l)
+along_more {A} R xs ys n x y e f h a = below_more (λ k. (v : A) × (w : A) × (slice_get xs k ≡ Some v) × (slice_get ys k ≡ Some w) × R v w) n a (x, y, e, f, h)
 
 some_same : {A : Type 0} (x y : A) → Some x ≡ Some y → x ≡ y
 some_same x y e = cc

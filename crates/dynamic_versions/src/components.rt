@@ -1,6 +1,6 @@
 //! Whether components and alternatives are newer versions of others, wherever their types are.
 
-ghost use Rattle.std.specs.Prelude.{◌≡◌, IfOk, is_some, slice_get, true};
+ghost use Rattle.std.specs.Prelude.{◌≡◌, ◌≤◌, IfOk, false, is_some, slice_get, true};
 ghost use Rattle.rasn_schema.specs.Fields.{tag_of};
 ghost use Rattle.rasn_schema.specs.Lawful.{same_tag};
 ghost use Rattle.rasn_dynamic.specs.Types.{default_value, required_in};
@@ -29,14 +29,24 @@ pub(crate) fn compare_components(
     ensures newer { IfOk result (λ done.
         AreNewerComponents behind newer_kinds.now older_kinds.now pairs.new.items newer.now older.now) }
 {
-    if !behind && newer.len() > older.len() {
-        return Err(Reason::PutIn);
-    }
+    compare_counts(behind, newer.len(), older.len())?;
     for (index, component) in older.iter().enumerate() {
-        let Some(own) = newer.get(index) else {
-            return Err(Reason::LeftOut);
-        };
+        let own = &newer[index];
         compare_component(behind, newer_kinds, older_kinds, own, component, pairs)?;
+    }
+    Ok(())
+}
+
+/// Compares how many components or alternatives there are: no fewer, and more only behind an extension marker.
+fn compare_counts(behind: bool, newer: usize, older: usize) -> Result<(), Reason>
+    ensures none_left_out { IfOk result (λ done. older ≤ newer) }
+    ensures none_put_in { IfOk result (λ done. behind ≡ false → newer ≤ older) }
+{
+    if newer < older {
+        return Err(Reason::LeftOut);
+    }
+    if newer > older && !behind {
+        return Err(Reason::PutIn);
     }
     Ok(())
 }
@@ -132,13 +142,9 @@ pub(crate) fn compare_alternatives(
     ensures newer { IfOk result (λ done.
         AreNewerAlternatives behind pairs.new.items newer.now older.now) }
 {
-    if !behind && newer.len() > older.len() {
-        return Err(Reason::PutIn);
-    }
+    compare_counts(behind, newer.len(), older.len())?;
     for (index, alternative) in older.iter().enumerate() {
-        let Some(own) = newer.get(index) else {
-            return Err(Reason::LeftOut);
-        };
+        let own = &newer[index];
         compare_alternative(own, alternative, pairs)?;
     }
     Ok(())

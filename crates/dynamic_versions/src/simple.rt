@@ -59,9 +59,9 @@ fn compare_sizes(newer: &SizeBounds, older: &SizeBounds) -> Result<(), Reason>
 pub(crate) fn have_same_size(newer: &SizeBounds, older: &SizeBounds) -> bool
     ensures { result ≡ true → IsSameSize newer.now older.now }
 {
-    let (start, end) = newer.constraint.start_and_end();
-    let (old_start, old_end) = older.constraint.start_and_end();
-    start == old_start && end == old_end && newer.extensible == older.extensible
+    let (least, most) = newer.constraint.start_and_end();
+    let (old_least, old_most) = older.constraint.start_and_end();
+    least == old_least && most == old_most && newer.extensible == older.extensible
 }
 
 /// Compares the items of two ENUMERATED types by their number: as many before the extension marker, and no fewer behind

@@ -69,18 +69,18 @@ schema_keeps ts (suc n) j d e = place_stays ts (λ i. schema_at ts i n) (suc n) 
 
 -- ---- what a default is to a newer version
 
+plain_widened : (s : Schema) (d : DefaultValue) → IsPlain s → widen s s (default_value d) ≡ Some (default_value d)
+unfolding widen
+plain_widened (Schemas.containing e) d p = absurd p
+plain_widened (Schemas.list e z m) d p = absurd p
+plain_widened (Schemas.set_of e z m) d p = absurd p
+plain_widened (Schemas.sequence o ps x qs) d p = absurd p
+plain_widened (Schemas.choice ps qs x) d p = absurd p
+plain_widened _ d p = refl
+
 widened : {s' s : Schema} (d : DefaultValue) → Newer s' s → Stays s d → widen s' s (default_value d) ≡ Some (default_value d)
 unfolding project widen
-widened d (unchanged {s = s} p) e = plain s d p
-  where
-    plain : (s : Schema) (d : DefaultValue) → IsPlain s → widen s s (default_value d) ≡ Some (default_value d)
-    unfolding widen
-    plain (Schemas.containing e) d p = absurd p
-    plain (Schemas.list e z m) d p = absurd p
-    plain (Schemas.set_of e z m) d p = absurd p
-    plain (Schemas.sequence o ps x qs) d p = absurd p
-    plain (Schemas.choice ps qs x) d p = absurd p
-    plain _ d p = refl
+widened d (unchanged {s = s} p) e = plain_widened s d p
 widened d (more_items l) e = refl
 widened d (newer_containing h) e = widened d h e
 widened TheVariants.NoElements (newer_list h) e = refl
