@@ -25,7 +25,12 @@ use rasn_dynamic::types::Types;
 /// Of the octets that `encode` by a newer table answers, `decode` by an older one answers the projection of the value's
 /// normal form. It refuses, memory aside, exactly where there is none, or where something that is written lies deeper
 /// than 128 levels, outside the additions that the older type doesn't know (X.680, 52; X.691, 19.9).
-pub fn older_table_answers_the_projection(newer: &Types, place: usize, older: &Types, old_place: usize)
+pub fn older_table_answers_the_projection(
+    newer: &Types,
+    place: usize,
+    older: &Types,
+    old_place: usize,
+)
     ensures { let new = schema_at newer.now.kinds.items place in let old = schema_at older.now.kinds.items old_place in
         NewerType new old
         → (strict : Bool) (codec : Codec) (x : Value) (octets : List ℕ) (answer : Result Value DecodeError)
@@ -39,7 +44,12 @@ pub fn older_table_answers_the_projection(newer: &Types, place: usize, older: &T
 /// Of the octets that `encode` by an older table answers, `decode` by a newer one answers the widening of the value's
 /// normal form. It refuses, memory aside, exactly where there is none, or where something that is written lies deeper
 /// than 128 levels (X.680, 52; X.691, 19.5, 19.8).
-pub fn newer_table_answers_the_widening(newer: &Types, place: usize, older: &Types, old_place: usize)
+pub fn newer_table_answers_the_widening(
+    newer: &Types,
+    place: usize,
+    older: &Types,
+    old_place: usize,
+)
     ensures { let new = schema_at newer.now.kinds.items place in let old = schema_at older.now.kinds.items old_place in
         NewerType new old
         → (strict : Bool) (codec : Codec) (x : Value) (octets : List ℕ) (answer : Result Value DecodeError)
@@ -52,7 +62,12 @@ pub fn newer_table_answers_the_widening(newer: &Types, place: usize, older: &Typ
 
 /// Of any octets, canonical or not, that `decode` by a newer table answers with a value, `decode` by an older one
 /// answers the projection of that value. It refuses, memory aside, exactly where there is none.
-pub fn older_table_projects_what_the_newer_reads(newer: &Types, place: usize, older: &Types, old_place: usize)
+pub fn older_table_projects_what_the_newer_reads(
+    newer: &Types,
+    place: usize,
+    older: &Types,
+    old_place: usize,
+)
     ensures { let new = schema_at newer.now.kinds.items place in let old = schema_at older.now.kinds.items old_place in
         NewerType new old
         → (strict : Bool) (codec : Codec) (octets : List ℕ) (x : Value) (answer : Result Value DecodeError)
@@ -66,7 +81,12 @@ pub fn older_table_projects_what_the_newer_reads(newer: &Types, place: usize, ol
 /// that it doesn't know, `decode` by a newer one answers the widening of that value. It refuses, memory aside, exactly
 /// where there is none. Nor are there additions then that the newer type doesn't know, and the older value is the
 /// projection of the newer one.
-pub fn newer_table_widens_what_the_older_reads(newer: &Types, place: usize, older: &Types, old_place: usize)
+pub fn newer_table_widens_what_the_older_reads(
+    newer: &Types,
+    place: usize,
+    older: &Types,
+    old_place: usize,
+)
     ensures answers { let new = schema_at newer.now.kinds.items place in
         let old = schema_at older.now.kinds.items old_place in
         NewerType new old
@@ -100,7 +120,12 @@ pub fn encoded_octets_are_known(types: &Types, place: usize)
 }
 
 /// The projection and the widening are the same along all trees that hold the newer value.
-pub fn version_of_a_value_is_one_at_all_depths(newer: &Types, place: usize, older: &Types, old_place: usize)
+pub fn version_of_a_value_is_one_at_all_depths(
+    newer: &Types,
+    place: usize,
+    older: &Types,
+    old_place: usize,
+)
     ensures { let new = schema_at newer.now.kinds.items place in let old = schema_at older.now.kinds.items old_place in
         NewerType new old → (v w : Content) (n : ℕ) → meets_cut (new n) v ≡ false →
         (IsProjection new old v w ↔ (project (new n) (old n) v ≡ Some w))

@@ -65,6 +65,9 @@ fn said_in_words(rt: HostRuntime) -> Result<(), Fail> {
         reason: Reason::Tag,
     };
     let text = format!(in rt.alloc(); "{tag}")?;
-    assert_eq!(rt; text.as_str(), "type 2 is no newer version of type 1: a tag is another");
+    assert_eq!(rt;
+        text.as_str(),
+        "type 2 is no newer version of type 1: a tag is another"
+    );
     Ok(())
 }

@@ -11,5 +11,5 @@ returns-then-behind c =
     let marks : is_some i'.addeds ≡ is_some i.addeds = first_of (cc, grind (arith, a, b, d)) in
     let roots : length i'.roots.items ≡ length i.roots.items = sym i'.roots.ok.0 ∙ sym c.len.ensures ∙ c.if-len.true ∙ c.len-2.ensures ∙ i.roots.ok.0 in
     let more : length (behind i.addeds) ≤ length (behind i'.addeds) =
-        subst (λ l. l ≤ length (behind i'.addeds)) (ap length c.behind-then-len.ensures) (subst (λ l. length c.behind-then-len.result.now ≤ l) (ap length c.behind.ensures) c.if-behind.true) in
+    subst (λ l. l ≤ length (behind i'.addeds)) (ap length c.behind-then-len.ensures) (subst (λ l. length c.behind-then-len.result.now ≤ l) (ap length c.behind.ensures) c.if-behind.true) in
     items i' i marks roots more
