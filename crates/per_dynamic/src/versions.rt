@@ -38,7 +38,8 @@ pub fn older_table_answers_the_projection(
         → DecodedBy strict codec old value_of octets answer
         → Answers value_of (IsReadByOlder new old (value_of x)) answer }
 {
-    let _ = (newer, older);
+    let _ = newer;
+    let _ = older;
 }
 
 /// Of the octets that `encode` by an older table answers, `decode` by a newer one answers the widening of the value's
@@ -57,7 +58,8 @@ pub fn newer_table_answers_the_widening(
         → DecodedBy strict codec new value_of octets answer
         → Answers value_of (IsReadByNewer new old (value_of x)) answer }
 {
-    let _ = (newer, older);
+    let _ = newer;
+    let _ = older;
 }
 
 /// Of any octets, canonical or not, that `decode` by a newer table answers with a value, `decode` by an older one
@@ -74,7 +76,8 @@ pub fn older_table_projects_what_the_newer_reads(
         → DecodedBy strict codec new value_of octets (Ok x) → DecodedBy strict codec old value_of octets answer
         → Answers value_of (IsProjection new old (value_of x)) answer }
 {
-    let _ = (newer, older);
+    let _ = newer;
+    let _ = older;
 }
 
 /// Of any octets, canonical or not, that `decode` by an older table answers with a value, no additions being present
@@ -104,7 +107,8 @@ pub fn newer_table_widens_what_the_older_reads(
         → AreKnown strict codec old (value_of x) octets → DecodedBy strict codec new value_of octets (Ok y)
         → IsProjection new old (value_of y) (value_of x) }
 {
-    let _ = (newer, older);
+    let _ = newer;
+    let _ = older;
 }
 
 /// In the octets that `encode` answers no additions are present that the type doesn't know, where they are read within
@@ -131,5 +135,6 @@ pub fn version_of_a_value_is_one_at_all_depths(
         (IsProjection new old v w ↔ (project (new n) (old n) v ≡ Some w))
         × (IsWidening new old w v ↔ (widen (new n) (old n) w ≡ Some v)) }
 {
-    let _ = (newer, older);
+    let _ = newer;
+    let _ = older;
 }
