@@ -1,7 +1,5 @@
 -- Each pair of a closed list is newer, at every number of levels.
-use Rattle.std.proofs.Common.{◌≡◌, refl, sym, ap, ◌∙◌, subst, ℕ, zero, suc, List, Option, Some, None, Result, Ok, Err}
-use Rattle.std.specs.Prelude.{IfOk, slice_get}
-use Rattle.std.specs.List.{All}
+use Rattle.std.proofs.Common.{ℕ, zero, suc, List}
 use Rattle.std.proofs.lemmas.List.Elements.{All-contains}
 use Rattle.rasn_schema.specs.Schemas
 use Rattle.rasn_schema.specs.Schemas.{Schema}
@@ -9,7 +7,7 @@ use Rattle.per_core.specs.Versions.{Newer, NewerType, unchanged}
 use Rattle.rasn_dynamic.specs.declared.types.Kind.{Kind}
 use Rattle.rasn_dynamic.specs.Types.{schema_at}
 use Rattle.dynamic_versions.specs.declared.pairs.Pair.{Pair}
-use Rattle.dynamic_versions.specs.OneLevel.{AreClosed, AreVersions, IsFront, IsListed, IsNewerPair}
+use Rattle.dynamic_versions.specs.OneLevel.{AreClosed, IsListed, IsNewerPair}
 use Rattle.dynamic_versions.proofs.SameValues.{cut_keeps, schema_keeps}
 
 pub closed_newer : (ts' ts : List Kind) (ps : List Pair) → AreClosed ts' ts ps → (n i j : ℕ) → IsListed ps i j → Newer (schema_at ts' i n) (schema_at ts j n)

@@ -1,5 +1,5 @@
 -- Types in which no other stands.
-use Rattle.std.proofs.Common.{◌≡◌, refl, sym, ap, ◌∙◌, subst, ℕ, ◌≤◌, Bool, true, false, List, length, Option, Some, None}
+use Rattle.std.proofs.Common.{◌≡◌, refl, ap, ◌∙◌, ℕ, ◌≤◌, Bool, true, false, List, length, Option, Some, None}
 use Rattle.std.specs.Prelude.{is_some, option_map, ℤ}
 use Rattle.std.specs.Global.{Vec}
 use Rattle.rasn_constraints.specs.Bounds.{Bounds, Size, unbounded}
@@ -11,7 +11,6 @@ use Rattle.rasn_schema.specs.Schemas
 use Rattle.rasn_schema.specs.Schemas.{Schema}
 use Rattle.per_core.specs.Versions.{Newer, more_items, unchanged}
 use Rattle.rasn_dynamic.specs.declared.types.CharacterString.{CharacterString}
-use Rattle.rasn_dynamic.specs.declared.types.CharacterType.{CharacterType}
 use Rattle.rasn_dynamic.specs.declared.types.Items.{Items}
 use Rattle.rasn_dynamic.specs.declared.types.Simple.TheVariants.{BitString, Integer, NamedBits, OctetString}
 use Rattle.rasn_dynamic.specs.Types.{behind, characters_of, counts_of, simple_schema, string_schema}

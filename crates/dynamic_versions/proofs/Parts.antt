@@ -1,5 +1,5 @@
 -- Kinds in which others stand are newer where what stands within is.
-use Rattle.std.proofs.Common.{◌≡◌, refl, sym, ap, ◌∙◌, subst, ℕ, zero, suc, ◌+◌, ◌<◌, ◌≤◌, Bool, true, false, List, [], ◌∷◌, length, Option, Some, None, arith, below_more}
+use Rattle.std.proofs.Common.{◌≡◌, refl, sym, subst, ℕ, zero, suc, ◌+◌, ◌<◌, ◌≤◌, Bool, true, false, List, [], ◌∷◌, length, Option, Some, None, arith, below_more}
 use Rattle.std.specs.Prelude.{is_some, slice_get}
 use Rattle.std.specs.Global.{Vec}
 use Rattle.rasn_constraints.specs.Bounds.{Size}
@@ -16,9 +16,9 @@ use Rattle.rasn_dynamic.specs.declared.types.Component.{Component}
 use Rattle.rasn_dynamic.specs.declared.types.Kind.{Kind}
 use Rattle.rasn_dynamic.specs.declared.types.Kind.TheVariants.{List as ListKind, SetOf, Record as RecordKind, Choice as ChoiceKind}
 use Rattle.rasn_dynamic.specs.declared.types.Record.{Record}
-use Rattle.rasn_dynamic.specs.Types.{alternatives_in, behind, choice_in, grouped, in_root, parts_in}
+use Rattle.rasn_dynamic.specs.Types.{alternatives_in, behind, choice_in, grouped, parts_in}
 use Rattle.dynamic_versions.specs.declared.pairs.Pair.{Pair}
-use Rattle.dynamic_versions.specs.OneLevel.{AreNewerAlternatives, AreNewerComponents, AreVersions, IsFront, IsListed, IsNewerAlternative, IsNewerComponent, IsNewerPlain, IsSameSize, groups}
+use Rattle.dynamic_versions.specs.OneLevel.{AreNewerAlternatives, AreNewerComponents, AreVersions, IsListed, IsNewerAlternative, IsNewerComponent, IsNewerPlain, IsSameSize, groups}
 
 -- ---- lists and bags
 

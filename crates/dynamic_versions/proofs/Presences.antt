@@ -1,8 +1,8 @@
 -- Which presences a newer component may have.
-use Rattle.std.proofs.Common.{◌≡◌, refl, sym, ap, subst, ◌∙◌, ℕ, Bool, true, false, List}
+use Rattle.std.proofs.Common.{◌≡◌, refl, sym, subst, Bool, true, false, List}
 use Rattle.std.specs.Prelude.{◌&&◌, is_some, slice_get}
 use Rattle.rasn_schema.specs.Schemas.{Schema}
-use Rattle.per_core.specs.Versions.{Newer, NewerPresence}
+use Rattle.per_core.specs.Versions.{NewerPresence}
 use Rattle.rasn_dynamic.specs.declared.types.Component.{Component}
 use Rattle.rasn_dynamic.specs.declared.types.DefaultValue.{DefaultValue}
 use Rattle.rasn_dynamic.specs.declared.types.Kind.{Kind}

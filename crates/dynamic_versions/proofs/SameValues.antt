@@ -1,13 +1,10 @@
 -- Defaults that are values of their types are the same in each version of these.
-use Rattle.std.proofs.Common.{◌≡◌, refl, sym, ap, ◌∙◌, subst, ℕ, zero, suc, Bool, true, false, List, [], ◌∷◌, Option, Some, None}
-use Rattle.std.specs.Prelude.{slice_get, nat_lt}
-use Rattle.rasn_types.specs.Values
+use Rattle.std.proofs.Common.{◌≡◌, refl, sym, ap, ◌∙◌, ℕ, zero, suc, true, List, Option, Some, None}
+use Rattle.std.specs.Prelude.{slice_get}
 use Rattle.rasn_types.specs.Values.{Value}
-use Rattle.rasn_schema.specs.Enumerations.{addeds_of, is_extensible}
 use Rattle.rasn_schema.specs.Lawful.{is_value}
 use Rattle.rasn_schema.specs.Schemas
 use Rattle.rasn_schema.specs.Schemas.{Schema}
-use Rattle.rasn_schema.specs.declared.items.Place.{Place}
 use Rattle.rasn_schema.specs.declared.items.Place.TheVariants.{Root, Added}
 use Rattle.per_core.specs.Versions.{IsPlain, IsWidened, Newer, unchanged, more_items, newer_containing, newer_list, newer_set_of, newer_sequence, newer_choice, project, widen}
 use Rattle.rasn_dynamic.specs.declared.types.DefaultValue.{DefaultValue}
@@ -16,8 +13,8 @@ use Rattle.rasn_dynamic.specs.declared.types.Items.{Items}
 use Rattle.rasn_dynamic.specs.declared.types.Kind.{Kind}
 use Rattle.rasn_dynamic.specs.declared.types.Kind.TheVariants.{Simple as SimpleKind, List as ListKind, SetOf, Record as RecordKind, Choice as ChoiceKind, Containing}
 use Rattle.rasn_dynamic.specs.declared.types.Simple.{Simple}
-use Rattle.rasn_dynamic.specs.declared.types.Simple.TheVariants.{BitString, Boolean, Characters, Enumerated, Integer, NamedBits, Null, ObjectIdentifier, OctetString, Open, Text, Utf8}
-use Rattle.rasn_dynamic.specs.Types.{at_place, counts_of, default_value, kind_in, plain_in, schema_at, simple_schema}
+use Rattle.rasn_dynamic.specs.declared.types.Simple.TheVariants.{Enumerated}
+use Rattle.rasn_dynamic.specs.Types.{at_place, default_value, kind_in, plain_in, schema_at, simple_schema}
 use Rattle.lawful_types.specs.Keeps.{is_default_of, is_default_of_plain, is_default_of_simple, is_default_within}
 use Rattle.dynamic_versions.specs.OneLevel.{KeepDefaults}
 

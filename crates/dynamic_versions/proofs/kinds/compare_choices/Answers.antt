@@ -1,6 +1,5 @@
 use Rattle.std.proofs.Common.{◌≡◌, arith, false}
 use Rattle.std.specs.Prelude.{is_some}
-use Rattle.rasn_dynamic.specs.Types.{behind}
 use Rattle.dynamic_versions.specs.OneLevel.{AreNewerAlternatives}
 use Rattle.dynamic_versions.proofs.Oks.{then}
 use Rattle.dynamic_versions.proofs.Fronts.{alternatives_more}

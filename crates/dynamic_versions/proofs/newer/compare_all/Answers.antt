@@ -1,7 +1,5 @@
-use Rattle.std.proofs.Common.{◌≡◌, ◌≤◌, ◌<◌, ℕ, List, length, Option, Some, None, sym, ◌∙◌, ap, arith, subst, ◌⊎◌, inl, inr}
+use Rattle.std.proofs.Common.{◌≡◌, ◌≤◌, length, Some, None, sym, ◌∙◌, ap, arith}
 use Rattle.std.specs.Prelude.{slice_get}
-use Rattle.std.proofs.lemmas.Option.{slice_get-get_or}
-use Rattle.dynamic_versions.specs.declared.pairs.Pair.{Pair}
 use Rattle.dynamic_versions.proofs.Fronts.{closed_all, closed_more, front_then, past}
 use Rattle.dynamic_versions.proofs.newer.compare_all.Goals as goal
 

@@ -1,4 +1,3 @@
-use Rattle.dynamic_versions.specs.OneLevel.{AreClosed}
 use Rattle.dynamic_versions.proofs.Closed.{closed_type}
 use Rattle.dynamic_versions.proofs.Fronts.{listed_more}
 use Rattle.dynamic_versions.proofs.Oks.{then}
