@@ -1,5 +1,5 @@
--- When a type of one table is a newer version of a type of another (ITU-T X.680, 52), wherever listed pairs of the types
--- that stand within are. The newer table comes first.
+-- When a type of one table is a newer version of a type of another (ITU-T X.680, 52), wherever the listed pairs of the
+-- types that stand within are. The newer table comes first.
 use Rattle.std.specs.Prelude.{ℕ, ℤ, ◌≡◌, Bool, true, false, List, ◌++◌, Option, Some, Contains, slice_get}
 use Rattle.std.specs.List.{All}
 use Rattle.rasn_constraints.specs.Constraints.{bounds_of, size_between}

@@ -113,15 +113,15 @@ fn is_record(kinds: &[Kind], place: usize) -> bool
 
 /// Compares two defaults, of which the older one has to be a value of its type.
 fn compare_defaults(
-    older_kinds: &[Kind],
+    kinds: &[Kind],
     of: usize,
     newer: &DefaultValue,
     older: &DefaultValue,
 ) -> Result<(), Reason>
     ensures same { IfOk result (λ done. default_value newer.now ≡ default_value older.now) }
-    ensures lawful { IfOk result (λ done. is_default_of older_kinds.now older.now (slice_get older_kinds.now of) ≡ true) }
+    ensures lawful { IfOk result (λ done. is_default_of kinds.now older.now (slice_get kinds.now of) ≡ true) }
 {
-    if !is_default_at(older_kinds, of, older) {
+    if !is_default_at(kinds, of, older) {
         return Err(Reason::UnlawfulDefault);
     }
     if !are_same(newer, older) {

@@ -17,7 +17,7 @@ pub struct NotNewer {
 /// What a newer version of a type may not have (X.680 52), or why it wasn't found out.
 #[derive(Clone, Copy, Debug, PartialEq, Eq, Error)]
 pub enum Reason {
-    /// The types are of different kinds, or only one of the places is within its table.
+    /// The types are of different kinds, or one of the places isn't within its table.
     #[error("it is of another kind")]
     Kind,
     /// The bounds of a number differ, or only one of them has an extension marker (X.680 51.4).
