@@ -38,8 +38,9 @@ fn has_lawful_default(kinds: &[Kind], component: &Component) -> bool
     }
 }
 
-/// Whether a default is a value of the type at a place. Octets that contain a value are told apart.
-fn is_default_at(kinds: &[Kind], place: usize, default: &DefaultValue) -> bool
+/// Whether a default is a value of the type at a place of a table (X.680 25.9), and in normal form. Of octets that
+/// contain a value it is one of what they contain.
+pub fn is_default_at(kinds: &[Kind], place: usize, default: &DefaultValue) -> bool
     ensures { result ≡ is_default_of kinds.now default.now (slice_get kinds.now place) }
 {
     match kinds.get(place) {

@@ -1,7 +1,7 @@
 //! Whether a table of types is lawful: what X.680 asks of each type of it, judged at run time.
 #![tactic(auto)]
 
-mod defaults;
+pub mod defaults;
 pub mod fault;
 mod identifiers;
 pub mod judge;

@@ -5,3 +5,4 @@
 pub mod aper;
 pub mod table;
 pub mod uper;
+pub mod versions;

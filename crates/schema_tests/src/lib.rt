@@ -7,3 +7,5 @@ mod example;
 mod refusals;
 #[cfg(test)]
 mod tables;
+#[cfg(test)]
+mod versions;

@@ -1,0 +1,10 @@
+use Rattle.dynamic_versions.specs.OneLevel.{IsFront, IsNewerAlternative}
+use Rattle.dynamic_versions.proofs.Parts.{Along}
+use Rattle.dynamic_versions.proofs.components.compare_alternatives.Given as goal
+
+-- so many alternatives are newer than those in their places
+abbrev pub invariant-loop-index : goal.invariant-loop-index
+invariant-loop-index l = record {
+  front : IsFront l.fn.pairs.items l.pairs.items;
+  along : Along (IsNewerAlternative l.pairs.items) l.fn.newer l.fn.older l.index;
+}
