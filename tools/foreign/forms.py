@@ -22,10 +22,16 @@ FORMS = {"SIZE (0..n)": is_string_from_nothing, "SIZE (n..MAX, ...)": is_size_wi
 
 
 def forms_of(of):
-    """Returns the names of the forms that stand in a type."""
-    found = {name for name, is_it in FORMS.items() if is_it(of)}
-    inner = [*(part.use for part in of.all_parts), *([of.element] if of.element else [])]
-    return found.union(*(forms_of(use.type) for use in inner))
+    """Returns the names of the forms that stand in a type, which may hold itself."""
+    found, seen, left = set(), set(), [of]
+    while left:
+        of = left.pop()
+        if id(of) not in seen:
+            seen.add(id(of))
+            found |= {name for name, is_it in FORMS.items() if is_it(of)}
+            uses = [*(part.use for part in of.all_parts), *filter(None, (of.element, of.contained))]
+            left += [use.type for use in uses]
+    return found
 
 
 def in_words(of):
