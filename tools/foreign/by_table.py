@@ -11,7 +11,7 @@ from notation import Refused, read
 from ours import ask, table_program
 from repository import Failure
 from schema import Schema
-from table_values import Identifiers, TableChooser, heights_of, tied
+from table_values import ObjectSets, TableChooser, heights_of, tied
 from terms import values_of
 
 # What the loader doesn't take yet, as what X.680 has it for (47 and 46): a time is a VisibleString under another tag.
@@ -57,14 +57,14 @@ class TableProtocol:
         schema.judged()
         self.modules, self.schema = schema.modules, f"{folder}/types.schema"
         written(self.schema, TIMES.sub(AS_STRING, schema.text({})))
-        self.heights, self.identifiers = heights_of(tied(self.modules)), Identifiers(self.modules)
+        self.heights, self.sets = heights_of(tied(self.modules)), ObjectSets(self.modules)
         self.known = [TableType((it.module, it.name), self.modules.use_of(it.module, it.name)) for it in schema.roots]
 
     def values(self, known, count):
         """Returns values of a type, each with its term."""
 
         def chooser(manner, number):
-            return TableChooser(manner, f"{known.there} {number}", self.heights, self.identifiers)
+            return TableChooser(manner, f"{known.there} {number}", self.heights, self.sets)
 
         return values_of(known.use, count, chooser)
 

@@ -1,7 +1,9 @@
 """Values of the types of whole modules, which may be deep, may hold themselves, and know which types their open types hold."""
 from items import Items
+from notation import parts
+from objects import type_node
 from resolve import Type, Use
-from values import Chooser
+from values import Chooser, Held
 from whole import LISTS, RECORDS, Governed
 
 # Levels in which all may be there that a value of most has, and those behind which it is the least that there is.
@@ -13,14 +15,20 @@ def inner_uses(of):
     return [*(part.use for part in of.all_parts), *filter(None, (of.element, of.contained))]
 
 
+def is_known(use, modules):
+    """Returns whether asn1ct knows the objects of an open type: there is a set of them, and a field tells them apart."""
+    return bool(use.objects) and any("UNIQUE" in parts(it) for it in modules.class_of(use.owner)["fields"])
+
+
 def tied(modules):
     """Puts whole types in the place of those that were being read where they were named, so that types that hold themselves
     do. Groups of additions get a name and a type, and components of a SET the places that asn1ct gives them: by their tags.
-    Returns all types."""
+    Open types of which asn1ct knows no objects have no note. Returns all types."""
     found, left = {}, [*modules.cache.values()]
     while left:
         use = left.pop()
-        use.type = of = modules.whole(use)
+        is_free = isinstance(use, Governed) and use.type.kind == "OPEN" and not is_known(use, modules)
+        use.type = of = Type("OPEN") if is_free else modules.whole(use)
         if id(of) in found:
             continue
         found[id(of)] = of
@@ -59,35 +67,40 @@ def heights_of(types):
     return found
 
 
-class Identifiers:
-    """The identifiers that the object set of a record's open type knows, which are kept out of its values, so that any octets
-    may stand there."""
+class ObjectSets:
+    """What the object sets of open types know."""
 
     def __init__(self, modules):
         self.modules, self.found = modules, {}
 
     def of(self, record):
+        """Returns the name of the component by which the set of a record's open types knows objects, and of each object its
+        number and the types of these open types, by their names."""
         if id(record) not in self.found:
-            uses = [part.use for part in record.all_parts if isinstance(part.use, Governed) and part.use.objects]
-            self.found[id(record)] = frozenset(it for use in uses for it in self.of_set(use))
+            governed = [it for it in record.parts if it.use.type.kind == "OPEN" and it.use.type.note]
+            chooser = next((it for it in record.parts if governed and it.name == governed[0].use.chooser), None)
+            is_known = chooser is not None and chooser.use.type.kind == "INTEGER"
+            self.found[id(record)] = (chooser.name, [*self.objects(chooser, governed)]) if is_known else ("", [])
         return self.found[id(record)]
 
-    def of_set(self, use):
-        """Gives the numbers that identify the objects of a set."""
-        for fields, _ in self.modules.members(*use.objects, use.owner):
-            for name, node in fields.items():
-                of = self.modules.field_use(use.owner, name)
-                if of and of.type.kind == "INTEGER":
-                    yield self.modules.number(node, {})
+    def objects(self, chooser, governed):
+        """Gives each object that says of all open types which type they have: one that has a name, or holds no others."""
+        names = [chooser.use.field, *(it.use.field for it in governed)]
+        for fields, module in self.modules.members(*governed[0].use.objects, governed[0].use.owner):
+            if all(name in fields for name in names):
+                nodes = [type_node(fields[name]) for name in names[1:]]
+                uses = [self.modules.type(node, module, {}, (name,)) for node, name in zip(nodes, names[1:])]
+                if all(use.name and not use.own or not inner_uses(use.type) for use in uses):
+                    yield self.modules.number(fields[names[0]], {}), {it.name: use for it, use in zip(governed, uses)}
 
 
 class TableChooser(Chooser):
     """Chooses values of such types: below some levels, and where no room is left, the least that there is. Elements of a SET
-    OF are alike, as asn1ct keeps the order in which they are given. `heights` and `known` are of all types."""
+    OF are alike, as asn1ct keeps the order in which they are given. `heights` are those of all types."""
 
-    def __init__(self, manner, seed, heights, known):
+    def __init__(self, manner, seed, heights, sets):
         super().__init__(manner, seed)
-        self.level, self.heights, self.known = 0, heights, known
+        self.level, self.heights, self.sets = 0, heights, sets
 
     @property
     def is_small(self):
@@ -117,5 +130,11 @@ class TableChooser(Chooser):
         found = super().list(of)
         return found[:1] * len(found) if of.kind == "SET OF" else found
 
-    def taken(self, of):
-        return self.known.of(of)
+    def record(self, of):
+        """Returns a record, of whose open types one object of their set says what they hold."""
+        found, (chooser, objects) = super().record(of), self.sets.of(of)
+        if objects and self.level <= 2 * DEEP:
+            number, uses = self.one(objects[0], objects[-1], lambda: objects)
+            found[chooser] = number
+            found.update({name: Held(use, self.value(use)) for name, use in uses.items() if name in found})
+        return found

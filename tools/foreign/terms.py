@@ -2,7 +2,7 @@
 from constraints import LETTERS
 from literals import AS_OCTETS
 from pages import HELD
-from values import ANY, LEAST, MOST, TIMES, default_of
+from values import ANY, LEAST, MOST, TIMES, Held, default_of
 from words import holder
 
 LISTS = ("SEQUENCE OF", "SET OF")
@@ -34,9 +34,11 @@ def term(of, value):
     if of.contained:
         module, name = of.contained.name
         return f"{{contained,'{module}','{name}',{term(of.contained.type, value)}}}"
+    if isinstance(value, Held):
+        return term(value.use.type, value.value)
     if kind in ("OCTET STRING", "OPEN"):
         octets = f"<<{','.join(map(str, value))}>>"
-        return octets if kind == "OCTET STRING" else f"{{asn1_OPENTYPE,{octets}}}"
+        return f"{{asn1_OPENTYPE,{octets}}}" if of.note else octets
     if kind == "BIT STRING":
         return bits_term(value)
     if kind == "OBJECT IDENTIFIER":

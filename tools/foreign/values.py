@@ -5,6 +5,7 @@ and 1, a text, the numbers of an OBJECT IDENTIFIER, a list, the name of an alter
 are there by their names. A group of additions stands under its name among them.
 """
 import random
+from dataclasses import dataclass
 
 from constraints import LETTERS
 from literals import AS_OCTETS
@@ -21,6 +22,13 @@ ROOM = 120
 # OBJECT IDENTIFIERs, the last with numbers that take several octets (X.690 8.19), as far as the library takes them.
 IDENTIFIERS = ((0, 0), (1, 3, 6), (2, 999, 128, 2**32 - 1))
 TIMES = {"UTCTime": "700101000000Z", "GeneralizedTime": "19700101000000Z"}
+
+
+@dataclass(frozen=True)
+class Held:
+    """A value that an open type holds, as an object set says."""
+    use: object
+    value: object
 
 
 class Chooser:
