@@ -64,8 +64,9 @@ class SchemaAgreement(Agreement):
                 self.say(f"{at}.{part.name}", "the tag", [[*part.outer]], [it["t"] for it in tags])
 
     def forgets(self, of, module):
-        """Returns whether asn1ct reads the tags of a list otherwise than X.680 25.3 has it: they aren't automatic there where
-        components that COMPONENTS OF takes have some, and they go by the module that imports a type with parameters."""
+        """Returns whether asn1ct reads the tags of a list otherwise than X.680 25.3 has it: they aren't automatic there
+        where components that COMPONENTS OF takes have some, and they go by the module that imports a type with
+        parameters."""
         is_automatic = self.modules.automatic[module]
         is_retagged = is_automatic and any(part.is_taken and part.tags for part in of.all_parts)
         return is_retagged or any(self.modules.automatic[part.module] != is_automatic for part in of.all_parts)

@@ -1,5 +1,5 @@
-"""The protocols of Wireshark's modules that PER encodes: which files are their modules, what these lack to be such, and in
-which variant each is sent."""
+"""The protocols of Wireshark's modules that PER encodes: which files are their modules, what these lack to be such, and
+in which variant each is sent."""
 import glob
 import os
 import re
@@ -35,8 +35,8 @@ class Protocol:
         return self.own.split("/")[0]
 
     def texts(self, folder):
-        """Returns the texts of its modules and of those from which they import, and the names of its own. The modules are
-        below asn1/ in the folder."""
+        """Returns the texts of its modules and of those from which they import, and the names of its own. The modules
+        are below asn1/ in the folder."""
         with tempfile.TemporaryDirectory() as room:
             paths = {False: [], True: []}
             for path, is_own in self.files(f"{folder}/asn1"):

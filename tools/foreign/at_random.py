@@ -41,8 +41,8 @@ def made_at_random(number, folder, given):
 
 
 def programs_of_pages(group):
-    """Returns for each of some modules the program of all their pages, which has replied to all that it is given. It stands in
-    the folder of the first."""
+    """Returns for each of some modules the program of all their pages, which has replied to all that it is given. It
+    stands in the folder of the first."""
     if not group:
         return []
     known, crates, top = [], {}, f"{group[0].folder}/top"

@@ -46,8 +46,9 @@ class TableType:
 
 
 class TableProtocol:
-    """The types of modules, all of which are known on both sides. `texts` are the modules, of which `own` are those whose
-    types are judged; `other` has the texts that asn1ct gets in place of these. The schema file is written into a folder."""
+    """The types of modules, all of which are known on both sides. `texts` are the modules, of which `own` are those
+    whose types are judged; `other` has the texts that asn1ct gets in place of these. The schema file is written into a
+    folder."""
 
     def __init__(self, name, folder, texts, own, variants, other=None):
         self.name, self.variants, self.texts, self.shown = name, variants, other or texts, None

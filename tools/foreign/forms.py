@@ -17,8 +17,15 @@ def is_string_from_nothing(of):
     return not is_list and bool(of.limits.size) and of.limits.size[0] == 0 and of.limits.size[1] is not None
 
 
-# Those of a size are of strings and lists, SIZE (0..n) of strings alone.
-FORMS = {"SIZE (0..n)": is_string_from_nothing, "SIZE (n..MAX, ...)": is_size_without_end}
+def has_empty_addition(of):
+    return any(part.group is None and part.use.type.limits.size == (0, 0, False) for part in of.added or [])
+
+
+# Those of a size are of strings and lists, SIZE (0..n) of strings alone; SIZE (0) is that of an addition.
+FORMS = {
+    "SIZE (0..n)": is_string_from_nothing, "SIZE (n..MAX, ...)": is_size_without_end,
+    "..., SIZE (0)": has_empty_addition,
+}
 
 
 def forms_of(of):

@@ -189,8 +189,8 @@ class Judge:
 
 @dataclass(frozen=True)
 class Made:
-    """What was made of a protocol, for which asn1ct was asked: the folder in which it is kept, its judge, all that the program
-    is given, and what its crates need, where these were written there."""
+    """What was made of a protocol, for which asn1ct was asked: the folder in which it is kept, its judge, all that the
+    program is given, and what its crates need, where these were written there."""
     folder: str
     judge: Judge
     every: list

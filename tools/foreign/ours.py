@@ -1,5 +1,5 @@
-"""The programs in Rattle that read octets of a protocol's types and write them again: one of pages, and one that has the types
-by a table. `rt try` runs them, unproved."""
+"""The programs in Rattle that read octets of a protocol's types and write them again: one of pages, and one that has
+the types by a table. `rt try` runs them, unproved."""
 import glob
 import os
 import shutil
@@ -60,16 +60,17 @@ def sources(crates):
 
 
 class Program:
-    """A program. `rt try` makes it anew where it runs, so it runs once for all lines to which no reply is kept. `room` is the
-    folder in which what it replies is kept, and `texts` are what that depends on. It may read a schema file, and may have been
-    built before."""
+    """A program. `rt try` makes it anew where it runs, so it runs once for all lines to which no reply is kept. `room`
+    is the folder in which what it replies is kept, and `texts` are what that depends on. It may read a schema file, and
+    may have been built before."""
 
     def __init__(self, crate, room, texts, schema=None, built=None):
         self.crate, self.room, self.schema, self.built = crate, room, schema, built
         self.kept = Kept(f"{room}/replies", sum_of(*texts))
 
     def left(self, lines, room):
-        """Gives lines, file by file, less the files to which a reply is kept; `room` says how long the reply to each may be."""
+        """Gives lines, file by file, less the files to which a reply is kept; `room` says how long the reply to each
+        may be."""
         return [(self, file) for file in files_of(lines, room) if self.kept.lines(*file) is None]
 
     def replies(self, lines, room):
@@ -79,8 +80,9 @@ class Program:
 
     def reply(self, lines):
         """Keeps what the program, as it was built, replies to lines."""
-        ran = subprocess.run([self.built, self.schema], input="".join(f"{line}\n" for line in lines), capture_output=True,
-                             text=True, check=False)
+        asked = "".join(f"{line}\n" for line in lines)
+        words = [self.built, self.schema]
+        ran = subprocess.run(words, input=asked, capture_output=True, text=True, check=False)
         found = ran.stdout.splitlines()
         if ran.returncode or len(found) != len(lines):
             raise Failure(f"{self.schema}: {len(found)} replies to {len(lines)} lines\n{ran.stderr[-2000:]}")
@@ -94,8 +96,8 @@ def program_of(crate):
 
 
 def table_program(schema, room, is_built):
-    """Returns this repository's program that reads values by a table, with a schema file; as the gate left it where it is
-    built."""
+    """Returns this repository's program that reads values by a table, with a schema file; as the gate left it where it
+    is built."""
     texts = [text for crate in below(["per_table"], read_crates()) for text in sources(folder_of(crate))]
     built = built_program(True, "per_table") if is_built else None
     return Program(folder_of("per_table"), room, [*texts, read(schema)], schema, built)
@@ -112,8 +114,8 @@ def ask(asked):
 
 
 def run(files):
-    """Runs one program for files of lines, each with the schema file that it reads there, and keeps the replies to each as it
-    ends."""
+    """Runs one program for files of lines, each with the schema file that it reads there, and keeps the replies to each
+    as it ends."""
     folder, crate = f"{files[0][0].room}/cases", files[0][0].crate
     shutil.rmtree(folder, ignore_errors=True)
     words = ["rt", "try", "--steps", "1", "--seconds", SECONDS, "--cases", folder]

@@ -176,5 +176,8 @@ class Protocol:
 
     def values(self, known, count):
         """Returns values of a type, each with its term."""
-        use = Use(known.item.type, known.item.key)
-        return values_of(use, count, lambda manner, number: Chooser(manner, f"{known.there} {number}", self.identifiers))
+
+        def chooser(manner, number):
+            return Chooser(manner, f"{known.there} {number}", self.identifiers)
+
+        return values_of(Use(known.item.type, known.item.key), count, chooser)

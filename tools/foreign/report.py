@@ -74,8 +74,8 @@ class Report:
             self.figures[judge.protocol.name, variant] = {**figures, **total}
 
     def idle(self, names):
-        """Returns the rows that explain nothing though all protocols were judged, of these names, that they are for; without
-        those of changed octets, where none were changed."""
+        """Returns the rows that explain nothing though all protocols were judged, of these names, that they are for;
+        without those of changed octets, where none were changed."""
         judged = {protocol for protocol, _ in self.figures}
         is_changed = any(BIT in figures for figures in self.figures.values())
         idle = [row for row in self.rows if not self.counts[row] and (is_changed or any(map(row.is_of, UNCHANGED)))]
@@ -93,7 +93,8 @@ class Report:
 
     def end(self, names):
         """Prints the figures, and returns the status. `names` are those of all protocols that there are."""
-        columns = [it for it in (*FIGURES, "differences", "explained") if any(it in found for found in self.figures.values())]
+        there = {it for figures in self.figures.values() for it in figures}
+        columns = [it for it in (*FIGURES, "differences", "explained") if it in there]
         for start in range(0, len(columns), COLUMNS):
             self.table(columns[start : start + COLUMNS])
         print("\n| differences | explained by | |\n|---|---|---|")

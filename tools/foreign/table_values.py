@@ -1,4 +1,5 @@
-"""Values of the types of whole modules, which may be deep, may hold themselves, and know which types their open types hold."""
+"""Values of the types of whole modules, which may be deep, may hold themselves, and know which types their open types
+hold."""
 from items import Items
 from notation import parts
 from objects import type_node
@@ -16,14 +17,15 @@ def inner_uses(of):
 
 
 def is_known(use, modules):
-    """Returns whether asn1ct knows the objects of an open type: there is a set of them, and a field tells them apart."""
+    """Returns whether asn1ct knows the objects of an open type: there is a set of them, and a field tells them
+    apart."""
     return bool(use.objects) and any("UNIQUE" in parts(it) for it in modules.class_of(use.owner)["fields"])
 
 
 def tied(modules):
-    """Puts whole types in the place of those that were being read where they were named, so that types that hold themselves
-    do. Groups of additions get a name and a type, and components of a SET the places that asn1ct gives them: by their tags.
-    Open types of which asn1ct knows no objects have no note. Returns all types."""
+    """Puts whole types in the place of those that were being read where they were named, so that types that hold
+    themselves do. Groups of additions get a name and a type, and components of a SET the places that asn1ct gives them:
+    by their tags. Open types of which asn1ct knows no objects have no note. Returns all types."""
     found, left = {}, [*modules.cache.values()]
     while left:
         use = left.pop()
@@ -33,7 +35,7 @@ def tied(modules):
             continue
         found[id(of)] = of
         for number, part in enumerate(of.all_parts):
-            if part.group is not None:
+            if part.group is not None and part.use is None:
                 part.name, part.use = Items.group_name(of, number), Use(Type("SEQUENCE", parts=part.group))
         for place, part in enumerate(sorted(of.parts, key=modules.smallest_tag) if of.kind == "SET" else []):
             part.place = place
@@ -74,8 +76,8 @@ class ObjectSets:
         self.modules, self.found = modules, {}
 
     def of(self, record):
-        """Returns the name of the component by which the set of a record's open types knows objects, and of each object its
-        number and the types of these open types, by their names."""
+        """Returns the name of the component by which the set of a record's open types knows objects, and of each object
+        its number and the types of these open types, by their names."""
         if id(record) not in self.found:
             governed = [it for it in record.parts if it.use.type.kind == "OPEN" and it.use.type.note]
             chooser = next((it for it in record.parts if governed and it.name == governed[0].use.chooser), None)
@@ -84,7 +86,8 @@ class ObjectSets:
         return self.found[id(record)]
 
     def objects(self, chooser, governed):
-        """Gives each object that says of all open types which type they have: one that has a name, or holds no others."""
+        """Gives each object that says of all open types which type they have: one that has a name, or holds no
+        others."""
         names = [chooser.use.field, *(it.use.field for it in governed)]
         for fields, module in self.modules.members(*governed[0].use.objects, governed[0].use.owner):
             if all(name in fields for name in names):
@@ -95,8 +98,8 @@ class ObjectSets:
 
 
 class TableChooser(Chooser):
-    """Chooses values of such types: below some levels, and where no room is left, the least that there is. Elements of a SET
-    OF are alike, as asn1ct keeps the order in which they are given. `heights` are those of all types."""
+    """Chooses values of such types: below some levels, and where no room is left, the least that there is. Elements of
+    a SET OF are alike, as asn1ct keeps the order in which they are given. `heights` are those of all types."""
 
     def __init__(self, manner, seed, heights, sets):
         super().__init__(manner, seed)

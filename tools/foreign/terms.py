@@ -66,8 +66,8 @@ def fields(of, value):
 
 
 def values_of(use, count, chooser):
-    """Returns values of a type, none twice: the least, the most, and some others, each with its term. Each is chosen by what
-    `chooser` gives for a manner and the value's number."""
+    """Returns values of a type, none twice: the least, the most, and some others, each with its term. Each is chosen by
+    what `chooser` gives for a manner and the value's number."""
     found = {}
     for number in range(count):
         value = chooser({0: LEAST, 1: MOST}.get(number, ANY), number).value(use)

@@ -1,8 +1,8 @@
 """Values of types as the compiler's resolver knows them: the least, the most, and some between.
 
-A value is None for NULL, a truth, a number, the name of an item, octets or the value that they contain, a text of the bits 0
-and 1, a text, the numbers of an OBJECT IDENTIFIER, a list, the name of an alternative and its value, or the components that
-are there by their names. A group of additions stands under its name among them.
+A value is None for NULL, a truth, a number, the name of an item, octets or the value that they contain, a text of the
+bits 0 and 1, a text, the numbers of an OBJECT IDENTIFIER, a list, the name of an alternative and its value, or the
+components that are there by their names. A group of additions stands under its name among them.
 """
 import random
 from dataclasses import dataclass
@@ -169,6 +169,6 @@ def default_of(part):
 # The method that chooses a value of a kind.
 CHOSEN = {
     "BOOLEAN": "truth", "NULL": "nothing", "INTEGER": "number", "ENUMERATED": "item", "OCTET STRING": "octets",
-    "OPEN": "open_octets", "BIT STRING": "bits", "OBJECT IDENTIFIER": "identifier", "SEQUENCE OF": "list", "SET OF": "list",
-    "CHOICE": "alternative", "SEQUENCE": "record", "SET": "record", **dict.fromkeys(TIMES, "time"),
+    "OPEN": "open_octets", "BIT STRING": "bits", "OBJECT IDENTIFIER": "identifier", "SEQUENCE OF": "list",
+    "SET OF": "list", "CHOICE": "alternative", "SEQUENCE": "record", "SET": "record", **dict.fromkeys(TIMES, "time"),
 }
