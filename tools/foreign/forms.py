@@ -21,10 +21,14 @@ def has_empty_addition(of):
     return any(part.group is None and part.use.type.limits.size == (0, 0, False) for part in of.added or [])
 
 
+def is_marked_with_a_gap(of):
+    return bool(of.limits.value) and of.limits.value[2] and len(of.limits.numbers or ()) > 1
+
+
 # Those of a size are of strings and lists, SIZE (0..n) of strings alone; SIZE (0) is that of an addition.
 FORMS = {
     "SIZE (0..n)": is_string_from_nothing, "SIZE (n..MAX, ...)": is_size_without_end,
-    "..., SIZE (0)": has_empty_addition,
+    "..., SIZE (0)": has_empty_addition, "(a | b, ...)": is_marked_with_a_gap,
 }
 
 
