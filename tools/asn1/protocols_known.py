@@ -8,11 +8,15 @@ from dataclasses import dataclass, field
 
 from notation import needed, read_modules
 
+APER, UPER = "aper", "uper"
+# The words of Wireshark's conformance files for them.
+OPTIONS = {APER: "ALIGNED", UPER: "UNALIGNED"}
+
 
 @dataclass
 class Protocol:
     name: str
-    variant: str            # as its standard names the transfer syntax: aper or uper
+    variant: str            # aper or uper, as its standard names the transfer syntax; Wireshark has the same
     own: str                # patterns of files below asn1/, those that begin with '-' left out
     more: str = ""          # the same of files from which they import
     edits: dict = field(default_factory=dict)   # by a file's name: a pattern, and what is put in its place
@@ -33,6 +37,15 @@ class Protocol:
     def word(self):
         """The name of the folder of its modules."""
         return self.own.split("/")[0]
+
+    def is_of_wireshark(self, folder):
+        """Returns whether Wireshark dissects it in this variant, where the options of its conformance file name one."""
+        said = set()
+        for path in glob.glob(f"{folder}/asn1/{self.word}/*.cnf"):
+            with open(path, encoding="utf-8", errors="replace") as file:
+                for options in re.findall(r"^#\.OPT$(.*?)^#\.END", file.read(), re.M | re.S):
+                    said.update(options.split())
+        return said.isdisjoint(OPTIONS.values()) or OPTIONS[self.variant] in said
 
     def texts(self, folder):
         """Returns the texts of its modules and of those from which they import, and the names of its own. The modules
@@ -60,7 +73,6 @@ UNUSED = (r"\bSetupRelease,", "")
 HEADER = "ItsPduHeader ::= SEQUENCE { protocolVersion INTEGER (0..255), messageID INTEGER (0..255), stationID StationID }"
 IMPORT = "IMPORTS MobilityInformation FROM S1AP-IEs;"
 WITHOUT_IMPORT = "; without an import that is used nowhere"
-APER, UPER = "aper", "uper"
 KNOWN = [
     Protocol("NGAP", APER, "ngap/*.asn"),
     Protocol("S1AP", APER, "s1ap/*.asn", "", {"S1AP-SonTransfer-IEs.asn": (r"\bBEGIN\b", f"BEGIN {IMPORT}")},

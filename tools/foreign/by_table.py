@@ -78,6 +78,8 @@ class TableProtocol:
 def made_by_table(protocol, folder, given):
     """Returns what was made of a protocol's whole modules, or why that isn't made."""
     name = name_of(protocol)
+    if not protocol.is_of_wireshark(f"{folder}/fetched"):
+        return Failure(f"{name}: Wireshark has another variant than {protocol.variant}")
     try:
         texts, own = protocol.texts(f"{folder}/fetched")
         table = TableProtocol(name, f"{folder}/{name}", texts, own, [protocol.variant])
