@@ -53,12 +53,23 @@ class SchemaAgreement(Agreement):
         super().lists(of, components, at)
         if any(part.group for part in of.all_parts):
             return      # pages count a group as one
+        if self.forgets(of, at.partition(",")[0]):
+            self.unjudged.append(f"{at}, its tags")
+            return
         sides = components["t"] if isinstance(components, dict) else [components]
         nodes = {it["name"]: it for it in flat(sides) if kind(it) == "ComponentType"}
         for part in of.all_parts:
             tags = nodes.get(part.name, {}).get("tags")
             if part.outer and isinstance(tags, list):
                 self.say(f"{at}.{part.name}", "the tag", [[*part.outer]], [it["t"] for it in tags])
+
+    def forgets(self, of, module):
+        """Returns whether asn1ct reads the tags of a list otherwise than X.680 25.3 has it: they aren't automatic there
+        where components that COMPONENTS OF takes have some, and they go by the module that imports a type with
+        parameters."""
+        is_automatic = self.modules.automatic[module]
+        is_retagged = is_automatic and any(part.is_taken and part.tags for part in of.all_parts)
+        return is_retagged or any(self.modules.automatic[part.module] != is_automatic for part in of.all_parts)
 
     def default(self, part, theirs, at):
         if part.use.type.kind in SIMPLE:

@@ -7,7 +7,7 @@ from dataclasses import dataclass
 HERE = os.path.dirname(os.path.realpath(__file__))
 TOOLS = os.path.dirname(HERE)
 sys.path += [TOOLS, f"{TOOLS}/foreign"]
-from ours import Program, written_program
+from ours import program_of, written_program
 
 NEEDS = {crate: ["rasn_below"] for crate in ("faults", "faults_tagged")}
 # Room for a reply of this size, in octets.
@@ -63,7 +63,7 @@ def wrong(top):
     """Gives what is wrong with what the crates in a folder read and write again."""
     rows = [line.split(" ", 3) for line in ROWS.strip().splitlines()]
     known = {path: Known(number, path) for number, path in enumerate(sorted({row[0] for row in rows}))}
-    program = Program(written_program(top, [*known.values()], NEEDS))
+    program = program_of(written_program(top, [*known.values()], NEEDS))
     lines = [f"{variant} {known[path].number} {octets} show" for path, variant, octets, _ in rows]
     for (path, variant, octets, shown), reply in zip(rows, program.replies(lines, [ROOM] * len(lines))):
         written, _, value = reply.partition(" ")

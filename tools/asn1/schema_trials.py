@@ -8,7 +8,7 @@ import subprocess
 from notation import HERE
 from schema_rules import File
 
-SAMPLES = ("Example", "Taken", "Tagged")
+SAMPLES = ("Example", "Taken", "Tagged", "Faults")
 # Of Taken.asn, the names that no other type names.
 PDUS = "Wrapped Defaults Presence Bare Attribute Any Strings".split()
 # Of Taken.asn, what the object set Parts stands for.

@@ -7,7 +7,8 @@
 %%
 %% FOLDER has MODULE.asn1 of all modules; `compile` puts what it makes of them beside them. RULE is uper or per. VALUES has a
 %% term {Module, Type, Value} for each encoding, LINES a line MODULE TYPE HEXADECIMAL. OUT gets a line for each: hexadecimal
-%% digits, or `!`, `read` or `write`, and what was said.
+%% digits, or `!`, `read` or `write`, and what was said. In a value {contained, Module, Type, Value} stands for the octets
+%% that encode another.
 %%
 %% Two optimizations are left out: of asn1ct's, which ends in a fault of its own at an added alternative of one number
 %% (enc_opt_hoist_align), and of Erlang's compiler, which loses what stands before an open type with a number (no_type_opt).
@@ -51,7 +52,17 @@ recoded([Name, TypeName, Digits]) ->
     encoded(Module, Type, did(read, fun() -> Module:decode(Type, binary:decode_hex(Digits)) end)).
 
 encoded(Module, Type, Value) ->
-    string:lowercase(binary:encode_hex(did(write, fun() -> Module:encode(Type, Value) end))).
+    string:lowercase(binary:encode_hex(octets(Module, Type, Value))).
+
+octets(Module, Type, Value) ->
+    Plain = plain(Value),
+    did(write, fun() -> Module:encode(Type, Plain) end).
+
+%% A value with octets in place of those values that octets contain.
+plain({contained, Module, Type, Value}) -> octets(Module, Type, Value);
+plain(Value) when is_tuple(Value) -> list_to_tuple(plain(tuple_to_list(Value)));
+plain([First | Others]) -> [plain(First) | plain(Others)];
+plain(Value) -> Value.
 
 %% What comes of a call, or what it refuses with its name in front.
 did(What, Call) ->

@@ -8,6 +8,8 @@ from repository import Failure
 SCRIPT = f"{os.path.dirname(os.path.realpath(__file__))}/asn1ct.escript"
 # The rules of asn1ct for each variant.
 RULES = {"aper": "per", "uper": "uper"}
+# What a run of it may take: seconds of a processor, and octets of memory.
+BOUNDS = ["prlimit", "--cpu=3600", "--as=8000000000"]
 
 
 class Asn1ct:
@@ -25,7 +27,7 @@ class Asn1ct:
         if not os.path.exists(mark) or read(mark) != self.sum:
             for name, text in self.texts.items():
                 written(f"{folder}/{name}.asn1", text)
-            ran(["escript", SCRIPT, "compile", folder, RULES[variant], *self.texts])
+            ran([*BOUNDS, "escript", SCRIPT, "compile", folder, RULES[variant], *self.texts])
             written(mark, self.sum)
         return folder
 
@@ -38,7 +40,7 @@ class Asn1ct:
             return kept
         folder = self.compiled(variant)
         written(f"{self.folder}/asked", "".join(f"{line}\n" for line in lines))
-        ran(["escript", SCRIPT, operation, folder, f"{self.folder}/asked", f"{self.folder}/answered"])
+        ran([*BOUNDS, "escript", SCRIPT, operation, folder, f"{self.folder}/asked", f"{self.folder}/answered"])
         answers = read(f"{self.folder}/answered").splitlines()
         if len(answers) != len(lines):
             raise Failure(f"asn1ct answers {len(answers)} lines of {len(lines)}")

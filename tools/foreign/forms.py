@@ -17,15 +17,32 @@ def is_string_from_nothing(of):
     return not is_list and bool(of.limits.size) and of.limits.size[0] == 0 and of.limits.size[1] is not None
 
 
-# Those of a size are of strings and lists, SIZE (0..n) of strings alone.
-FORMS = {"SIZE (0..n)": is_string_from_nothing, "SIZE (n..MAX, ...)": is_size_without_end}
+def has_empty_addition(of):
+    return any(part.group is None and part.use.type.limits.size == (0, 0, False) for part in of.added or [])
+
+
+def is_marked_with_a_gap(of):
+    return bool(of.limits.value) and of.limits.value[2] and len(of.limits.numbers or ()) > 1
+
+
+# Those of a size are of strings and lists, SIZE (0..n) of strings alone; SIZE (0) is that of an addition.
+FORMS = {
+    "SIZE (0..n)": is_string_from_nothing, "SIZE (n..MAX, ...)": is_size_without_end,
+    "..., SIZE (0)": has_empty_addition, "(a | b, ...)": is_marked_with_a_gap,
+}
 
 
 def forms_of(of):
-    """Returns the names of the forms that stand in a type."""
-    found = {name for name, is_it in FORMS.items() if is_it(of)}
-    inner = [*(part.use for part in of.all_parts), *([of.element] if of.element else [])]
-    return found.union(*(forms_of(use.type) for use in inner))
+    """Returns the names of the forms that stand in a type, which may hold itself."""
+    found, seen, left = set(), set(), [of]
+    while left:
+        of = left.pop()
+        if id(of) not in seen:
+            seen.add(id(of))
+            found |= {name for name, is_it in FORMS.items() if is_it(of)}
+            uses = [*(part.use for part in of.all_parts), *filter(None, (of.element, of.contained))]
+            left += [use.type for use in uses]
+    return found
 
 
 def in_words(of):

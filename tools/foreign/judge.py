@@ -7,7 +7,6 @@ from forms import in_words
 from hostile import BIT, END_ALONE, FRONT, LONGER, changed, is_right, refusals
 from messages import messages_of
 
-VARIANTS = ("aper", "uper")
 # Octets of a message are tried at each place.
 EACH = 1 << 20
 # What was given, where it wasn't changed: an encoding of asn1ct, and what it makes of one where that is another.
@@ -18,6 +17,8 @@ WHOLE, AGAIN = "values", "again"
 NOT_ENCODED, REFUSED, OCTETS, VALUE = "not encoded", "refused", "octets", "value"
 REPLY, MISREAD, HERE_ALONE, THERE_ALONE = "reply", "misread", "here alone", "asn1ct alone"
 SPELLED, CHANGED, SHOWN = "spelled", "changed", "tshark"
+# Those of octets that weren't changed.
+UNCHANGED = (NOT_ENCODED, REFUSED, OCTETS, VALUE)
 READ_BY = {(True, True): "both", (True, False): HERE_ALONE, (False, True): THERE_ALONE, (False, False): "neither"}
 FIGURES = ("types", WHOLE, "octets", "messages", FRONT, BIT, LONGER, *READ_BY.values(), "leaves", "by value")
 
@@ -45,7 +46,11 @@ class Given:
 
     @property
     def line(self):
-        return f"{self.variant} {self.known.number} {self.octets.hex()}{' show' if self.what == WHOLE else ''}"
+        return f"{self.variant} {self.known.asked} {self.octets.hex()}{' show' if self.is_shown else ''}"
+
+    @property
+    def is_shown(self):
+        return self.what == WHOLE and self.known.is_shown
 
     @property
     def key(self):
@@ -54,7 +59,7 @@ class Given:
     @property
     def room(self):
         """How long the reply may be, and more."""
-        return (40 if self.what == WHOLE else 4) * len(self.octets) + 200
+        return (40 if self.is_shown else 4) * len(self.octets) + 200
 
 
 class Judge:
@@ -62,7 +67,7 @@ class Judge:
 
     def __init__(self, protocol, asn1ct):
         self.protocol, self.asn1ct, self.refusals = protocol, asn1ct, refusals()
-        self.figures = {variant: collections.Counter() for variant in VARIANTS}
+        self.figures = {variant: collections.Counter() for variant in protocol.variants}
         self.messages = [*messages_of(protocol)]
         self.differences, self.misread = [], set()
 
@@ -73,7 +78,7 @@ class Judge:
         """Gives what the program is given: encodings of asn1ct, and the first of each type and the messages changed; last what
         asn1ct makes of these, where that is another."""
         bases = []
-        for variant in VARIANTS:
+        for variant in self.protocol.variants:
             taken = collections.Counter()
             for one in self.encoded(variant, count):
                 yield one
@@ -86,7 +91,7 @@ class Judge:
             one = Given(message.variant, known, bytes.fromhex(message.octets), "message", message.octets)
             bases.append(one)
             yield from self.changed(one, EACH)
-        for variant in VARIANTS:
+        for variant in self.protocol.variants:
             yield from self.again(variant, [one for one in bases if one.variant == variant])
 
     def again(self, variant, bases):
@@ -122,7 +127,7 @@ class Judge:
     def judge(self, every, program):
         """Judges the program's replies, and what asn1ct makes of octets with a bit turned. What is made of an encoding that is
         another here is left out."""
-        turned, others = {variant: [] for variant in VARIANTS}, set()
+        turned, others = {variant: [] for variant in self.protocol.variants}, set()
         for one, reply in zip(every, program.replies(*asked_of(every))):
             if one.what == WHOLE and not self.is_same(one, reply):
                 others.add(one.key)
@@ -136,7 +141,7 @@ class Judge:
     def is_same(self, one, reply):
         """Tells whether the octets that are written here of what asn1ct wrote, and the value that is shown, are its."""
         (value, term), (ours, _, shown) = one.row, reply.partition(" ")
-        forms = in_words(one.known.item.type)
+        forms = in_words(one.known.type)
         self.figures[one.variant][WHOLE] += 1
         self.figures[one.variant]["octets"] += len(one.octets)
         expected = one.known.shown(self.protocol.shown, value)
@@ -180,6 +185,20 @@ class Judge:
             self.figures[message.variant]["by value"] += by_value
             for line in lines:
                 self.differ(message.variant, SHOWN, known.name, f"{message.name}: {line}")
+
+
+@dataclass(frozen=True)
+class Made:
+    """What was made of a protocol, for which asn1ct was asked: the folder in which it is kept, its judge, all that the
+    program is given, and what its crates need, where these were written there."""
+    folder: str
+    judge: Judge
+    every: list
+    crates: dict = None
+
+    @property
+    def asked(self):
+        return asked_of(self.every)
 
 
 def asked_of(every):

@@ -8,10 +8,11 @@ from dataclasses import dataclass
 
 from kept import read
 from notation import kind, parsed
+from program import VARIANTS
 from repository import TOP, Failure, folder_of
 from resolve import Modules, Use
-from terms import Shown, term
-from values import ANY, LEAST, MOST, Chooser
+from terms import Shown, values_of
+from values import Chooser
 from wanted import crate_word, modules_wanted, wanted_items
 
 ASN1 = f"{TOP}/tools/asn1"
@@ -70,10 +71,21 @@ class Known:
     item: object
     path: str
     is_limited: bool
+    # The program shows its values.
+    is_shown = True
 
     @property
     def there(self):
         return self.item.key
+
+    @property
+    def type(self):
+        return self.item.type
+
+    @property
+    def asked(self):
+        """What the program calls it."""
+        return str(self.number)
 
     @property
     def name(self):
@@ -94,7 +106,7 @@ class Protocol:
     the texts that asn1ct gets in place of these; `first` is the number of the first type in the program."""
 
     def __init__(self, name, words, other=None, first=0):
-        self.name, self.words, self.first = name, words, first
+        self.name, self.words, self.first, self.variants = name, words, first, VARIANTS
         call = given(words)
         texts = modules_wanted(call.files, call.types, call.crate)
         with tempfile.TemporaryDirectory() as room:
@@ -163,10 +175,9 @@ class Protocol:
                 number += 1
 
     def values(self, known, count):
-        """Returns values of a type, none twice: the least, the most, and some others, each with its term."""
-        found = {}
-        for number in range(count):
-            manner = {0: LEAST, 1: MOST}.get(number, ANY)
-            value = Chooser(manner, f"{known.there} {number}", self.identifiers).value(Use(known.item.type, known.item.key))
-            found.setdefault(term(known.item.type, value), value)
-        return [(value, text) for text, value in found.items()]
+        """Returns values of a type, each with its term."""
+
+        def chooser(manner, number):
+            return Chooser(manner, f"{known.there} {number}", self.identifiers)
+
+        return values_of(Use(known.item.type, known.item.key), count, chooser)

@@ -4,13 +4,14 @@ import os
 import re
 from dataclasses import dataclass
 
-from judge import FIGURES, VARIANTS
+from hostile import BIT
+from judge import FIGURES, UNCHANGED
 from repository import Failure
 
 EXPLAINED = f"{os.path.dirname(os.path.realpath(__file__))}/explained.tsv"
 SECTION = re.compile(r"X\.6(80|90|91) \d+(\.\d+)*")
-# How many differences of one kind and type are told.
-TOLD = 3
+# How many differences of one kind and type are told, and how many columns a table has.
+TOLD, COLUMNS = 3, 7
 
 
 @dataclass(frozen=True)
@@ -24,6 +25,10 @@ class Row:
     text: str
     section: str
     why: str
+
+    def is_of(self, what):
+        """Returns whether it explains differences of a kind."""
+        return bool(re.fullmatch(self.what, what))
 
     def explains(self, it):
         wholes = ((self.protocol, it.protocol), (self.variant, it.variant), (self.what, it.what), (self.type, it.type))
@@ -65,27 +70,33 @@ class Report:
                 file.write("\t".join([it.variant, it.what, it.type, str(row.line if row else ""), it.text, "\n"]))
         for variant, figures in judge.figures.items():
             total = {"differences": sum(it.variant == variant for it in judge.differences)}
-            total["unexplained"] = self.unexplained[judge.protocol.name, variant]
+            total["explained"] = total["differences"] - self.unexplained[judge.protocol.name, variant]
             self.figures[judge.protocol.name, variant] = {**figures, **total}
 
     def idle(self, names):
-        """Returns the rows that explain nothing though all protocols were judged, of these names, that they are for."""
+        """Returns the rows that explain nothing though all protocols were judged, of these names, that they are for;
+        without those of changed octets, where none were changed."""
         judged = {protocol for protocol, _ in self.figures}
-        fits = {row: {name for name in names if re.fullmatch(row.protocol, name)} for row in self.rows}
-        return [row for row, fit in fits.items() if not self.counts[row] and fit and fit <= judged]
+        is_changed = any(BIT in figures for figures in self.figures.values())
+        idle = [row for row in self.rows if not self.counts[row] and (is_changed or any(map(row.is_of, UNCHANGED)))]
+        fits = {row: {name for name in names if re.fullmatch(row.protocol, name)} for row in idle}
+        return [row for row, fit in fits.items() if fit and fit <= judged]
 
     def table(self, columns):
         """Prints columns of the figures, and their sums, in which a type counts once for both variants."""
         print(f"\n| protocol | variant | {' | '.join(columns)} |\n|---|---|{'---|' * len(columns)}")
         sums = {it: sum(figures.get(it, 0) for figures in self.figures.values()) for it in columns}
-        sums["types"] = sums.get("types", 0) // len(VARIANTS)
-        for (protocol, variant), figures in [*self.figures.items(), (("all", "both"), sums)]:
+        types = {protocol: figures.get("types", 0) for (protocol, _), figures in self.figures.items()}
+        sums["types"] = sum(types.values())
+        for (protocol, variant), figures in [*self.figures.items(), (("all", ""), sums)]:
             print(f"| {protocol} | {variant} | {' | '.join(f'{figures.get(it, 0):,}' for it in columns)} |")
 
     def end(self, names):
         """Prints the figures, and returns the status. `names` are those of all protocols that there are."""
-        self.table(FIGURES[:7])
-        self.table([*FIGURES[7:], "differences", "unexplained"])
+        there = {it for figures in self.figures.values() for it in figures}
+        columns = [it for it in (*FIGURES, "differences", "explained") if it in there]
+        for start in range(0, len(columns), COLUMNS):
+            self.table(columns[start : start + COLUMNS])
         print("\n| differences | explained by | |\n|---|---|---|")
         for row in filter(self.counts.get, self.rows):
             print(f"| {self.counts[row]:,} | {row.section} | {row.why} |")

@@ -1,10 +1,12 @@
 """Values as asn1ct takes them, and as the program in Rattle shows them."""
 from constraints import LETTERS
+from literals import AS_OCTETS
 from pages import HELD
-from values import default_of
+from values import ANY, LEAST, MOST, TIMES, Held, default_of
 from words import holder
 
 LISTS = ("SEQUENCE OF", "SET OF")
+CHARACTERS = (*LETTERS, *TIMES, *(kind for kind in AS_OCTETS if kind != "UTF8String"))
 
 
 def part_named(of, name):
@@ -29,12 +31,19 @@ def term(of, value):
         return "'NULL'"
     if kind == "INTEGER":
         return str(value)
+    if of.contained:
+        module, name = of.contained.name
+        return f"{{contained,'{module}','{name}',{term(of.contained.type, value)}}}"
+    if isinstance(value, Held):
+        return term(value.use.type, value.value)
     if kind in ("OCTET STRING", "OPEN"):
         octets = f"<<{','.join(map(str, value))}>>"
-        return octets if kind == "OCTET STRING" else f"{{asn1_OPENTYPE,{octets}}}"
+        return f"{{asn1_OPENTYPE,{octets}}}" if of.note else octets
     if kind == "BIT STRING":
         return bits_term(value)
-    if kind in LETTERS:
+    if kind == "OBJECT IDENTIFIER":
+        return f"{{{','.join(map(str, value))}}}"
+    if kind in CHARACTERS:
         return f"[{','.join(map(code_term, map(ord, value)))}]"
     if kind == "UTF8String":
         return f'<<"{value}">>'
@@ -54,6 +63,16 @@ def fields(of, value):
             yield term(part.use.type, value[part.name])
         else:
             yield "asn1_DEFAULT" if part.presence == "default" else "asn1_NOVALUE"
+
+
+def values_of(use, count, chooser):
+    """Returns values of a type, none twice: the least, the most, and some others, each with its term. Each is chosen by
+    what `chooser` gives for a manner and the value's number."""
+    found = {}
+    for number in range(count):
+        value = chooser({0: LEAST, 1: MOST}.get(number, ANY), number).value(use)
+        found.setdefault(term(use.type, value), value)
+    return [(value, text) for text, value in found.items()]
 
 
 class Shown:

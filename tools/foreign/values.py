@@ -1,12 +1,14 @@
 """Values of types as the compiler's resolver knows them: the least, the most, and some between.
 
-A value is None for NULL, a truth, a number, the name of an item, octets, a text of the bits 0 and 1, a text, a list, the
-name of an alternative and its value, or the components that are there by their names. A group of additions stands under
-its name among them.
+A value is None for NULL, a truth, a number, the name of an item, octets or the value that they contain, a text of the
+bits 0 and 1, a text, the numbers of an OBJECT IDENTIFIER, a list, the name of an alternative and its value, or the
+components that are there by their names. A group of additions stands under its name among them.
 """
 import random
+from dataclasses import dataclass
 
 from constraints import LETTERS
+from literals import AS_OCTETS
 from resolve import TEXTS
 
 LEAST, MOST, ANY = "least", "most", "any"
@@ -17,6 +19,16 @@ SIZES = (0, 1, 6, 127, 128, 300)
 FRAGMENT = 16384
 # Parts of a value, past which it is kept small.
 ROOM = 120
+# OBJECT IDENTIFIERs, the last with numbers that take several octets (X.690 8.19), as far as the library takes them.
+IDENTIFIERS = ((0, 0), (1, 3, 6), (2, 999, 128, 2**32 - 1))
+TIMES = {"UTCTime": "700101000000Z", "GeneralizedTime": "19700101000000Z"}
+
+
+@dataclass(frozen=True)
+class Held:
+    """A value that an open type holds, as an object set says."""
+    use: object
+    value: object
 
 
 class Chooser:
@@ -69,11 +81,27 @@ class Chooser:
         of = use.type
         self.room -= 1
         if of.kind in CHOSEN:
-            return CHOSEN[of.kind](self, of)
-        letters = [ord(it) for it in "aZ9"] if of.kind == "UTF8String" else of.limits.alphabet or LETTERS[of.kind]
+            return getattr(self, CHOSEN[of.kind])(of)
+        letters = [ord(it) for it in "aZ9"] if of.kind in AS_OCTETS else of.limits.alphabet or LETTERS[of.kind]
         return "".join(chr(self.random.choice(letters)) for _ in range(self.size(of, 6)))
 
+    def truth(self, _):
+        return self.one(False, True, lambda: [])
+
+    @staticmethod
+    def nothing(_):
+        """Returns the value of a NULL."""
+
+    @staticmethod
+    def time(of):
+        return TIMES[of.kind]
+
+    def identifier(self, _):
+        return self.one(IDENTIFIERS[0], IDENTIFIERS[-1], lambda: IDENTIFIERS)
+
     def octets(self, of):
+        if of.contained:
+            return self.value(of.contained)
         return bytes(self.random.randrange(256) for _ in range(self.size(of, 6)))
 
     def open_octets(self, of):
@@ -104,7 +132,7 @@ class Chooser:
         found = {}
         for part in of.parts:
             if is_open and part.use.type.kind == "INTEGER":
-                found[part.name] = self.number(part.use.type, self.identifiers)
+                found[part.name] = self.number(part.use.type, self.taken(of))
             elif part.presence == "required" or self.is_there():
                 found[part.name] = self.value(part.use)
             elif part.presence == "default":
@@ -115,6 +143,10 @@ class Chooser:
                 if not is_left_out(part, held):
                     found[part.name] = held
         return found
+
+    def taken(self, _):
+        """Returns the identifiers that an object set knows of a record's open type."""
+        return self.identifiers
 
     def is_there(self):
         """Tells whether a part is there that may be absent."""
@@ -134,8 +166,9 @@ def default_of(part):
     return "".join(map(chr, part.default)) if part.use.type.kind in TEXTS else part.default
 
 
+# The method that chooses a value of a kind.
 CHOSEN = {
-    "BOOLEAN": lambda it, of: it.one(False, True, lambda: []), "NULL": lambda it, of: None, "INTEGER": Chooser.number,
-    "ENUMERATED": Chooser.item, "OCTET STRING": Chooser.octets, "OPEN": Chooser.open_octets, "BIT STRING": Chooser.bits,
-    "SEQUENCE OF": Chooser.list, "SET OF": Chooser.list, "CHOICE": Chooser.alternative, "SEQUENCE": Chooser.record,
+    "BOOLEAN": "truth", "NULL": "nothing", "INTEGER": "number", "ENUMERATED": "item", "OCTET STRING": "octets",
+    "OPEN": "open_octets", "BIT STRING": "bits", "OBJECT IDENTIFIER": "identifier", "SEQUENCE OF": "list",
+    "SET OF": "list", "CHOICE": "alternative", "SEQUENCE": "record", "SET": "record", **dict.fromkeys(TIMES, "time"),
 }
