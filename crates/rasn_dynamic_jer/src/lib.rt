@@ -2,4 +2,7 @@
 #![tactic(auto)]
 
 pub mod error;
+pub mod from_json_error;
+mod json_parts;
+mod read_simple;
 pub mod write;

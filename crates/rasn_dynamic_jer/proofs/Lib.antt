@@ -1,0 +1,4 @@
+pub mod Digits
+pub mod Foreign
+pub mod Parts
+pub mod Untold
