@@ -4,5 +4,6 @@
 pub mod error;
 pub mod from_json_error;
 mod json_parts;
+pub mod read;
 mod read_simple;
 pub mod write;
