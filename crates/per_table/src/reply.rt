@@ -1,30 +1,36 @@
 //! The reply to a request.
 
+ghost use Rattle.std.specs.Prelude.{◌≡◌, IfOk, string_bytes};
+ghost use Rattle.rasn_dynamic.specs.Types.{schema_at};
+ghost use Rattle.rasn_dynamic.specs.Values.{levels_of, value_of};
+ghost use Rattle.rasn_per.specs.Calls.{Decoded, Encoded};
+ghost use Rattle.per_table.specs.Refusals.{refusal_of};
+
 use crate::refusal::Refusal;
+use crate::request::Request;
+use crate::task::Task;
 use per_dynamic::{aper, uper};
 use per_lines::fault::Fault;
 use per_lines::replies::Replies;
 use rasn_dynamic::types::Types;
+use rasn_dynamic::values::Value;
+use rasn_dynamic_jer::read::from_json;
+use rasn_dynamic_jer::write::to_json;
+use rasn_per::uper::{DecodeError, EncodeError};
 use rasn_types::types::Codec;
-use schema_file::words::Words;
 use std::alloc::{AllocError, Global};
 
-/// What replies to requests: a table of types.
+/// What replies to lines: a table of types, and what is done by it.
+///
+/// A line is a variant, `aper` or `uper`, the name of a type of the table, and a text, with one blank between two of
+/// them: hexadecimal digits, or JSON for `Make`. The reply is the canonical encoding of the value that the text spells,
+/// in lower-case hexadecimal, or its JSON for `Show`, or `! ` and why there is none.
 #[derive(Drop)]
 pub struct Table {
     /// The table.
     pub types: Types,
-}
-
-/// Octets of a type of a table, in a variant.
-#[derive(Drop)]
-struct Request {
-    /// The variant.
-    codec: Codec,
-    /// The place of the type.
-    place: usize,
-    /// The octets.
-    octets: Vec<u8>,
+    /// What is done.
+    pub task: Task,
 }
 
 impl Replies for Table {
@@ -33,8 +39,8 @@ impl Replies for Table {
 
     /// The reply to a line: its answer, or `! ` and why it has none, and a line feed.
     fn reply(&self, alloc: Global, line: Vec<u8>) -> Result<Vec<u8>, Fault> {
-        match answer(alloc, &self.types, line.as_slice()) {
-            Ok(text) => Ok(text.into_bytes()),
+        match answer(alloc, self.task, &self.types, line.as_slice()) {
+            Ok(text) => Ok(text),
             Err(Refusal::OutOfMemory) => Err(Fault::OutOfMemory),
             Err(refusal) => Ok(refused(alloc, refusal)?.into_bytes()),
         }
@@ -42,60 +48,123 @@ impl Replies for Table {
 }
 
 /// Why a line has no answer, behind `! ` and with a line feed.
-fn refused(alloc: Global, refusal: Refusal) -> Result<String, AllocError> {
+fn refused(alloc: Global, refusal: Refusal) -> Result<String, AllocError>
+    ensures { IfOk result (λ text. string_bytes text ≡ refusal_of refusal) }
+{
     format!(in alloc; "! {}\n", refusal.text())
 }
 
-/// The canonical encoding that a request asks for, in lower-case hexadecimal and with a line feed.
-fn answer(alloc: Global, types: &Types, line: &[u8]) -> Result<String, Refusal> {
-    let request = read_request(alloc, types, line)?;
-    let canonical = recoded(alloc, types, &request)?;
-    let mut text = hex::encode(alloc, canonical.as_slice())?;
-    text.push('\n')?;
+/// The answer to a line, with a line feed.
+fn answer(alloc: Global, task: Task, types: &Types, line: &[u8]) -> Result<Vec<u8>, Refusal> {
+    let Some(request) = Request::read(line) else {
+        return Err(Refusal::WrongRequest);
+    };
+    let Some(place) = types.place(request.name) else {
+        return Err(Refusal::UnknownType);
+    };
+    let mut reply = answer_to(alloc, task, types, place, &request)?;
+    reply.extend_from_slice(b"\n")?;
+    Ok(reply)
+}
+
+/// The answer to the text of a request, by the type at a place.
+fn answer_to(
+    alloc: Global,
+    task: Task,
+    types: &Types,
+    place: usize,
+    request: &Request<'_>,
+) -> Result<Vec<u8>, Refusal> {
+    match task {
+        Task::Recode => recode(alloc, request.codec, types, place, request.text),
+        Task::Show => show(alloc, request.codec, types, place, request.text),
+        Task::Make => make(alloc, request.codec, types, place, request.text),
+    }
+}
+
+/// The canonical octets of the value that digits spell, in hexadecimal.
+fn recode(
+    alloc: Global,
+    codec: Codec,
+    types: &Types,
+    place: usize,
+    digits: &str,
+) -> Result<Vec<u8>, Refusal> {
+    let octets = hex::decode(alloc, digits.as_bytes())?;
+    let canonical = recoded(alloc, codec, types, place, octets.as_slice())?;
+    let text = hex::encode(alloc, canonical.as_slice())?;
+    Ok(text.into_bytes())
+}
+
+/// The JSON of the value that digits spell.
+fn show(
+    alloc: Global,
+    codec: Codec,
+    types: &Types,
+    place: usize,
+    digits: &str,
+) -> Result<Vec<u8>, Refusal> {
+    let octets = hex::decode(alloc, digits.as_bytes())?;
+    let value = decode(alloc, codec, types, place, octets.as_slice())?;
+    let text = to_json(alloc, types, place, &value)?;
     Ok(text)
 }
 
-/// The request that a line is.
-fn read_request(alloc: Global, types: &Types, line: &[u8]) -> Result<Request, Refusal> {
-    let Ok(text) = str::from_utf8(line) else {
-        return Err(Refusal::WrongRequest);
-    };
-    let mut words = Words::new(text);
-    let (Ok(codec), Ok(name), Ok(digits)) = (words.word(), words.word(), words.word()) else {
-        return Err(Refusal::WrongRequest);
-    };
-    let codec = match codec {
-        "aper" => Codec::Aper,
-        "uper" => Codec::Uper,
-        _ => return Err(Refusal::WrongRequest),
-    };
-    if !words.is_at_end() {
-        return Err(Refusal::WrongRequest);
-    }
-    let Some(place) = types.place(name) else {
-        return Err(Refusal::UnknownType);
-    };
-    let octets = hex::decode(alloc, digits.as_bytes())?;
-    Ok(Request {
-        codec,
-        place,
-        octets,
-    })
+/// The canonical octets of the value that JSON tells, in hexadecimal.
+fn make(
+    alloc: Global,
+    codec: Codec,
+    types: &Types,
+    place: usize,
+    text: &str,
+) -> Result<Vec<u8>, Refusal> {
+    let value = from_json(alloc, types, place, text.as_bytes())?;
+    let canonical = encode(alloc, codec, types, place, &value)?;
+    let digits = hex::encode(alloc, canonical.as_slice())?;
+    Ok(digits.into_bytes())
 }
 
-/// The canonical octets of the value that a request's octets spell.
-fn recoded(alloc: Global, types: &Types, request: &Request) -> Result<Vec<u8>, Refusal> {
-    let octets = request.octets.as_slice();
-    let place = request.place;
-    let canonical = match request.codec {
-        Codec::Aper => {
-            let value = aper::decode(alloc, types, place, octets)?;
-            aper::encode(alloc, types, place, &value)?
-        }
-        Codec::Uper => {
-            let value = uper::decode(alloc, types, place, octets)?;
-            uper::encode(alloc, types, place, &value)?
-        }
-    };
+/// The canonical octets of the value of the type at a place that octets spell, in the variant of a codec.
+fn recoded(
+    alloc: Global,
+    codec: Codec,
+    types: &Types,
+    place: usize,
+    octets: &[u8],
+) -> Result<Vec<u8>, Refusal> {
+    let value = decode(alloc, codec, types, place, octets)?;
+    let canonical = encode(alloc, codec, types, place, &value)?;
     Ok(canonical)
+}
+
+/// The value of the type at a place that all octets spell, in the variant of a codec.
+fn decode(
+    alloc: Global,
+    codec: Codec,
+    types: &Types,
+    place: usize,
+    octets: &[u8],
+) -> Result<Value, DecodeError>
+    ensures { Decoded codec (schema_at types.now.kinds.items place) value_of octets.now result }
+{
+    match codec {
+        Codec::Aper => aper::decode(alloc, types, place, octets),
+        Codec::Uper => uper::decode(alloc, types, place, octets),
+    }
+}
+
+/// The canonical octets of a value of the type at a place, in the variant of a codec.
+fn encode(
+    alloc: Global,
+    codec: Codec,
+    types: &Types,
+    place: usize,
+    value: &Value,
+) -> Result<Vec<u8>, EncodeError>
+    ensures { Encoded codec (schema_at types.now.kinds.items place) (levels_of value.now) (value_of value.now) result }
+{
+    match codec {
+        Codec::Aper => aper::encode(alloc, types, place, value),
+        Codec::Uper => uper::encode(alloc, types, place, value),
+    }
 }

@@ -1,3 +1,9 @@
-pub mod Tokens
+pub mod Digits
+pub mod Foreign
+pub mod Gathered
 pub mod Knowns
+pub mod Parts
 pub mod Putting
+pub mod Records
+pub mod Tokens
+pub mod Untold

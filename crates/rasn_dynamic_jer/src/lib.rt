@@ -2,5 +2,9 @@
 #![tactic(auto)]
 
 pub mod error;
+pub mod from_json_error;
+mod json_parts;
 mod leaves;
+pub mod read;
+mod read_simple;
 pub mod write;

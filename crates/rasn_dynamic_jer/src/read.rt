@@ -1,0 +1,538 @@
+//! Values from JSON by a table of types.
+
+ghost use Rattle.std.specs.Prelude.{◌≡◌, ◌⊎◌, IfOk, IfErr, IsSomeAnd, MatchResult, None, Some, option_map, map};
+ghost use Rattle.std.specs.Prelude.{position, string_bytes};
+ghost use Rattle.std.specs.List.{list_all, list_any};
+ghost use Rattle.std.specs.Str.{IsUtf8, bytes_eq};
+ghost use Rattle.json.specs.Json.{document};
+ghost use Rattle.json.specs.Strict.{HasUniqueKeys, keys};
+ghost use Rattle.json.specs.Value.{members_view, value_view};
+ghost use Rattle.rasn_types.specs.AllOf.{all_of};
+ghost use Rattle.rasn_types.specs.Values.{alternative, bag_of};
+ghost use Rattle.rasn_traits.specs.Counted.{index_in, side_of};
+ghost use Rattle.rasn_schema.specs.Lists.{list_value};
+ghost use Rattle.rasn_dynamic.specs.Types.{behind};
+ghost use Rattle.rasn_dynamic.specs.Values.{slot_of, value_of};
+ghost use Rattle.rasn_dynamic_jer.specs.Shown.{group_in, kind_within};
+ghost use Rattle.rasn_dynamic_jer.specs.Told.{absent_told, addition_told, additions_told, alternative_place};
+ghost use Rattle.rasn_dynamic_jer.specs.Told.{component_told, components_told, group_told, has_member, is_addition};
+ghost use Rattle.rasn_dynamic_jer.specs.Told.{is_component, is_member, IsNoText, IsTextOf, IsUntold, told_alone};
+ghost use Rattle.rasn_dynamic_jer.specs.Told.{TellsSlot, TellsSlots, TellsValue, TellsValues, told_at, told_by};
+ghost use Rattle.rasn_dynamic_jer.specs.Told.{alternative_told, choice_told, members_told, one_told, Parses};
+ghost use Rattle.rasn_dynamic_jer.specs.Told.{record_told, told_in, values_told};
+
+use crate::from_json_error::FromJsonError;
+use crate::json_parts::{items_of, members_of};
+use crate::read_simple::read_simple;
+use json::{Error, MAX_DEPTH, Scratch, Value as Json};
+use rasn_dynamic::types::{Alternative, Choice, Component, Kind, Presence, Record, Types, kind_at};
+use rasn_dynamic::values::Value;
+use rasn_schema::items::Place;
+use std::alloc::Global;
+
+/// The value of the type at a place of a table that a text of JSON tells (ITU-T X.697). The text is in UTF-8, and none
+/// of its objects has a member twice.
+pub fn from_json(
+    alloc: Global,
+    types: &Types,
+    place: usize,
+    text: &[u8],
+) -> Result<Value, FromJsonError>
+    ensures { MatchResult result (IsTextOf types.now.kinds.items place text.now)
+        (IsNoText types.now.kinds.items place text.now) }
+{
+    let mut scratch = Scratch::new(alloc);
+    let json = parse(alloc, text, &mut scratch)?;
+    read_at(alloc, &types.kinds, MAX_DEPTH, place, &json)
+}
+
+/// The JSON that octets are.
+fn parse<'text>(
+    alloc: Global,
+    text: &'text [u8],
+    scratch: &'text mut Scratch,
+) -> Result<Json<'text>, FromJsonError>
+    ensures { Parses text.now result }
+{
+    match str::from_utf8(text) {
+        Ok(text) => parse_text(alloc, text, scratch),
+        Err(_) => Err(FromJsonError::NotJson),
+    }
+}
+
+/// The JSON that a text is.
+fn parse_text<'text>(
+    alloc: Global,
+    text: &'text str,
+    scratch: &'text mut Scratch,
+) -> Result<Json<'text>, FromJsonError>
+    ensures { Parses text.now result }
+{
+    match Json::parse_strict(alloc, text, scratch) {
+        Ok(json) => Ok(json),
+        Err(Error::Invalid) => Err(FromJsonError::NotJson),
+        Err(Error::DuplicateKey) => Err(FromJsonError::DuplicateMember),
+        Err(_) => Err(FromJsonError::OutOfMemory),
+    }
+}
+
+/// What the type at a place is, or contains.
+fn kind_within(kinds: &[Kind], place: usize) -> Option<&Kind>
+    ensures { option_map (λ k. k.now) result ≡ kind_within kinds.now place }
+{
+    match kind_at(kinds, place)? {
+        Kind::Containing(of) => kind_at(kinds, *of),
+        kind => Some(kind),
+    }
+}
+
+/// Reads a value of the type at a place of a table, within so many levels of arrays and objects.
+#[cycle(reading)]
+fn read_at(
+    alloc: Global,
+    kinds: &[Kind],
+    levels: usize,
+    place: usize,
+    json: &Json<'_>,
+) -> Result<Value, FromJsonError>
+    ensures { TellsValue (told_at kinds.now levels place (value_view json.now)) result }
+{
+    match kind_within(kinds, place) {
+        Some(kind) => read_kind(alloc, kinds, levels, kind, json),
+        None => Err(FromJsonError::NoType),
+    }
+}
+
+/// Reads a value by what its type is, within so many levels.
+#[cycle(reading)]
+fn read_kind(
+    alloc: Global,
+    kinds: &[Kind],
+    levels: usize,
+    kind: &Kind,
+    json: &Json<'_>,
+) -> Result<Value, FromJsonError>
+    ensures { TellsValue (told_by kinds.now levels (Some kind.now) (value_view json.now)) result }
+{
+    match levels.checked_sub(1) {
+        Some(below) => read_within(alloc, kinds, below, kind, json),
+        None => read_alone(alloc, kind, json),
+    }
+}
+
+/// Reads a value of a type in which no other is.
+fn read_alone(alloc: Global, kind: &Kind, json: &Json<'_>) -> Result<Value, FromJsonError>
+    ensures { TellsValue (told_alone (Some kind.now) (value_view json.now)) result }
+{
+    match kind {
+        Kind::Simple(simple) => read_simple(alloc, simple, json),
+        _ => Err(FromJsonError::WrongKind),
+    }
+}
+
+/// Reads a value of a type in which others may be, each of these within so many levels.
+#[cycle(reading)]
+fn read_within(
+    alloc: Global,
+    kinds: &[Kind],
+    levels: usize,
+    kind: &Kind,
+    json: &Json<'_>,
+) -> Result<Value, FromJsonError>
+    ensures { TellsValue (told_in kinds.now (told_at kinds.now levels) (Some kind.now) (value_view json.now)) result }
+{
+    match kind {
+        Kind::Simple(simple) => read_simple(alloc, simple, json),
+        Kind::List(of, _) => read_list(alloc, kinds, levels, *of, json),
+        Kind::SetOf(of, _) => read_set_of(alloc, kinds, levels, *of, json),
+        Kind::Record(record) => read_record(alloc, kinds, levels, record, json),
+        Kind::Choice(choice) => read_choice(alloc, kinds, levels, choice, json),
+        Kind::Containing(_) => Err(FromJsonError::WrongKind),
+    }
+}
+
+/// Reads a SEQUENCE OF.
+#[cycle(reading)]
+fn read_list(
+    alloc: Global,
+    kinds: &[Kind],
+    levels: usize,
+    of: usize,
+    json: &Json<'_>,
+) -> Result<Value, FromJsonError>
+    ensures { TellsValue (option_map list_value (values_told (told_at kinds.now levels of) (value_view json.now)))
+        result }
+{
+    let values = read_array(alloc, kinds, levels, of, json)?;
+    Ok(Value::Elements(values))
+}
+
+/// Reads a SET OF.
+#[cycle(reading)]
+fn read_set_of(
+    alloc: Global,
+    kinds: &[Kind],
+    levels: usize,
+    of: usize,
+    json: &Json<'_>,
+) -> Result<Value, FromJsonError>
+    ensures { TellsValue (option_map bag_of (values_told (told_at kinds.now levels of) (value_view json.now)))
+        result }
+{
+    let values = read_array(alloc, kinds, levels, of, json)?;
+    Ok(Value::Bag(values))
+}
+
+/// Reads the values that an array has.
+#[cycle(reading)]
+fn read_array(
+    alloc: Global,
+    kinds: &[Kind],
+    levels: usize,
+    of: usize,
+    json: &Json<'_>,
+) -> Result<Vec<Value>, FromJsonError>
+    ensures { TellsValues (values_told (told_at kinds.now levels of) (value_view json.now)) result }
+{
+    match items_of(json) {
+        Some(items) => read_items(alloc, kinds, levels, of, items),
+        None => Err(FromJsonError::WrongKind),
+    }
+}
+
+/// Reads a value of each of some items.
+#[cycle(reading)]
+fn read_items(
+    alloc: Global,
+    kinds: &[Kind],
+    levels: usize,
+    of: usize,
+    items: &[Json<'_>],
+) -> Result<Vec<Value>, FromJsonError>
+    ensures { TellsValues (all_of (λ x. told_at kinds.now levels of (value_view x)) items.now) result }
+{
+    let mut values = Vec::new(alloc);
+    for item in items {
+        let value = read_at(alloc, kinds, levels, of, item)?;
+        values.push(value)?;
+    }
+    Ok(values)
+}
+
+/// Reads a SEQUENCE.
+#[cycle(reading)]
+fn read_record(
+    alloc: Global,
+    kinds: &[Kind],
+    levels: usize,
+    sequence: &Record,
+    json: &Json<'_>,
+) -> Result<Value, FromJsonError>
+    ensures { TellsValue (record_told kinds.now (told_at kinds.now levels) sequence.now (value_view json.now)) result }
+{
+    match members_of(json) {
+        Some(members) => read_members(alloc, kinds, levels, sequence, json, members),
+        None => Err(FromJsonError::WrongKind),
+    }
+}
+
+/// Reads a SEQUENCE by an object and its members.
+#[cycle(reading)]
+fn read_members(
+    alloc: Global,
+    kinds: &[Kind],
+    levels: usize,
+    sequence: &Record,
+    json: &Json<'_>,
+    members: &[(&str, Json<'_>)],
+) -> Result<Value, FromJsonError>
+    ensures { TellsValue (members_told kinds.now (told_at kinds.now levels) sequence.now (value_view json.now)
+        (members_view members.now)) result }
+{
+    if !are_members(kinds, sequence, members) {
+        return Err(FromJsonError::UnknownMember);
+    }
+    let components = sequence.root();
+    let additions = sequence.behind();
+    let root = read_components(alloc, kinds, levels, components, json)?;
+    let added = read_additions(alloc, kinds, levels, additions, json)?;
+    Ok(Value::Fields(root, added))
+}
+
+/// Reads components by the object of their record.
+#[cycle(reading)]
+fn read_components(
+    alloc: Global,
+    kinds: &[Kind],
+    levels: usize,
+    components: &[Component],
+    json: &Json<'_>,
+) -> Result<Vec<Value>, FromJsonError>
+    ensures { TellsSlots (components_told (told_at kinds.now levels) (value_view json.now) components.now) result }
+{
+    let mut values = Vec::new(alloc);
+    for component in components {
+        let value = read_component(alloc, kinds, levels, component, json)?;
+        values.push(value)?;
+    }
+    Ok(values)
+}
+
+/// Reads a component by the object of its record.
+#[cycle(reading)]
+fn read_component(
+    alloc: Global,
+    kinds: &[Kind],
+    levels: usize,
+    component: &Component,
+    json: &Json<'_>,
+) -> Result<Value, FromJsonError>
+    ensures { TellsSlot (component_told (told_at kinds.now levels) (value_view json.now) component.now) result }
+{
+    match json.get(component.name.as_str()) {
+        Some(own) => read_at(alloc, kinds, levels, component.of, own),
+        None => absent(alloc, &component.presence),
+    }
+}
+
+/// What a component is that no member tells.
+fn absent(alloc: Global, presence: &Presence) -> Result<Value, FromJsonError>
+    ensures { TellsSlot (absent_told presence.now) result }
+{
+    match presence {
+        Presence::Required => Err(FromJsonError::MissingMember),
+        Presence::Optional => Ok(Value::Absent),
+        Presence::Group => Ok(Value::Absent),
+        Presence::Default(otherwise) => Ok(otherwise.value(alloc)?),
+    }
+}
+
+/// Reads additions by the object of their record.
+#[cycle(reading)]
+fn read_additions(
+    alloc: Global,
+    kinds: &[Kind],
+    levels: usize,
+    components: &[Component],
+    json: &Json<'_>,
+) -> Result<Vec<Value>, FromJsonError>
+    ensures { TellsSlots (additions_told kinds.now (told_at kinds.now levels) (value_view json.now) components.now)
+        result }
+{
+    let mut values = Vec::new(alloc);
+    for component in components {
+        let value = read_addition(alloc, kinds, levels, component, json)?;
+        values.push(value)?;
+    }
+    Ok(values)
+}
+
+/// Reads an addition by the object of its record.
+#[cycle(reading)]
+fn read_addition(
+    alloc: Global,
+    kinds: &[Kind],
+    levels: usize,
+    component: &Component,
+    json: &Json<'_>,
+) -> Result<Value, FromJsonError>
+    ensures { TellsSlot (addition_told (told_at kinds.now levels) (value_view json.now)
+        (group_in kinds.now component.now) component.now) result }
+{
+    match group_in(kinds, component) {
+        Some(group) => read_group(alloc, kinds, levels, group, json),
+        None => read_component(alloc, kinds, levels, component, json),
+    }
+}
+
+/// Reads a group by the object of the record that it is an addition of.
+#[cycle(reading)]
+fn read_group(
+    alloc: Global,
+    kinds: &[Kind],
+    levels: usize,
+    group: &Record,
+    json: &Json<'_>,
+) -> Result<Value, FromJsonError>
+    ensures { TellsSlot (group_told (told_at kinds.now levels) (value_view json.now) group.now) result }
+{
+    let components = group.root();
+    if !has_member(json, components) {
+        return Ok(Value::Absent);
+    }
+    let root = read_components(alloc, kinds, levels, components, json)?;
+    Ok(Value::Fields(root, Vec::new(alloc)))
+}
+
+/// The record of a component's type, where the component is a group.
+fn group_in<'kinds>(kinds: &'kinds [Kind], component: &Component) -> Option<&'kinds Record>
+    ensures { option_map (λ r. r.now) result ≡ group_in kinds.now component.now }
+{
+    match (&component.presence, kind_at(kinds, component.of)?) {
+        (Presence::Group, Kind::Record(record)) if record.behind().is_empty() => Some(record),
+        _ => None,
+    }
+}
+
+/// Whether one of some components has a member.
+fn has_member(json: &Json<'_>, components: &[Component]) -> bool
+    ensures { result ≡ has_member (value_view json.now) components.now }
+{
+    components
+        .iter()
+        .any(|component| json.get(component.name.as_str()).is_some())
+}
+
+/// Whether each member of an object has a name of a record's members.
+fn are_members(kinds: &[Kind], sequence: &Record, members: &[(&str, Json<'_>)]) -> bool
+    ensures { result ≡ list_all (is_member kinds.now sequence.now) (keys (members_view members.now)) }
+{
+    members
+        .iter()
+        .all(|member| is_member(kinds, sequence, member.0))
+}
+
+/// Whether a name is that of a record's member.
+fn is_member(kinds: &[Kind], sequence: &Record, name: &str) -> bool
+    ensures { result ≡ is_member kinds.now sequence.now name.now }
+{
+    is_component(sequence.root(), name) || is_added(kinds, sequence.behind(), name)
+}
+
+/// Whether a name is that of one of some components.
+fn is_component(components: &[Component], name: &str) -> bool
+    ensures { result ≡ is_component components.now name.now }
+{
+    components
+        .iter()
+        .any(|component| component.name.as_str() == name)
+}
+
+/// Whether a name is that of a member of one of some additions.
+fn is_added(kinds: &[Kind], components: &[Component], name: &str) -> bool
+    ensures { result ≡ list_any (λ c. is_addition (group_in kinds.now c) c name.now) components.now }
+{
+    components
+        .iter()
+        .any(|component| is_addition(kinds, component, name))
+}
+
+/// Whether a name is that of a member of an addition: of a group, one of its components.
+fn is_addition(kinds: &[Kind], component: &Component, name: &str) -> bool
+    ensures { result ≡ is_addition (group_in kinds.now component.now) component.now name.now }
+{
+    match group_in(kinds, component) {
+        Some(group) => is_component(group.root(), name),
+        None => component.name.as_str() == name,
+    }
+}
+
+/// Reads a CHOICE.
+#[cycle(reading)]
+fn read_choice(
+    alloc: Global,
+    kinds: &[Kind],
+    levels: usize,
+    choice: &Choice,
+    json: &Json<'_>,
+) -> Result<Value, FromJsonError>
+    ensures { TellsValue (choice_told (told_at kinds.now levels) choice.now (value_view json.now)) result }
+{
+    match members_of(json) {
+        Some(members) => read_one(alloc, kinds, levels, choice, members),
+        None => Err(FromJsonError::WrongKind),
+    }
+}
+
+/// Reads a CHOICE by the only member of an object.
+#[cycle(reading)]
+fn read_one(
+    alloc: Global,
+    kinds: &[Kind],
+    levels: usize,
+    choice: &Choice,
+    members: &[(&str, Json<'_>)],
+) -> Result<Value, FromJsonError>
+    ensures { TellsValue (one_told (told_at kinds.now levels) choice.now (members_view members.now)) result }
+{
+    match members {
+        [] => Err(FromJsonError::WrongKind),
+        [member] => read_named(alloc, kinds, levels, choice, member.0, &member.1),
+        [_, _, ..] => Err(FromJsonError::WrongKind),
+    }
+}
+
+/// Reads the value of an alternative by its name.
+#[cycle(reading)]
+fn read_named(
+    alloc: Global,
+    kinds: &[Kind],
+    levels: usize,
+    choice: &Choice,
+    name: &str,
+    json: &Json<'_>,
+) -> Result<Value, FromJsonError>
+    ensures { TellsValue (alternative_told (told_at kinds.now levels) choice.now
+        (alternative_place choice.now name.now) (value_view json.now)) result }
+{
+    match alternative_place(choice, name) {
+        Some(place) => read_alternative(alloc, kinds, levels, choice, place, json),
+        None => Err(FromJsonError::UnknownAlternative),
+    }
+}
+
+/// Where the first alternative with a name stands.
+fn alternative_place(choice: &Choice, name: &str) -> Option<Place>
+    ensures { result ≡ alternative_place choice.now name.now }
+{
+    match alternative_index(&choice.roots, name) {
+        Some(index) => Some(Place::Root(index)),
+        None => Some(Place::Added(alternative_index(choice.behind(), name)?)),
+    }
+}
+
+/// The index of the first of some alternatives that has a name.
+fn alternative_index(alternatives: &[Alternative], name: &str) -> Option<usize>
+    ensures { result ≡ position (λ a. bytes_eq (string_bytes a.name) name.now) alternatives.now }
+{
+    alternatives
+        .iter()
+        .position(|own| own.name.as_str() == name)
+}
+
+/// Reads the value of the alternative at a place.
+#[cycle(reading)]
+fn read_alternative(
+    alloc: Global,
+    kinds: &[Kind],
+    levels: usize,
+    choice: &Choice,
+    place: Place,
+    json: &Json<'_>,
+) -> Result<Value, FromJsonError>
+    ensures { TellsValue (alternative_told (told_at kinds.now levels) choice.now (Some place) (value_view json.now))
+        result }
+{
+    match choice.at(place) {
+        Some(alternative) => read_chosen(alloc, kinds, levels, alternative.of, place, json),
+        None => Err(FromJsonError::UnknownAlternative),
+    }
+}
+
+/// Reads the value of an alternative of a type that stands at a place.
+#[cycle(reading)]
+fn read_chosen(
+    alloc: Global,
+    kinds: &[Kind],
+    levels: usize,
+    of: usize,
+    place: Place,
+    json: &Json<'_>,
+) -> Result<Value, FromJsonError>
+    ensures { TellsValue (option_map (alternative (side_of place) (index_in place))
+        (told_at kinds.now levels of (value_view json.now))) result }
+{
+    let value = read_at(alloc, kinds, levels, of, json)?;
+    let chosen = Box::new(alloc, value)?;
+    Ok(Value::Alternative(place, chosen))
+}
