@@ -1,10 +1,10 @@
 //! Reads values by a table of types, and prints their canonical encodings (X.691) or their JSON (X.697).
 //!
-//! `per_table FILE [recode|show|make]` reads a schema file (`docs/SCHEMA-FILE.md`), and then replies to each line of its
-//! standard input: a variant, `aper` or `uper`, the name of a type of the file, `MODULE.TYPE`, and a text, with one
+//! `per_table FILE [recode|show|make]` reads a schema file (`docs/SCHEMA-FILE.md`), and then replies to each line of
+//! its standard input: a variant, `aper` or `uper`, the name of a type of the file, `MODULE.TYPE`, and a text, with one
 //! blank between two of them. The text is the octets of a value in hexadecimal, or for `make` its JSON. The reply is
-//! the canonical encoding of that value in hexadecimal, or for `show` its JSON, or `! ` and why there is none. Where the
-//! file is refused, `load` is said with the line and why, and nothing is replied.
+//! the canonical encoding of that value in hexadecimal, or for `show` its JSON, or `! ` and why there is none. Where
+//! the file is refused, `load` is said with the line and why, and nothing is replied.
 #![tactic(auto)]
 
 mod refusal;
