@@ -10,13 +10,14 @@ ghost use Rattle.json.specs.Token.{number as number_token, string as string_toke
 ghost use Rattle.hex.specs.Hex.{encode_upper};
 ghost use Rattle.json.specs.Print.{IsPrintable};
 ghost use Rattle.json.specs.Reads.{token_of};
-ghost use Rattle.rasn_dynamic_jer.specs.Leaves.{bits_json, bits_shown, characters_json, counted, fixed_by};
+ghost use Rattle.rasn_dynamic_jer.specs.Leaves.{bits_json, bits_shown, characters_json, counted};
 ghost use Rattle.rasn_dynamic_jer.specs.Leaves.{item_json, least_of, null_json, number_json, octets_json, truth_json};
 ghost use Rattle.rasn_dynamic_jer.specs.Leaves.{utf8_json};
 ghost use Rattle.rasn_dynamic_jer.specs.Puts.{Puts, PutsToken};
 ghost use Rattle.rasn_dynamic_jer.specs.declared.error.ToJsonError.TheVariants.{NoJson, OutOfMemory};
 
 use crate::error::ToJsonError;
+use crate::table::fixed_by;
 use json::{Token, Writer};
 use rasn_dynamic::types::{Simple, SizeBounds};
 use rasn_schema::items::Place;
@@ -173,16 +174,6 @@ pub(crate) fn put_bits(
             put_counted(writer, alloc, fixed_by(size), &normal, levels)
         }
         _ => Err(ToJsonError::NoJson),
-    }
-}
-
-/// How many there are, where a size fixes it.
-fn fixed_by(size: &SizeBounds) -> Option<usize>
-    ensures { result ≡ fixed_by size.now }
-{
-    match size.constraint.start_and_end() {
-        (Some(least), Some(most)) if !size.extensible && least == most => Some(least),
-        _ => None,
     }
 }
 

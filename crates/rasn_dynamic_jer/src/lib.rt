@@ -7,4 +7,5 @@ mod json_parts;
 mod leaves;
 pub mod read;
 mod read_simple;
+mod table;
 pub mod write;

@@ -13,7 +13,7 @@ ghost use Rattle.rasn_traits.specs.Counted.{index_in, side_of};
 ghost use Rattle.rasn_schema.specs.Lists.{list_value};
 ghost use Rattle.rasn_dynamic.specs.Types.{behind};
 ghost use Rattle.rasn_dynamic.specs.Values.{slot_of, value_of};
-ghost use Rattle.rasn_dynamic_jer.specs.Shown.{group_in, kind_within};
+ghost use Rattle.rasn_dynamic_jer.specs.Shown.{group_in};
 ghost use Rattle.rasn_dynamic_jer.specs.Told.{absent_told, addition_told, additions_told, alternative_place};
 ghost use Rattle.rasn_dynamic_jer.specs.Told.{component_told, components_told, group_told, has_member, is_addition};
 ghost use Rattle.rasn_dynamic_jer.specs.Told.{is_component, is_member, IsNoText, IsTextOf, IsUntold, told_alone};
@@ -24,8 +24,9 @@ ghost use Rattle.rasn_dynamic_jer.specs.Told.{record_told, told_in, values_told}
 use crate::from_json_error::FromJsonError;
 use crate::json_parts::{items_of, members_of};
 use crate::read_simple::read_simple;
+use crate::table::{group_in, kind_within};
 use json::{Error, MAX_DEPTH, Scratch, Value as Json};
-use rasn_dynamic::types::{Alternative, Choice, Component, Kind, Presence, Record, Types, kind_at};
+use rasn_dynamic::types::{Alternative, Choice, Component, Kind, Presence, Record, Types};
 use rasn_dynamic::values::Value;
 use rasn_schema::items::Place;
 use std::alloc::Global;
@@ -73,16 +74,6 @@ fn parse_text<'text>(
         Err(Error::Invalid) => Err(FromJsonError::NotJson),
         Err(Error::DuplicateKey) => Err(FromJsonError::DuplicateMember),
         Err(_) => Err(FromJsonError::OutOfMemory),
-    }
-}
-
-/// What the type at a place is, or contains.
-fn kind_within(kinds: &[Kind], place: usize) -> Option<&Kind>
-    ensures { option_map (λ k. k.now) result ≡ kind_within kinds.now place }
-{
-    match kind_at(kinds, place)? {
-        Kind::Containing(of) => kind_at(kinds, *of),
-        kind => Some(kind),
     }
 }
 
@@ -362,16 +353,6 @@ fn read_group(
     }
     let root = read_components(alloc, kinds, levels, components, json)?;
     Ok(Value::Fields(root, Vec::new(alloc)))
-}
-
-/// The record of a component's type, where the component is a group.
-fn group_in<'kinds>(kinds: &'kinds [Kind], component: &Component) -> Option<&'kinds Record>
-    ensures { option_map (λ r. r.now) result ≡ group_in kinds.now component.now }
-{
-    match (&component.presence, kind_at(kinds, component.of)?) {
-        (Presence::Group, Kind::Record(record)) if record.behind().is_empty() => Some(record),
-        _ => None,
-    }
 }
 
 /// Whether one of some components has a member.

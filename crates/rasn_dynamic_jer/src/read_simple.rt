@@ -18,6 +18,7 @@ ghost use Rattle.rasn_dynamic_jer.specs.declared.from_json_error.FromJsonError.T
 
 use crate::from_json_error::FromJsonError;
 use crate::json_parts::member_count;
+use crate::table::fixed_by;
 use hex::FromHexError;
 use json::Value as Json;
 use rasn_dynamic::types::{Items, Simple, SizeBounds};
@@ -162,16 +163,6 @@ fn read_bits(alloc: Global, size: &SizeBounds, json: &Json<'_>) -> Result<Value,
     match json.as_str() {
         Some(digits) => read_fixed(alloc, fixed_by(size), digits),
         None => read_counted(alloc, json),
-    }
-}
-
-/// How many there are, where a size fixes it.
-fn fixed_by(size: &SizeBounds) -> Option<usize>
-    ensures { result ≡ fixed_by size.now }
-{
-    match size.constraint.start_and_end() {
-        (Some(least), Some(most)) if !size.extensible && least == most => Some(least),
-        _ => None,
     }
 }
 

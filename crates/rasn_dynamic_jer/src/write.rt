@@ -8,7 +8,7 @@ ghost use Rattle.rasn_dynamic.specs.declared.types.Kind.TheVariants.{Choice as C
 ghost use Rattle.rasn_dynamic.specs.declared.types.Kind.TheVariants.{Record as RecordKind, SetOf, Simple as SimpleKind};
 ghost use Rattle.rasn_dynamic_jer.specs.Leaves.{below};
 ghost use Rattle.rasn_dynamic_jer.specs.Puts.{IsRefused, IsJsonText, Puts, PutsAll, PutsMembers};
-ghost use Rattle.rasn_dynamic_jer.specs.Shown.{alternative_json, array_json, json_at, json_by, kind_within, known};
+ghost use Rattle.rasn_dynamic_jer.specs.Shown.{alternative_json, array_json, json_at, json_by, known};
 ghost use Rattle.rasn_dynamic_jer.specs.Shown.{component_members, group_among, is_default, is_optional};
 ghost use Rattle.rasn_dynamic_jer.specs.Shown.{list_members, members_there, named, values_json};
 
@@ -16,8 +16,9 @@ use crate::error::ToJsonError;
 use crate::leaves::{
     put_bits, put_characters, put_item, put_null, put_number, put_octets, put_token, put_truth,
 };
+use crate::table::{group_in, kind_within};
 use json::{Token, Writer};
-use rasn_dynamic::types::{Choice, Component, Kind, Presence, Record, Simple, Types, kind_at};
+use rasn_dynamic::types::{Choice, Component, Kind, Presence, Record, Simple, Types};
 use rasn_dynamic::values::Value;
 use rasn_schema::items::Place;
 use std::alloc::Global;
@@ -40,16 +41,6 @@ pub fn to_json(
     let mut writer = Writer::new(Vec::new(alloc));
     put_at(&mut writer, alloc, &types.kinds, place, value, MOST_LEVELS)?;
     Ok(writer.into_inner())
-}
-
-/// What the type at a place is, or contains.
-fn kind_within(kinds: &[Kind], place: usize) -> Option<&Kind>
-    ensures { option_map (λ k. k.now) result ≡ kind_within kinds.now place }
-{
-    match kind_at(kinds, place)? {
-        Kind::Containing(of) => kind_at(kinds, *of),
-        kind => Some(kind),
-    }
 }
 
 /// Writes a value by the type at a place of a table, within so many levels of arrays and objects.
@@ -283,10 +274,7 @@ fn group_among<'kinds>(
     if !are_added {
         return None;
     }
-    match (&component.presence, kind_at(kinds, component.of)?) {
-        (Presence::Group, Kind::Record(record)) if record.behind().is_empty() => Some(record),
-        _ => None,
-    }
+    group_in(kinds, component)
 }
 
 /// Writes the members of a component, which may be an addition.

@@ -1,0 +1,40 @@
+//! What a table says of a type.
+
+ghost use Rattle.std.specs.Prelude.{◌≡◌, option_map};
+ghost use Rattle.rasn_dynamic_jer.specs.Leaves.{fixed_by};
+ghost use Rattle.rasn_dynamic_jer.specs.Shown.{group_in, kind_within};
+
+use rasn_dynamic::types::{Component, Kind, Presence, Record, SizeBounds, kind_at};
+
+/// What the type at a place is, or contains.
+pub(crate) fn kind_within(kinds: &[Kind], place: usize) -> Option<&Kind>
+    ensures { option_map (λ k. k.now) result ≡ kind_within kinds.now place }
+{
+    match kind_at(kinds, place)? {
+        Kind::Containing(of) => kind_at(kinds, *of),
+        kind => Some(kind),
+    }
+}
+
+/// The record of a component's type, where the component is a group.
+pub(crate) fn group_in<'kinds>(
+    kinds: &'kinds [Kind],
+    component: &Component,
+) -> Option<&'kinds Record>
+    ensures { option_map (λ r. r.now) result ≡ group_in kinds.now component.now }
+{
+    match (&component.presence, kind_at(kinds, component.of)?) {
+        (Presence::Group, Kind::Record(record)) if record.behind().is_empty() => Some(record),
+        _ => None,
+    }
+}
+
+/// How many there are, where a size fixes it.
+pub(crate) fn fixed_by(size: &SizeBounds) -> Option<usize>
+    ensures { result ≡ fixed_by size.now }
+{
+    match size.constraint.start_and_end() {
+        (Some(least), Some(most)) if !size.extensible && least == most => Some(least),
+        _ => None,
+    }
+}
