@@ -6,7 +6,7 @@ use Rattle.rasn_schema.specs.Schemas.{Schema}
 use Rattle.rasn_dynamic.specs.declared.types.Alternative.{Alternative}
 use Rattle.rasn_dynamic.specs.declared.types.Component.{Component}
 use Rattle.rasn_dynamic.specs.declared.types.Kind.{Kind}
-use Rattle.rasn_dynamic.specs.declared.types.Kind.TheVariants.{Simple as SimpleKind, List as ListKind, SetOf, Record as RecordKind, Choice as ChoiceKind, Containing}
+use Rattle.rasn_dynamic.specs.declared.types.Kind.TheVariants.{Simple as SimpleKind, List as ListKind, SetOf, Record as RecordKind, Choice as ChoiceKind, Containing, Open as OpenKind}
 use Rattle.rasn_dynamic.specs.declared.types.Simple.{Simple}
 use Rattle.rasn_dynamic.specs.declared.types.Simple.TheVariants.{BitString, Boolean, Characters, Enumerated, Integer, NamedBits, Null, ObjectIdentifier, OctetString, Open, Text, Utf8}
 use Rattle.rasn_dynamic.specs.Types.{alternatives_in, at_place, behind, grouped, in_root, parts_in, plain_at, schema_at, simple_schema}
@@ -42,6 +42,7 @@ plain_cut ts (SetOf i c) = no_level tt
 plain_cut ts (RecordKind r) = no_level tt
 plain_cut ts (ChoiceKind c) = no_level tt
 plain_cut ts (Containing i) = to_leaf tt
+plain_cut ts (OpenKind o) = to_leaf tt
 
 contained_cut : (ts : List Kind) (o : Option Kind) → ToLevels zero (at_place (λ k. plain_at ts k zero) o) (at_place (λ k. plain_at ts k (suc zero)) o)
 contained_cut ts None = to_leaf tt
@@ -54,6 +55,7 @@ kind_cut ts (SetOf i c) = no_level tt
 kind_cut ts (RecordKind r) = no_level tt
 kind_cut ts (ChoiceKind c) = no_level tt
 kind_cut ts (Containing i) = to_containing (contained_cut ts (slice_get ts i))
+kind_cut ts (OpenKind o) = to_leaf tt
 
 -- with more
 module _ (ts : List Kind) (n : ℕ) (h : (j : ℕ) → ToLevels n (schema_at ts j n) (schema_at ts j (suc n))) where
@@ -66,6 +68,7 @@ module _ (ts : List Kind) (n : ℕ) (h : (j : ℕ) → ToLevels n (schema_at ts 
   plain_levels (ChoiceKind c) =
       to_choice (alternative_levels (λ j. schema_at ts j n) (λ j. schema_at ts j (suc n)) n c.roots.items h) (alternative_levels (λ j. schema_at ts j n) (λ j. schema_at ts j (suc n)) n (behind c.addeds) h)
   plain_levels (Containing i) = to_leaf tt
+  plain_levels (OpenKind o) = to_leaf tt
 
   contained_levels : (o : Option Kind) → ToLevels (suc n) (at_place (λ k. plain_at ts k (suc n)) o) (at_place (λ k. plain_at ts k (suc (suc n))) o)
   contained_levels None = to_leaf tt
@@ -78,6 +81,7 @@ module _ (ts : List Kind) (n : ℕ) (h : (j : ℕ) → ToLevels n (schema_at ts 
   kind_levels (RecordKind r) = plain_levels (RecordKind r)
   kind_levels (ChoiceKind c) = plain_levels (ChoiceKind c)
   kind_levels (Containing i) = to_containing (contained_levels (slice_get ts i))
+  kind_levels (OpenKind o) = plain_levels (OpenKind o)
 
 none_levels : (ts : List Kind) (i n : ℕ) → slice_get ts i ≡ None → ToLevels n (schema_at ts i n) (schema_at ts i (suc n))
 none_levels ts i n e = rw (none_there ts i e n, none_there ts i e (suc n)) (to_leaf tt)

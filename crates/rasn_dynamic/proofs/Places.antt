@@ -22,7 +22,8 @@ use Rattle.rasn_schema.specs.declared.items.Place.TheVariants.{Root, Added}
 use Rattle.rasn_traits.specs.Counted.{all_may_be, is_of_kind, item_at, stands_in, WritesNothing, WritesOther}
 use Rattle.rasn_dynamic.specs.declared.types.Choice.{Choice}
 use Rattle.rasn_dynamic.specs.declared.types.Kind.{Kind}
-use Rattle.rasn_dynamic.specs.declared.types.Kind.TheVariants.{Simple as SimpleKind, List as ListKind, SetOf, Record as RecordKind, Choice as ChoiceKind, Containing}
+use Rattle.rasn_dynamic.specs.declared.types.Kind.TheVariants.{Simple as SimpleKind, List as ListKind, SetOf, Record as RecordKind, Choice as ChoiceKind, Containing, Open as OpenKind}
+use Rattle.rasn_dynamic.specs.declared.types.ObjectSet.{ObjectSet}
 use Rattle.rasn_dynamic.specs.declared.types.Record.{Record}
 use Rattle.rasn_dynamic.specs.declared.types.Simple.{Simple}
 use Rattle.rasn_dynamic.specs.Types.{at_place, choice_of, contained_at, kind_in, of_size, plain_at, record_schema, schema_at, simple_schema}
@@ -54,6 +55,8 @@ kind_plain ts (RecordKind r) h (suc n) = refl
 kind_plain ts (ChoiceKind c) h zero = refl
 kind_plain ts (ChoiceKind c) h (suc n) = refl
 kind_plain ts (Containing j) h n = absurd (h j refl)
+kind_plain ts (OpenKind o) h zero = refl
+kind_plain ts (OpenKind o) h (suc n) = refl
 
 pub plain_there : (ts : List Kind) (i : ℕ) (k : Kind) → slice_get ts i ≡ Some k → ((j : ℕ) → k ≡ Containing j → ⊥) → (n : ℕ) → schema_at ts i n ≡ plain_at ts k n
 plain_there ts i k e h n = place_there ts i k e n ∙ kind_plain ts k h n
@@ -90,6 +93,10 @@ record_plain ts r (suc n) = refl
 pub choice_plain : (ts : List Kind) (c : Choice) (n : ℕ) → plain_at ts (ChoiceKind c) n ≡ one_level_in (choice_of ts c) n
 choice_plain ts c zero = refl
 choice_plain ts c (suc n) = refl
+
+pub open_plain : (ts : List Kind) (o : ObjectSet) (n : ℕ) → plain_at ts (OpenKind o) n ≡ Schemas.any
+open_plain ts o zero = refl
+open_plain ts o (suc n) = refl
 
 pub containing_plain : (ts : List Kind) (j n : ℕ) → plain_at ts (Containing j) n ≡ Schemas.real
 containing_plain ts j zero = refl

@@ -42,6 +42,7 @@ use Rattle.rasn_dynamic.specs.declared.types.Simple.TheVariants.{Null, ObjectIde
 use Rattle.rasn_dynamic.specs.declared.types.Kind.{Kind}
 use Rattle.rasn_dynamic.specs.declared.types.Kind.TheVariants.{Simple as SimpleKind, List as ListKind, SetOf}
 use Rattle.rasn_dynamic.specs.declared.types.Kind.TheVariants.{Record as RecordKind, Choice as ChoiceKind, Containing}
+use Rattle.rasn_dynamic.specs.declared.types.Kind.TheVariants.{Open as OpenKind}
 
 -- how many items there are before the extension marker, and behind it
 abbrev pub counts_of : Items → ItemCounts
@@ -191,6 +192,7 @@ plain_in ts s n (RecordKind r) = one_level n (Schemas.sequence listed (parts_in 
     (is_some r.additions) (parts_in (grouped ts) s (behind r.additions)))
 plain_in ts s n (ChoiceKind c) = one_level n (choice_in s c)
 plain_in ts s n (Containing i) = Schemas.real
+plain_in ts s n (OpenKind o) = Schemas.any
 
 -- what stands at a place; where nothing does it is REAL, which has no encoding
 abbrev pub at_place : (Kind → Schema) → Option Kind → Schema

@@ -44,7 +44,7 @@ pub enum Simple {
     Text,
     /// OBJECT IDENTIFIER (X.691 24).
     ObjectIdentifier,
-    /// An open type whose type isn't told (X.691 11.2).
+    /// An open type whose type nothing tells (X.691 11.2).
     Open,
 }
 
@@ -97,7 +97,7 @@ pub enum Presence {
     Default(DefaultValue),
 }
 
-/// The default of a component.
+/// A value that a table states: the default of a component, or one by which an object set tells a type.
 #[derive(Drop)]
 pub enum DefaultValue {
     /// Of BOOLEAN.
@@ -167,6 +167,29 @@ pub enum Kind {
     Choice(Choice),
     /// Octets that contain a value (X.682 11): the place of its type, which isn't itself such octets.
     Containing(usize),
+    /// An open type whose type an object set tells (X.682 10).
+    Open(ObjectSet),
+}
+
+/// Which type an open type is, by the value of another component (X.682 10).
+#[derive(Drop)]
+pub struct ObjectSet {
+    /// Where that component is among those of the SEQUENCE that has the open type as a component: those of the root
+    /// come first, then additions.
+    pub chooser: usize,
+    /// The types that it may be.
+    pub rows: Vec<Row>,
+}
+
+/// A type that an open type may be.
+#[derive(Drop)]
+pub struct Row {
+    /// The value of the other component.
+    pub value: DefaultValue,
+    /// The name of the type.
+    pub name: String,
+    /// The place of the type.
+    pub of: usize,
 }
 
 /// The components of a record (X.680 25).

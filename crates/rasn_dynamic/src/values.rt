@@ -38,7 +38,8 @@ pub enum Value {
     Bag(Vec<Value>),
     /// Of SEQUENCE and SET: its root components, and its additions.
     Fields(Vec<Value>, Vec<Value>),
-    /// Of CHOICE: where its alternative stands, and the value of this.
+    /// Of CHOICE: where its alternative stands, and the value of this. Of an open type that its octets were read from:
+    /// which row of the object set it is, as a root alternative, and the value.
     Alternative(Place, Box<Value>),
 }
 

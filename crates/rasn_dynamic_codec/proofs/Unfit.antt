@@ -20,7 +20,7 @@ use Rattle.rasn_dynamic_codec.specs.OneAddition.{normal_addition}
 use Rattle.rasn_dynamic_codec.proofs.OneAddition.{addition_normal}
 use Rattle.rasn_dynamic.specs.declared.types.Component.{Component}
 use Rattle.rasn_dynamic.specs.declared.types.Kind.{Kind}
-use Rattle.rasn_dynamic.specs.declared.types.Kind.TheVariants.{Simple as SimpleKind, List as ListKind, SetOf, Record as RecordKind, Choice as ChoiceKind, Containing}
+use Rattle.rasn_dynamic.specs.declared.types.Kind.TheVariants.{Simple as SimpleKind, List as ListKind, SetOf, Record as RecordKind, Choice as ChoiceKind, Containing, Open as OpenKind}
 use Rattle.rasn_dynamic.proofs.Places.{record_there}
 use Rattle.rasn_dynamic.specs.declared.types.Presence.{Presence}
 use Rattle.rasn_dynamic.specs.declared.types.Presence.TheVariants.{Default, Group, Optional, Required}
@@ -118,6 +118,7 @@ sequence_group ts i b e n = go (slice_get ts i) refl e
     go (Some (SetOf j c)) q f = absurd cc
     go (Some (ChoiceKind c)) q f = absurd cc
     go (Some (Containing j)) q f = absurd cc
+    go (Some (OpenKind s)) q f = absurd cc
 
 addeds_there : (g : Component → Bool) (s : ℕ → Schema) (o : Option (Vec Component)) → addeds_of (added_count o) ≡ count (parts_in g s (behind o))
 addeds_there g s None = refl

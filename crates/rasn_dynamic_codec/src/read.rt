@@ -17,7 +17,7 @@ ghost use Rattle.rasn_dynamic.specs.Types.{choice_of, contained_at, default_valu
 ghost use Rattle.rasn_dynamic.specs.Types.{parts_at, plain_at, presence_of, record_schema, schema_at, standing};
 ghost use Rattle.rasn_dynamic.specs.Values.{slot_of, value_of};
 
-use crate::read_simple::{decode_nothing, decode_simple};
+use crate::read_simple::{decode_any, decode_nothing, decode_simple};
 use rasn_constraints::constraints::{Constraint, Constraints};
 use rasn_dynamic::types::{
     Choice, Component, DefaultValue, Kind, Presence, Record, SizeBounds, kind_at,
@@ -111,6 +111,7 @@ fn decode_plain<D: CountedDecoder>(
         Kind::Record(record) => decode_record(decoder, kinds, record),
         Kind::Choice(choice) => decode_choice(decoder, kinds, choice),
         Kind::Containing(_) => decode_nothing(decoder),
+        Kind::Open(_) => decode_any(decoder),
     }
 }
 

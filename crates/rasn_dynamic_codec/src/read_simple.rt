@@ -214,7 +214,7 @@ fn decode_identifier<D: CountedDecoder>(decoder: &mut D) -> Result<Value, D::Err
 }
 
 /// Reads the octets of an open type.
-fn decode_any<D: CountedDecoder>(decoder: &mut D) -> Result<Value, D::Error>
+pub(crate) fn decode_any<D: CountedDecoder>(decoder: &mut D) -> Result<Value, D::Error>
     ensures { ReadsValue D.rules Schema.any decoder.old result decoder.new }
 {
     let octets = decoder.decode_any(Tag::EOC)?;

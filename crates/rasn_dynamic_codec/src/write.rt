@@ -18,7 +18,7 @@ ghost use Rattle.rasn_dynamic.specs.Types.{parts_at, plain_at, presence_of, reco
 ghost use Rattle.rasn_dynamic.specs.Values.{levels_of, slot_of, value_of};
 ghost use Rattle.rasn_dynamic_codec.specs.Writes.{fit, may_stand, GivesOpen, GivesSettled, OpensChosen, WritesOne};
 
-use crate::write_simple::encode_simple;
+use crate::write_simple::{encode_any, encode_simple};
 use rasn_constraints::constraints::{Constraint, Constraints};
 use rasn_dynamic::types::{
     Choice, Component, DefaultValue, Kind, Presence, Record, SizeBounds, kind_at,
@@ -118,6 +118,7 @@ fn encode_plain<E: CountedEncoder>(
         Kind::Record(record) => encode_record(encoder, kinds, record, value),
         Kind::Choice(choice) => encode_choice(encoder, kinds, choice, value),
         Kind::Containing(_) => encoder.refuse_other(),
+        Kind::Open(_) => encode_any(encoder, value),
     }
 }
 

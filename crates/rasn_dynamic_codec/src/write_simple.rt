@@ -320,7 +320,7 @@ fn arcs_in(octets: &Any) -> Result<Vec<u32>, BerError>
 }
 
 /// Writes the octets of an open type.
-fn encode_any<E: CountedEncoder>(encoder: &mut E, value: &Value) -> Result<(), E::Error>
+pub(crate) fn encode_any<E: CountedEncoder>(encoder: &mut E, value: &Value) -> Result<(), E::Error>
     ensures { Encodes E.rules (always Schema.any) (levels_of value.now) (value_of value.now)
         encoder.old result encoder.new }
 {

@@ -13,7 +13,7 @@ use Rattle.rasn_schema.specs.Bags.{set_at}
 use Rattle.rasn_dynamic.specs.Values.{value_of}
 use Rattle.rasn_dynamic_codec.proofs.OneAddition.{addition_unread}
 use Rattle.rasn_dynamic_codec.proofs.BagsReading.{bag_answered, bag_refused}
-use Rattle.rasn_dynamic.proofs.Places.{choice_plain, contained_none, contained_there, containing_plain, containing_there, list_plain, none_there, plain_there, record_plain, set_plain, simple_plain}
+use Rattle.rasn_dynamic.proofs.Places.{choice_plain, contained_none, contained_there, containing_plain, containing_there, list_plain, none_there, open_plain, plain_there, record_plain, set_plain, simple_plain}
 use Rattle.rasn_dynamic_codec.proofs.Presences.{group_left}
 use Rattle.rasn_dynamic_codec.proofs.Reading.{contents_unread, default_added, default_taken, given_read, inside_unread, lacking_read, none_given, none_opened, octets_unended, octets_unopened, onward_all, onward_fails, onward_read, onward_room, open_unended, read_additions, read_components, reads_same, required_taken, slotted}
 use Rattle.rasn_dynamic.proofs.Trees.{absent_slot, bag_slot, elements_slot, fields_slot, slot_there, value_there, alternative_slot}
@@ -433,6 +433,9 @@ decode_plain-returns-in-Choice g t c = rw c.in-Choice.is (reads_same _ _ _ _ _ (
 
 pub decode_plain-returns-in-Containing : goal.decode_plain-returns-in-Containing
 decode_plain-returns-in-Containing g t c = rw c.in-Containing.is (reads_same _ _ _ _ _ (containing_plain c.args.kinds.now c.in-Containing.field-0 (g.D.Decoder.rules.levels c.args.decoder.now)) c.decode_nothing.ensures)
+
+pub decode_plain-returns-in-Open : goal.decode_plain-returns-in-Open
+decode_plain-returns-in-Open g t c = rw c.in-Open.is (reads_same _ _ _ _ _ (open_plain c.args.kinds.now c.in-Open.field-0 (g.D.Decoder.rules.levels c.args.decoder.now)) c.decode_any.ensures)
 
 pub decode_contained-returns-in-None : goal.decode_contained-returns-in-None
 decode_contained-returns-in-None g t c =

@@ -13,14 +13,14 @@ use Rattle.rasn_dynamic_codec.proofs.Members.{awaits_member, bags}
 use Rattle.rasn_dynamic_codec.proofs.Elements.{awaits_element, closed, element_refused, lists, next_refused, opened, unopened}
 use Rattle.rasn_dynamic.specs.declared.values.Value.TheVariants.{rolls-Bag, rolls-Elements, rolls-Fields, rolls-Alternative}
 use Rattle.rasn_dynamic.specs.Types.{behind, contained_at, grouped, in_root, is_not_required, of_size, parts_at, plain_at, record_schema, required_in, schema_at, simple_schema, alternative_counts, choice_of}
-use Rattle.rasn_dynamic.specs.declared.types.Kind.TheVariants.{Simple as SimpleKind, List as ListKind, SetOf, Record as RecordKind, Choice as ChoiceKind, Containing}
+use Rattle.rasn_dynamic.specs.declared.types.Kind.TheVariants.{Simple as SimpleKind, List as ListKind, SetOf, Record as RecordKind, Choice as ChoiceKind, Containing, Open as OpenKind}
 use Rattle.rasn_dynamic.specs.declared.types.Presence.TheVariants.{Group}
 use Rattle.rasn_schema.specs.Bags.{set_at}
 use Rattle.rasn_schema.specs.Normal.{normal}
 use Rattle.rasn_dynamic.specs.Values.{levels_of, slot_of, value_of}
 use Rattle.rasn_dynamic_codec.specs.Writes.{fit}
 use Rattle.rasn_dynamic_codec.proofs.Components.{additions, components, onward_ended, onward_index, onward_presented, onward_refused, onward_stands}
-use Rattle.rasn_dynamic.proofs.Places.{choice_plain, contained_none, contained_there, containing_plain, containing_there, encodes_same, encodes_value, list_plain, no_bag, no_list, no_place, no_record, nothing_written, other_refused, other_refused_within, plain_there, record_plain, set_plain, simple_plain}
+use Rattle.rasn_dynamic.proofs.Places.{choice_plain, contained_none, contained_there, containing_plain, containing_there, encodes_same, encodes_value, list_plain, no_bag, no_list, no_place, no_record, nothing_written, open_plain, other_refused, other_refused_within, plain_there, record_plain, set_plain, simple_plain}
 use Rattle.rasn_dynamic_codec.proofs.Presences.{absent_written, default_left, default_open, default_skipped, default_there, default_unmarked, no_other, open_written, required_there, skipped_written, stands_there, surplus_refused, there_written, unmarked_part}
 use Rattle.rasn_dynamic.proofs.Trees.{bag_levels, bag_value, deepest_at, elements_levels, elements_value, fields_levels, fields_value, not_bag, not_elements, not_fields, alternative_levels, alternative_value, not_alternative}
 use Rattle.rasn_dynamic_codec.proofs.Unfit.{record_counted, record_unopened, sequence_group, unfit_added, unfit_root, unmarked_none}
@@ -387,6 +387,12 @@ encode_plain-returns-in-Containing g t c =
     let v = c.args.value.now in
     let ts = c.args.kinds.now in
     rw c.in-Containing.is (encodes_same (plain_at ts (Containing c.in-Containing.field-0)) (always Schemas.real) (levels_of v) (value_of v) _ _ _ (containing_plain ts c.in-Containing.field-0) (other_refused (always Schemas.real) (levels_of v) (value_of v) _ _ _ c.refuse_other.ensures (λ n. refl)))
+
+pub encode_plain-returns-in-Open : goal.encode_plain-returns-in-Open
+encode_plain-returns-in-Open g t c =
+    let v = c.args.value.now in
+    let ts = c.args.kinds.now in
+    rw c.in-Open.is (encodes_same (plain_at ts (OpenKind c.in-Open.field-0)) (always Schemas.any) (levels_of v) (value_of v) _ _ _ (open_plain ts c.in-Open.field-0) c.encode_any.ensures)
 
 pub encode_contained-returns-in-None : goal.encode_contained-returns-in-None
 encode_contained-returns-in-None g t c =
