@@ -11,7 +11,7 @@ use Rattle.rasn_dynamic.specs.declared.types.DefaultValue.{DefaultValue}
 use Rattle.rasn_dynamic.specs.declared.types.DefaultValue.TheVariants
 use Rattle.rasn_dynamic.specs.declared.types.Items.{Items}
 use Rattle.rasn_dynamic.specs.declared.types.Kind.{Kind}
-use Rattle.rasn_dynamic.specs.declared.types.Kind.TheVariants.{Simple as SimpleKind, List as ListKind, SetOf, Record as RecordKind, Choice as ChoiceKind, Containing}
+use Rattle.rasn_dynamic.specs.declared.types.Kind.TheVariants.{Simple as SimpleKind, List as ListKind, SetOf, Record as RecordKind, Choice as ChoiceKind, Containing, Open as OpenKind}
 use Rattle.rasn_dynamic.specs.declared.types.Simple.{Simple}
 use Rattle.rasn_dynamic.specs.declared.types.Simple.TheVariants.{Enumerated}
 use Rattle.rasn_dynamic.specs.Types.{at_place, default_value, kind_in, plain_in, schema_at, simple_schema}
@@ -39,6 +39,7 @@ module _ (ts : List Kind) (s : ℕ → Schema) where
   plain_stays n d (SimpleKind k) e = simple_stays d k e
   plain_stays zero d _ e = refl
   plain_stays (suc n) TheVariants.NoElements (ListKind i c) e = refl
+  plain_stays n d (OpenKind o) e = refl
   plain_stays n d _ e = absurd cc
 
   within_stays : (n : ℕ) (d : DefaultValue) (o : Option Kind) → is_default_within d o ≡ true → Stays (at_place (plain_in ts s n) o) d
@@ -54,6 +55,7 @@ module _ (ts : List Kind) (s : ℕ → Schema) where
   place_stays n d (Some (SetOf i c)) e = plain_stays n d (SetOf i c) e
   place_stays n d (Some (RecordKind r)) e = plain_stays n d (RecordKind r) e
   place_stays n d (Some (ChoiceKind c)) e = plain_stays n d (ChoiceKind c) e
+  place_stays n d (Some (OpenKind o)) e = plain_stays n d (OpenKind o) e
 
 pub cut_keeps : (ts : List Kind) → KeepDefaults ts (λ j. Schemas.cut)
 unfolding project

@@ -6,6 +6,7 @@ use Rattle.rasn_constraints.specs.Constraints.{bounds_of, size_between}
 use Rattle.rasn_constraints.specs.declared.constraints.Bounded.{Bounded}
 use Rattle.rasn_constraints.specs.declared.constraints.Extensible.{Extensible}
 use Rattle.rasn_schema.specs.Fields.{tag_of}
+use Rattle.rasn_schema.specs.Schemas
 use Rattle.rasn_schema.specs.Schemas.{Schema}
 use Rattle.per_core.specs.Versions.{Newer, NewerParts, NewerPresence, project}
 use Rattle.rasn_dynamic.specs.declared.types.Alternative.{Alternative}
@@ -39,6 +40,10 @@ pub record AreVersions (ts : List Kind) (ps : List Pair) (s' s : ℕ → Schema)
 abbrev pub IsNewerPlain : List Kind → List Kind → List Pair → Kind → Kind → Type 0
 IsNewerPlain ts' ts ps k' k = (s' s : ℕ → Schema) (n : ℕ) → AreVersions ts ps s' s
     → Newer (plain_in ts' s' n k') (plain_in ts s n k)
+
+-- X.691 11.2: an open type
+abbrev pub IsOpen : Kind → Type 0
+IsOpen k = (ts : List Kind) (s : ℕ → Schema) (n : ℕ) → plain_in ts s n k ≡ Schemas.any
 
 -- what stands within octets that contain it, if anything does
 abbrev pub IsNewerWithin : List Kind → List Kind → List Pair → Option Kind → Option Kind → Type 0

@@ -1,15 +1,15 @@
 //! Whether a type is a newer version of another, wherever what stands within is.
 
-ghost use Rattle.std.specs.Prelude.{IfOk, List, slice_get};
+ghost use Rattle.std.specs.Prelude.{◌≡◌, IfOk, List, slice_get, true};
 ghost use Rattle.rasn_dynamic.specs.declared.types.Kind.{Kind};
 ghost use Rattle.dynamic_versions.specs.OneLevel.{IsFront, IsListed, IsNewerKind, IsNewerPair, IsNewerPlain};
-ghost use Rattle.dynamic_versions.specs.OneLevel.{IsNewerWithin, IsSameSize};
+ghost use Rattle.dynamic_versions.specs.OneLevel.{IsNewerWithin, IsOpen, IsSameSize};
 
 use crate::components::{compare_alternatives, compare_components};
 use crate::fault::Reason;
 use crate::pairs::{Pair, list};
 use crate::simple::{compare_simple, have_same_size};
-use rasn_dynamic::types::{Choice, Kind, Record, SizeBounds};
+use rasn_dynamic::types::{Choice, Kind, Record, Simple, SizeBounds};
 
 /// Compares what stands at the places of a pair, where something does.
 pub(crate) fn compare_at(
@@ -101,7 +101,19 @@ fn compare_plain(
             compare_records(newer_kinds, older_kinds, newer, older, pairs)
         }
         (Kind::Choice(newer), Kind::Choice(older)) => compare_choices(newer, older, pairs),
+        _ if is_open(newer) && is_open(older) => Ok(()),
         _ => Err(Reason::Kind),
+    }
+}
+
+/// Whether a type is an open type.
+fn is_open(kind: &Kind) -> bool
+    ensures { result ≡ true → IsOpen kind.now }
+{
+    match kind {
+        Kind::Open(_) => true,
+        Kind::Simple(simple) => matches!(simple, Simple::Open),
+        _ => false,
     }
 }
 

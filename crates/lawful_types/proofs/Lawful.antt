@@ -16,11 +16,12 @@ use Rattle.rasn_dynamic.specs.declared.types.Component.{Component}
 use Rattle.rasn_dynamic.specs.declared.types.DefaultValue.{DefaultValue}
 use Rattle.rasn_dynamic.specs.declared.types.DefaultValue.TheVariants
 use Rattle.rasn_dynamic.specs.declared.types.Kind.{Kind}
-use Rattle.rasn_dynamic.specs.declared.types.Kind.TheVariants.{Simple as SimpleKind, List as ListKind, SetOf, Record as RecordKind, Choice as ChoiceKind, Containing}
+use Rattle.rasn_dynamic.specs.declared.types.Kind.TheVariants.{Simple as SimpleKind, List as ListKind, SetOf, Record as RecordKind, Choice as ChoiceKind, Containing, Open as OpenKind}
 use Rattle.rasn_dynamic.specs.declared.types.Presence.{Presence}
 use Rattle.rasn_dynamic.specs.declared.types.Presence.TheVariants.{Default, Group, Optional, Required}
 use Rattle.rasn_dynamic.specs.declared.types.Simple.{Simple}
 use Rattle.rasn_dynamic.specs.declared.types.Simple.TheVariants.{BitString, Boolean, Characters, Integer, NamedBits, OctetString}
+use Rattle.rasn_dynamic.specs.declared.types.Simple.TheVariants as Simples
 use Rattle.rasn_dynamic.specs.Types.{alternatives_in, at_place, behind, default_value, grouped, in_root, is_not_required, kind_in, parts_in, plain_in, presence_of, required_in, schema_at, simple_schema}
 use Rattle.rasn_dynamic.proofs.Levelled.{schema_levels}
 use Rattle.rasn_dynamic.proofs.SameDefaults.{same_self}
@@ -63,6 +64,7 @@ module _ (ts : List Kind) (s : ℕ → Schema) where
   plain_value (suc n) TheVariants.Null (ChoiceKind c) e = refl
   plain_value (suc n) _ (ChoiceKind c) e = refl
   plain_value n d (Containing i) e = refl
+  plain_value n d (OpenKind o) e = simple_value d Simples.Open
 
   plain_uncut : (n : ℕ) (d : DefaultValue) (k : Kind) → meets_cut (plain_in ts s (suc n) k) (default_value d) ≡ false
   unfolding meets_cut
@@ -77,6 +79,7 @@ module _ (ts : List Kind) (s : ℕ → Schema) where
   plain_uncut n TheVariants.Null (ChoiceKind c) = refl
   plain_uncut n _ (ChoiceKind c) = refl
   plain_uncut n d (Containing i) = refl
+  plain_uncut n d (OpenKind o) = refl
 
   within_value : (n : ℕ) (d : DefaultValue) (o : Option Kind) → meets_cut (at_place (plain_in ts s n) o) (default_value d) ≡ false → is_right (at_place (plain_in ts s n) o) d ≡ is_default_within d o
   unfolding is_value
@@ -97,6 +100,7 @@ module _ (ts : List Kind) (s : ℕ → Schema) where
   place_value n d (Some (SetOf i c)) e = plain_value n d (SetOf i c) e
   place_value n d (Some (RecordKind r)) e = plain_value n d (RecordKind r) e
   place_value n d (Some (ChoiceKind c)) e = plain_value n d (ChoiceKind c) e
+  place_value n d (Some (OpenKind o)) e = plain_value n d (OpenKind o) e
 
   place_uncut : (n : ℕ) (d : DefaultValue) (o : Option Kind) → meets_cut (at_place (kind_in ts s (suc n)) o) (default_value d) ≡ false
   unfolding meets_cut
@@ -107,6 +111,7 @@ module _ (ts : List Kind) (s : ℕ → Schema) where
   place_uncut n d (Some (SetOf i c)) = plain_uncut n d (SetOf i c)
   place_uncut n d (Some (RecordKind r)) = plain_uncut n d (RecordKind r)
   place_uncut n d (Some (ChoiceKind c)) = plain_uncut n d (ChoiceKind c)
+  place_uncut n d (Some (OpenKind o)) = plain_uncut n d (OpenKind o)
 
   module _ (n : ℕ) (d : DefaultValue) (o : Option Kind) where
     abbrev of_kind : Bool
@@ -147,6 +152,7 @@ group_in ts s zero (Some (RecordKind r)) e = refl
 group_in ts s (suc n) (Some (RecordKind r)) e = refl
 group_in ts s n (Some (ChoiceKind c)) e = absurd cc
 group_in ts s n (Some (Containing i)) e = absurd cc
+group_in ts s n (Some (OpenKind o)) e = absurd cc
 
 group_at : (ts : List Kind) (n i : ℕ) → is_some (required_in (slice_get ts i)) ≡ true → is_group_schema (schema_at ts i n) ≡ true
 unfolding schema_at
@@ -264,6 +270,7 @@ module _ (ts : List Kind) (s : ℕ → Schema) (lawful : (j : ℕ) → IsLawful 
       alternatives_lawful (behind c.addeds),
     )
     plain_lawful n (Containing i) h = tt
+    plain_lawful n (OpenKind o) h = tt
 
     module _ (all : (i : ℕ) (k : Kind) → slice_get ts i ≡ Some k → is_lawful_kind ts k ≡ true) where
       within_lawful : (n i : ℕ) (o : Option Kind) → slice_get ts i ≡ o → IsLawful (at_place (plain_in ts s n) o)
@@ -279,6 +286,7 @@ module _ (ts : List Kind) (s : ℕ → Schema) (lawful : (j : ℕ) → IsLawful 
       kind_lawful n (SetOf i c) h = plain_lawful n (SetOf i c) h
       kind_lawful n (RecordKind r) h = plain_lawful n (RecordKind r) h
       kind_lawful n (ChoiceKind c) h = plain_lawful n (ChoiceKind c) h
+      kind_lawful n (OpenKind o) h = plain_lawful n (OpenKind o) h
 
       place_is_lawful : (n i : ℕ) (o : Option Kind) → slice_get ts i ≡ o → IsLawful (at_place (kind_in ts s n) o)
       unfolding IsLawful

@@ -4,6 +4,7 @@ use Rattle.rasn_schema.specs.Lawful.{all_pass}
 use Rattle.rasn_dynamic.specs.declared.types.Kind.{Kind}
 use Rattle.rasn_dynamic.specs.declared.types.Kind.TheVariants.{Simple as SimpleKind, List as ListKind, SetOf}
 use Rattle.rasn_dynamic.specs.declared.types.Kind.TheVariants.{Record as RecordKind, Choice as ChoiceKind, Containing}
+use Rattle.rasn_dynamic.specs.declared.types.Kind.TheVariants.{Open as OpenKind}
 use Rattle.rasn_dynamic.specs.declared.types.Name.{Name}
 use Rattle.rasn_dynamic.specs.Types.{behind}
 use Rattle.lawful_types.specs.declared.places.PastTable.{PastTable}
@@ -19,6 +20,7 @@ is_inside n (RecordKind r) =
 is_inside n (ChoiceKind c) =
     all_pass (λ a. nat_lt a.of n) c.roots.items && all_pass (λ a. nat_lt a.of n) (behind c.addeds)
 is_inside n (Containing i) = nat_lt i n
+is_inside n (OpenKind s) = all_pass (λ r. nat_lt r.of n) s.rows.items
 
 -- whether the place that a name has is below a number of types
 abbrev pub is_name_inside : ℕ → Name → Bool

@@ -20,8 +20,10 @@ use Rattle.rasn_dynamic.specs.declared.types.Presence.TheVariants.{Default}
 use Rattle.rasn_dynamic.specs.declared.types.Kind.{Kind}
 use Rattle.rasn_dynamic.specs.declared.types.Kind.TheVariants.{Simple as SimpleKind, List as ListKind, SetOf}
 use Rattle.rasn_dynamic.specs.declared.types.Kind.TheVariants.{Record as RecordKind, Choice as ChoiceKind, Containing}
+use Rattle.rasn_dynamic.specs.declared.types.Kind.TheVariants.{Open as OpenKind}
 use Rattle.rasn_dynamic.specs.declared.types.Simple.{Simple}
 use Rattle.rasn_dynamic.specs.declared.types.Simple.TheVariants.{BitString, Characters, Integer, NamedBits, OctetString}
+use Rattle.rasn_dynamic.specs.declared.types.Simple.TheVariants.{Open}
 use Rattle.rasn_dynamic.specs.Types.{behind, default_value, is_not_required, of_size, schema_at, simple_schema}
 use Rattle.lawful_types.specs.declared.fault.Fault.{Fault}
 use Rattle.lawful_types.specs.declared.fault.Reason.{Reason}
@@ -84,6 +86,7 @@ is_default_of_simple d k = is_value (simple_schema k) (default_value d)
 abbrev pub is_default_of_plain : DefaultValue → Kind → Bool
 is_default_of_plain d (SimpleKind k) = is_default_of_simple d k
 is_default_of_plain NoElements (ListKind i c) = true
+is_default_of_plain d (OpenKind s) = is_default_of_simple d Open
 is_default_of_plain d k = false
 
 -- whether a default is a value of what octets contain

@@ -60,6 +60,7 @@ fn is_default_of_plain(default: &DefaultValue, kind: &Kind) -> bool
     match kind {
         Kind::Simple(simple) => is_default_of_simple(default, simple),
         Kind::List(_, _) => matches!(default, DefaultValue::NoElements),
+        Kind::Open(_) => are_octets(default),
         _ => false,
     }
 }

@@ -4,7 +4,7 @@ ghost use Rattle.std.specs.Prelude.{◌≡◌, length, MatchOption, MatchResult,
 ghost use Rattle.rasn_schema.specs.Lawful.{all_pass};
 ghost use Rattle.lawful_types.specs.Inside.{AreAllInside, FailsAt, is_inside, is_name_inside, IsPastTable};
 
-use rasn_dynamic::types::{Alternative, Component, Kind, Name, Types};
+use rasn_dynamic::types::{Alternative, Component, Kind, Name, Row, Types};
 use thiserror::Error;
 
 /// What names a place past the table.
@@ -71,6 +71,7 @@ fn is_inside(types: usize, kind: &Kind) -> bool
         Kind::List(of, _) => *of < types,
         Kind::SetOf(of, _) => *of < types,
         Kind::Containing(of) => *of < types,
+        Kind::Open(set) => are_rows_inside(types, &set.rows),
         Kind::Record(record) => {
             are_components_inside(types, &record.root)
                 && are_components_inside(types, record.behind())
@@ -88,6 +89,18 @@ fn are_components_inside(types: usize, components: &[Component]) -> bool
 {
     for component in components {
         if component.of >= types {
+            return false;
+        }
+    }
+    true
+}
+
+/// Whether the types of an object set's rows are below a number of types.
+fn are_rows_inside(types: usize, rows: &[Row]) -> bool
+    ensures { result ≡ all_pass (λ r. nat_lt r.of types) rows.now }
+{
+    for row in rows {
+        if row.of >= types {
             return false;
         }
     }

@@ -10,7 +10,8 @@ use Rattle.rasn_dynamic.specs.declared.types.Types.{Types}
 use Rattle.rasn_dynamic.specs.declared.types.Name.{Name}
 use Rattle.rasn_dynamic.specs.declared.types.Kind.{Kind}
 use Rattle.rasn_dynamic.specs.declared.types.Kind.TheVariants.{Simple, List as ListKind, SetOf, Record as RecordKind}
-use Rattle.rasn_dynamic.specs.declared.types.Kind.TheVariants.{Choice as ChoiceKind, Containing}
+use Rattle.rasn_dynamic.specs.declared.types.Kind.TheVariants.{Choice as ChoiceKind, Containing, Open}
+use Rattle.rasn_dynamic.specs.declared.types.Row.{Row}
 
 -- the types of components
 abbrev pub ComponentsAreInside : ℕ → List Component → Type 0
@@ -30,6 +31,10 @@ pub record ChoiceIsInside (types : ℕ) (choice : Choice) : Type 0 where
   pub roots : AlternativesAreInside types choice.roots.items
   pub addeds : IfSome choice.addeds (λ v. AlternativesAreInside types v.items)
 
+-- the types that an open type may be
+abbrev pub RowsAreInside : ℕ → List Row → Type 0
+RowsAreInside types rows = All (λ r. r.of < types) rows
+
 -- the types that stand in a type
 abbrev pub KindIsInside : ℕ → Kind → Type 0
 KindIsInside types (Simple _) = Unit {0}
@@ -38,6 +43,7 @@ KindIsInside types (SetOf of _) = of < types
 KindIsInside types (RecordKind components) = RecordIsInside types components
 KindIsInside types (ChoiceKind alternatives) = ChoiceIsInside types alternatives
 KindIsInside types (Containing of) = of < types
+KindIsInside types (Open set) = RowsAreInside types set.rows.items
 
 -- every place in a table, and every place that a name has, is one of the table
 pub record PlacesAreInside (types : Types) : Type 0 where

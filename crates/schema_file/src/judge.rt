@@ -2,11 +2,13 @@
 
 ghost use Rattle.std.specs.Prelude.{◌<◌, length, OnOk};
 ghost use Rattle.schema_file.specs.Inside.{ComponentsAreInside, AlternativesAreInside, RecordIsInside, ChoiceIsInside};
-ghost use Rattle.schema_file.specs.Inside.{KindIsInside};
+ghost use Rattle.schema_file.specs.Inside.{KindIsInside, RowsAreInside};
 
 use crate::error::Reason;
 use crate::lists::{names_differ, push_names, tags_ascend, tags_differ};
-use rasn_dynamic::types::{Alternative, Choice, Component, Items, Kind, Presence, Record, Simple};
+use rasn_dynamic::types::{
+    Alternative, Choice, Component, Items, Kind, Presence, Record, Row, Simple,
+};
 use rasn_types::types::Tag;
 use std::alloc::Global;
 
@@ -23,6 +25,7 @@ pub fn judge(alloc: Global, kinds: &[Kind], kind: &Kind, names: &mut usize) -> R
         Kind::List(of, _) | Kind::SetOf(of, _) | Kind::Containing(of) => judge_place(kinds, *of),
         Kind::Record(record) => judge_record(alloc, kinds, record, names),
         Kind::Choice(choice) => judge_choice(alloc, kinds, choice),
+        Kind::Open(set) => judge_rows(kinds, &set.rows),
     }
 }
 
@@ -35,6 +38,23 @@ fn judge_place(kinds: &[Kind], place: usize) -> Result<(), Reason>
     } else {
         Err(Reason::NoSuchPlace)
     }
+}
+
+/// Refuses a place past the table in a row of an object set.
+fn judge_rows(kinds: &[Kind], rows: &[Row]) -> Result<(), Reason>
+    ensures { OnOk result (RowsAreInside (length kinds.now) rows.now) }
+{
+    for row in rows {
+        judge_row(kinds, row)?;
+    }
+    Ok(())
+}
+
+/// Refuses a place past the table in a row.
+fn judge_row(kinds: &[Kind], row: &Row) -> Result<(), Reason>
+    ensures { OnOk result (row.now.of < length kinds.now) }
+{
+    judge_place(kinds, row.of)
 }
 
 /// Refuses a place past the table, and a CHOICE whose tag is that of no type.

@@ -2,13 +2,15 @@
 
 use crate::error::Reason;
 use crate::parts::{choice, items, record};
-use crate::values::{MOST_LEVELS, skip_value};
+use crate::values::{MOST_LEVELS, default_value, skip_value};
 use crate::words::Words;
-use rasn_dynamic::types::{CharacterString, CharacterType, Kind, Simple};
+use rasn_dynamic::types::{
+    CharacterString, CharacterType, DefaultValue, Kind, ObjectSet, Row, Simple,
+};
 use std::alloc::Global;
 
-/// What a line says of a type, in a table of so many. Places are judged later, but those of an open type's rows, which
-/// aren't kept.
+/// What a line says of a type, in a table of so many. Places are judged later, but those of an open type's rows, of which
+/// not all are kept.
 pub fn kind(alloc: Global, line: &str, types: usize) -> Result<Kind, Reason> {
     let mut words = Words::new(line);
     let kind = kind_in(alloc, &mut words, types)?;
@@ -24,10 +26,7 @@ fn kind_in(alloc: Global, words: &mut Words<'_>, types: usize) -> Result<Kind, R
         "sequence_of" => Kind::List(words.count()?, words.size()?),
         "set_of" => Kind::SetOf(words.count()?, words.size()?),
         "containing" => Kind::Containing(words.count()?),
-        "open_type" => {
-            rows(words, types)?;
-            Kind::Simple(Simple::Open)
-        }
+        "open_type" => open_type(alloc, words, types)?,
         word => Kind::Simple(simple(alloc, word, words)?),
     };
     Ok(kind)
@@ -69,29 +68,38 @@ fn characters(alloc: Global, word: &str, words: &mut Words<'_>) -> Result<Charac
     Ok(CharacterString { of, size, alphabet })
 }
 
-/// Reads what an open type's line says of the types that it may have, where there is more of it.
-fn rows(words: &mut Words<'_>, types: usize) -> Result<(), Reason> {
+/// An open type, whose line may say which types it may have in a table of so many.
+fn open_type(alloc: Global, words: &mut Words<'_>, types: usize) -> Result<Kind, Reason> {
     if words.is_at_end() {
-        return Ok(());
+        return Ok(Kind::Simple(Simple::Open));
     }
-    words.count()?;
+    let chooser = words.count()?;
     let fixed = words.count_or_none()?;
     let count = words.count()?;
     if count == 0 {
         return Err(Reason::NotNumber);
     }
+    let mut rows = Vec::new(alloc);
     for _ in 0..count {
-        row(words, types, fixed.is_some())?;
+        if let Some(row) = row(alloc, words, types, fixed.is_some())? {
+            rows.push(row)?;
+        }
     }
-    Ok(())
+    Ok(Kind::Open(ObjectSet { chooser, rows }))
 }
 
 /// Reads a row: a value, the name and the place of its type, what the value of another component is, and a presence.
-fn row(words: &mut Words<'_>, types: usize, has_fixed: bool) -> Result<(), Reason> {
-    let head = words.word()?;
-    skip_value(head, words, MOST_LEVELS)?;
-    words.word()?;
-    if words.count()? >= types {
+/// None is kept whose value holds values.
+fn row(
+    alloc: Global,
+    words: &mut Words<'_>,
+    types: usize,
+    has_fixed: bool,
+) -> Result<Option<Row>, Reason> {
+    let value = row_value(alloc, words)?;
+    let name = words.word()?;
+    let of = words.count()?;
+    if of >= types {
         return Err(Reason::NoSuchPlace);
     }
     match words.word()? {
@@ -100,5 +108,22 @@ fn row(words: &mut Words<'_>, types: usize, has_fixed: bool) -> Result<(), Reaso
         _ => return Err(Reason::UnknownWord),
     }
     words.word()?;
-    Ok(())
+    match value {
+        Some(value) => {
+            let name = String::from_str(alloc, name)?;
+            Ok(Some(Row { value, name, of }))
+        }
+        None => Ok(None),
+    }
+}
+
+/// The value by which a row tells a type, where it holds no values.
+fn row_value(alloc: Global, words: &mut Words<'_>) -> Result<Option<DefaultValue>, Reason> {
+    match words.word()? {
+        head @ ("list" | "record" | "chosen") => {
+            skip_value(head, words, MOST_LEVELS)?;
+            Ok(None)
+        }
+        head => Ok(Some(default_value(alloc, head, words)?)),
+    }
 }

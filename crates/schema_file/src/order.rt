@@ -1,6 +1,6 @@
 //! Tags of CHOICEs that have none of their own, and the order of a SET's components.
 
-use rasn_dynamic::types::{Alternative, Component, Kind};
+use rasn_dynamic::types::{Alternative, Component, Kind, Simple};
 use rasn_types::types::Tag;
 use std::alloc::{AllocError, Global};
 
@@ -9,18 +9,58 @@ const MOST_CHOICES: usize = 255;
 
 /// Gives each component and alternative without a tag, which has that of no type, the smallest of the CHOICE that it
 /// is, and puts the root components of the SETs, which stand at some places, in the order of their tags (X.691 21.1).
-/// The only error is want of memory.
+/// Which type an open type in a SET is isn't known then, since its component was told by the other order. The only
+/// error is want of memory.
 pub fn order(alloc: Global, kinds: &mut [Kind], sets: &[usize]) -> Result<(), AllocError> {
     let tags = tags(alloc, kinds)?;
     for kind in kinds.iter_mut() {
         tag_kind(kind, tags.as_slice());
     }
     for place in sets {
+        forget_choosers(kinds, *place);
         if let Some(Kind::Record(record)) = kinds.get_mut(*place) {
             record.root.sort_by_key(|component| component.tag)?;
         }
     }
     Ok(())
+}
+
+/// Forgets which type each open type in the record at a place is.
+fn forget_choosers(kinds: &mut [Kind], place: usize) {
+    for index in 0..part_count(kinds, place) {
+        if let Some(of) = part_type(kinds, place, index) {
+            forget_chooser(kinds, of);
+        }
+    }
+}
+
+/// How many components the record at a place has.
+fn part_count(kinds: &[Kind], place: usize) -> usize {
+    match kinds.get(place) {
+        Some(Kind::Record(record)) => record.root.len().saturating_add(record.behind().len()),
+        _ => 0,
+    }
+}
+
+/// The place of the type of a component of the record at a place, by its index in the root and then the additions.
+fn part_type(kinds: &[Kind], place: usize, index: usize) -> Option<usize> {
+    let Kind::Record(record) = kinds.get(place)? else {
+        return None;
+    };
+    let component = match index.checked_sub(record.root.len()) {
+        Some(added) => record.behind().get(added)?,
+        None => record.root.get(index)?,
+    };
+    Some(component.of)
+}
+
+/// Forgets which type the open type at a place is, where one is there.
+fn forget_chooser(kinds: &mut [Kind], place: usize) {
+    if let Some(kind) = kinds.get_mut(place) {
+        if matches!(kind, Kind::Open(_)) {
+            *kind = Kind::Simple(Simple::Open);
+        }
+    }
 }
 
 /// For each type the tag that it has where none is written: of a CHOICE the smallest of its root alternatives, else
@@ -67,7 +107,8 @@ fn tag_kind(kind: &mut Kind, tags: &[Tag]) {
                 tag_alternatives(addeds, tags);
             }
         }
-        Kind::Simple(_) | Kind::List(_, _) | Kind::SetOf(_, _) | Kind::Containing(_) => {}
+        Kind::Simple(_) | Kind::List(_, _) | Kind::SetOf(_, _) => {}
+        Kind::Containing(_) | Kind::Open(_) => {}
     }
 }
 

@@ -1,5 +1,6 @@
 use Rattle.dynamic_versions.proofs.Oks.{then, then_both}
 use Rattle.dynamic_versions.proofs.Parts.{list_newer, set_newer}
+use Rattle.dynamic_versions.proofs.Within.{open_newer}
 use Rattle.dynamic_versions.proofs.kinds.compare_plain.Goals as goal
 
 pub returns-in-List-List-clause-newer : goal.returns-in-List-List-clause-newer
@@ -18,3 +19,7 @@ pub returns-in-Choice-Choice-clause-newer : goal.returns-in-Choice-Choice-clause
 returns-in-Choice-Choice-clause-newer c =
     let k = c.in-Choice-Choice in
     then c.compare_choices.result c.compare_choices.ensures.newer (λ h. rw (k.is-0, k.is-1) (h c.args.newer_kinds.now c.args.older_kinds.now))
+
+pub returns-in_default-clause-newer : goal.returns-in_default-clause-newer
+returns-in_default-clause-newer c =
+    open_newer c.args.newer_kinds.now c.args.older_kinds.now c.args.pairs.now.items c.args.newer.now c.args.older.now (c.is_open.ensures c.if-is_open.true) (c.is_open-then-is_open.ensures c.if-is_open-2.true)
