@@ -1,5 +1,5 @@
 -- Types at places, by whether they are octets that contain a value.
-use Rattle.std.proofs.Common.{◌≡◌, refl, sym, subst, tt, ℕ, List}
+use Rattle.std.proofs.Common.{◌≡◌, refl, sym, subst, ℕ, List}
 use Rattle.std.specs.Prelude.{slice_get}
 use Rattle.rasn_schema.specs.Schemas
 use Rattle.rasn_schema.specs.Schemas.{Schema}
