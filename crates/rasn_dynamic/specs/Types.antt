@@ -3,7 +3,7 @@ use Rattle.std.specs.Prelude.{ℕ, zero, suc, Bool, true, false, List, [], ◌�
 use Rattle.std.specs.Prelude.{count_by, is_some, nat_lt, option_map, slice_get, ℤ}
 use Rattle.std.specs.Global.{Vec}
 use Rattle.rasn_types.specs.Alphabets.{bmp, ia5, numeric, printable, visible}
-use Rattle.rasn_types.specs.Contents.{other, utf8}
+use Rattle.rasn_types.specs.Contents.{generalized, other, utc, utf8}
 use Rattle.rasn_types.specs.Values.{Value, truth, nothing, whole, octets, bits, characters}
 use Rattle.rasn_constraints.specs.Bounds.{unbounded}
 use Rattle.rasn_constraints.specs.Constraints.{effective}
@@ -37,7 +37,7 @@ use Rattle.rasn_dynamic.specs.declared.types.Presence.TheVariants.{Required, Opt
 use Rattle.rasn_dynamic.specs.declared.types.Record.{Record}
 use Rattle.rasn_dynamic.specs.declared.types.Simple.{Simple}
 use Rattle.rasn_dynamic.specs.declared.types.Simple.TheVariants.{BitString, Boolean, Characters, Enumerated}
-use Rattle.rasn_dynamic.specs.declared.types.Simple.TheVariants.{Integer, NamedBits}
+use Rattle.rasn_dynamic.specs.declared.types.Simple.TheVariants.{GeneralizedTime, Integer, NamedBits, UtcTime}
 use Rattle.rasn_dynamic.specs.declared.types.Simple.TheVariants.{Null, ObjectIdentifier, OctetString, Open, Text, Utf8}
 use Rattle.rasn_dynamic.specs.declared.types.Kind.{Kind}
 use Rattle.rasn_dynamic.specs.declared.types.Kind.TheVariants.{Simple as SimpleKind, List as ListKind, SetOf}
@@ -88,6 +88,8 @@ simple_schema (Characters s) = string_schema s
 simple_schema Utf8 = Schemas.text utf8
 simple_schema Text = Schemas.text other
 simple_schema ObjectIdentifier = Schemas.identifier
+simple_schema UtcTime = Schemas.time utc
+simple_schema GeneralizedTime = Schemas.time generalized
 simple_schema Open = Schemas.any
 
 -- X.680 22.7: of a type whose values are named bits, their size

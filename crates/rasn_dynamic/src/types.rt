@@ -44,6 +44,10 @@ pub enum Simple {
     Text,
     /// OBJECT IDENTIFIER (X.691 24).
     ObjectIdentifier,
+    /// UTCTime (X.680 47), whose values are its canonical text (X.690 11.8).
+    UtcTime,
+    /// GeneralizedTime (X.680 46), whose values are its canonical text (X.690 11.7).
+    GeneralizedTime,
     /// An open type whose type isn't told (X.691 11.2).
     Open,
 }
@@ -113,7 +117,7 @@ pub enum DefaultValue {
     /// Of BIT STRING: where its bits have names, those of the normal form, which are without zero bits at their end,
     /// but as many as the size asks for (X.680 22.7; X.691 16.2).
     Bits(BitString),
-    /// Of a character string.
+    /// Of a character string, and of UTCTime and GeneralizedTime: their canonical text.
     Characters(BmpString),
     /// Of SEQUENCE OF: without elements.
     NoElements,
