@@ -8,7 +8,7 @@ use Rattle.rasn_dynamic.specs.declared.types.Component.{Component}
 use Rattle.rasn_dynamic.specs.declared.types.Kind.{Kind}
 use Rattle.rasn_dynamic.specs.declared.types.Kind.TheVariants.{Simple as SimpleKind, List as ListKind, SetOf, Record as RecordKind, Choice as ChoiceKind, Containing, Open as OpenKind}
 use Rattle.rasn_dynamic.specs.declared.types.Simple.{Simple}
-use Rattle.rasn_dynamic.specs.declared.types.Simple.TheVariants.{BitString, Boolean, Characters, Enumerated, Integer, NamedBits, Null, ObjectIdentifier, OctetString, Open, Text, Utf8}
+use Rattle.rasn_dynamic.specs.declared.types.Simple.TheVariants.{BitString, Boolean, Characters, Enumerated, GeneralizedTime, Integer, NamedBits, Null, ObjectIdentifier, OctetString, Open, Text, UtcTime, Utf8}
 use Rattle.rasn_dynamic.specs.Types.{alternatives_in, at_place, behind, grouped, in_root, parts_in, plain_at, schema_at, simple_schema}
 use Rattle.rasn_dynamic.proofs.Places.{kind_at, none_there, place_there}
 
@@ -32,6 +32,8 @@ simple_levels (Characters s) n = to_leaf tt
 simple_levels Utf8 n = to_leaf tt
 simple_levels Text n = to_leaf tt
 simple_levels ObjectIdentifier n = to_leaf tt
+simple_levels UtcTime n = to_leaf tt
+simple_levels GeneralizedTime n = to_leaf tt
 simple_levels Open n = to_leaf tt
 
 -- with no level, and with one

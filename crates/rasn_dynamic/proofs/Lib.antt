@@ -4,3 +4,4 @@ pub mod NamedBits
 pub mod Places
 pub mod Slots
 pub mod Trees
+pub mod TimeTexts

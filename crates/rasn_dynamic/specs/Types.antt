@@ -3,7 +3,7 @@ use Rattle.std.specs.Prelude.{ℕ, zero, suc, Bool, true, false, List, [], ◌�
 use Rattle.std.specs.Prelude.{count_by, is_some, nat_lt, option_map, slice_get, ℤ}
 use Rattle.std.specs.Global.{Vec}
 use Rattle.rasn_types.specs.Alphabets.{bmp, ia5, numeric, printable, visible}
-use Rattle.rasn_types.specs.Contents.{other, utf8}
+use Rattle.rasn_types.specs.Contents.{generalized, other, utc, utf8}
 use Rattle.rasn_types.specs.Values.{Value, truth, nothing, whole, octets, bits, characters}
 use Rattle.rasn_constraints.specs.Bounds.{unbounded}
 use Rattle.rasn_constraints.specs.Constraints.{effective}
@@ -34,10 +34,12 @@ use Rattle.rasn_dynamic.specs.declared.types.Presence.{Presence}
 use Rattle.rasn_dynamic.specs.declared.types.DefaultValue.{DefaultValue}
 use Rattle.rasn_dynamic.specs.declared.types.DefaultValue.TheVariants
 use Rattle.rasn_dynamic.specs.declared.types.Presence.TheVariants.{Required, Optional, Group, Default}
+use Rattle.rasn_dynamic.specs.declared.types.ObjectSet.{ObjectSet}
 use Rattle.rasn_dynamic.specs.declared.types.Record.{Record}
+use Rattle.rasn_dynamic.specs.declared.types.Row.{Row}
 use Rattle.rasn_dynamic.specs.declared.types.Simple.{Simple}
 use Rattle.rasn_dynamic.specs.declared.types.Simple.TheVariants.{BitString, Boolean, Characters, Enumerated}
-use Rattle.rasn_dynamic.specs.declared.types.Simple.TheVariants.{Integer, NamedBits}
+use Rattle.rasn_dynamic.specs.declared.types.Simple.TheVariants.{GeneralizedTime, Integer, NamedBits, UtcTime}
 use Rattle.rasn_dynamic.specs.declared.types.Simple.TheVariants.{Null, ObjectIdentifier, OctetString, Open, Text, Utf8}
 use Rattle.rasn_dynamic.specs.declared.types.Kind.{Kind}
 use Rattle.rasn_dynamic.specs.declared.types.Kind.TheVariants.{Simple as SimpleKind, List as ListKind, SetOf}
@@ -89,6 +91,8 @@ simple_schema (Characters s) = string_schema s
 simple_schema Utf8 = Schemas.text utf8
 simple_schema Text = Schemas.text other
 simple_schema ObjectIdentifier = Schemas.identifier
+simple_schema UtcTime = Schemas.time utc
+simple_schema GeneralizedTime = Schemas.time generalized
 simple_schema Open = Schemas.any
 
 -- X.680 22.7: of a type whose values are named bits, their size
@@ -167,6 +171,11 @@ alternative_counts c = record { roots = length c.roots.items; addeds = option_ma
 abbrev pub standing : Choice → Place → Option Alternative
 standing c (Root i) = slice_get c.roots.items i
 standing c (Added i) = slice_get (behind c.addeds) i
+
+-- the row of an object set that a root place is the index of
+abbrev pub row_at : ObjectSet → Place → Option Row
+row_at s (Root i) = slice_get s.rows.items i
+row_at s (Added i) = None
 
 -- alternatives, by the schemas of places
 abbrev pub alternatives_in : (ℕ → Schema) → List Alternative → Parts

@@ -3,5 +3,6 @@
 
 pub mod copying;
 pub mod defaults;
+pub mod times;
 pub mod types;
 pub mod values;

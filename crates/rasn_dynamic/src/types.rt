@@ -4,7 +4,7 @@ ghost use Rattle.std.specs.Prelude.{◌≡◌, ℕ, MatchOption, None, Some, cou
 ghost use Rattle.rasn_schema.specs.Levels.{Levelled};
 ghost use Rattle.rasn_dynamic.specs.Names.{name_at, place_of};
 ghost use Rattle.rasn_dynamic.specs.Types.{added_count, alternative_counts, behind, counts_of, has_required};
-ghost use Rattle.rasn_dynamic.specs.Types.{is_not_required, required_in, schema_at, standing};
+ghost use Rattle.rasn_dynamic.specs.Types.{is_not_required, required_in, row_at, schema_at, standing};
 
 use rasn_constraints::constraints::{Bounded, Extensible};
 use rasn_schema::items::{ItemCounts, Place};
@@ -44,6 +44,10 @@ pub enum Simple {
     Text,
     /// OBJECT IDENTIFIER (X.691 24).
     ObjectIdentifier,
+    /// UTCTime (X.680 47), whose values are its canonical text (X.690 11.8).
+    UtcTime,
+    /// GeneralizedTime (X.680 46), whose values are its canonical text (X.690 11.7).
+    GeneralizedTime,
     /// An open type whose type nothing tells (X.691 11.2).
     Open,
 }
@@ -113,7 +117,7 @@ pub enum DefaultValue {
     /// Of BIT STRING: where its bits have names, those of the normal form, which are without zero bits at their end,
     /// but as many as the size asks for (X.680 22.7; X.691 16.2).
     Bits(BitString),
-    /// Of a character string.
+    /// Of a character string, and of UTCTime and GeneralizedTime: their canonical text.
     Characters(BmpString),
     /// Of SEQUENCE OF: without elements.
     NoElements,
@@ -309,6 +313,18 @@ impl Choice {
         match place {
             Place::Root(index) => self.roots.get(index),
             Place::Added(index) => self.behind().get(index),
+        }
+    }
+}
+
+impl ObjectSet {
+    /// The row that a root place is the index of, where one is there.
+    pub fn row(&self, place: Place) -> Option<&Row>
+        ensures { MatchOption result (row_at self.now place ≡ None) (λ r. row_at self.now place ≡ Some r.now) }
+    {
+        match place {
+            Place::Root(index) => self.rows.get(index),
+            Place::Added(_) => None,
         }
     }
 }

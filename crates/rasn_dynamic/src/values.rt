@@ -4,9 +4,12 @@ ghost use Rattle.std.specs.Prelude.{◌≡◌, map, option_map};
 ghost use Rattle.rasn_dynamic.specs.Names.{slot_named};
 ghost use Rattle.rasn_dynamic.specs.Values.{slot_of};
 
+use crate::times::{generalized_characters, generalized_moment, utc_characters, utc_moment};
 use crate::types::Component;
+use jiff::civil::DateTime;
 use rasn_schema::items::Place;
 use rasn_strings::strings::BmpString;
+use rasn_times::error::TimeError;
 use rasn_types::ber::{BerError, object_identifier_as_bytes, object_identifier_from_bytes};
 use rasn_types::bit_string::BitString;
 use rasn_types::types::{Any, Integer};
@@ -30,7 +33,8 @@ pub enum Value {
     Octets(Any),
     /// Of BIT STRING.
     Bits(BitString),
-    /// Of a character string, whichever its type.
+    /// Of a character string, whichever its type, and of UTCTime and GeneralizedTime: their canonical text (X.690 11.7
+    /// and 11.8).
     Characters(BmpString),
     /// Of SEQUENCE OF.
     Elements(Vec<Value>),
@@ -46,12 +50,15 @@ pub enum Value {
 impl Value {
     ghost use Rattle.std.specs.Prelude.{◌≡◌, true, false, is_some, map, slice_get, IfSome, MatchOption};
     ghost use Rattle.std.specs.Prelude.{List, Option, Some, IfOk};
+    ghost use Rattle.rasn_types.specs.Contents.{generalized, utc};
     ghost use Rattle.rasn_types.specs.Values;
     ghost use Rattle.rasn_types.specs.Values.{alternative, bits, characters, nothing, octets, truth, whole};
     ghost use Rattle.rasn_schema.specs.Lists.{list_value};
     ghost use Rattle.rasn_schema.specs.Records.{record_value};
-    ghost use Rattle.rasn_traits.specs.Counted.{index_in, item_at, side_of};
+    ghost use Rattle.rasn_schema.specs.Schemas.{Schema};
+    ghost use Rattle.rasn_traits.specs.Counted.{index_in, is_of_kind, item_at, side_of};
     ghost use Rattle.rasn_traits.specs.Moments.{identifier_value};
+    ghost use Rattle.rasn_times.specs.Values.{generalized_value, utc_value};
     ghost use Rattle.rasn_dynamic.specs.Values.{NotAlternative, NotBits, NotCharacters, NotElements, NotFields};
     ghost use Rattle.rasn_dynamic.specs.Values.{NotItem, NotNull, NotOctets, NotTruth, NotWhole, slot_of, value_of};
 
@@ -139,6 +146,37 @@ impl Value {
         }
     }
 
+    /// The value of a UTCTime by its moment in UTC (X.690 11.8). Refused is a moment that it can't hold: of another
+    /// year than 1950 to 2049, or not of a whole second.
+    pub fn from_utc_time(alloc: Global, moment: DateTime) -> Result<Value, TimeError>
+        ensures { IfOk result (λ v. slot_of v ≡ Some (utc_value moment)) }
+    {
+        Ok(Value::Characters(utc_characters(alloc, moment)?))
+    }
+
+    /// The moment of a UTCTime in UTC; none where the value isn't its canonical text (X.690 11.8).
+    pub fn to_utc_time(&self) -> Option<DateTime>
+        ensures read { IfSome result (λ moment. value_of self.now ≡ utc_value moment) }
+        ensures accepted { is_some result ≡ is_of_kind (Schema.time utc) (value_of self.now) }
+    {
+        utc_moment(self.as_characters()?)
+    }
+
+    /// The value of a GeneralizedTime by its moment in UTC (X.690 11.7). Refused is a moment of a year before 0.
+    pub fn from_generalized_time(alloc: Global, moment: DateTime) -> Result<Value, TimeError>
+        ensures { IfOk result (λ v. slot_of v ≡ Some (generalized_value moment)) }
+    {
+        Ok(Value::Characters(generalized_characters(alloc, moment)?))
+    }
+
+    /// The moment of a GeneralizedTime in UTC; none where the value isn't its canonical text (X.690 11.7).
+    pub fn to_generalized_time(&self) -> Option<DateTime>
+        ensures read { IfSome result (λ moment. value_of self.now ≡ generalized_value moment) }
+        ensures accepted { is_some result ≡ is_of_kind (Schema.time generalized) (value_of self.now) }
+    {
+        generalized_moment(self.as_characters()?)
+    }
+
     /// The value of a BIT STRING.
     pub fn as_bits(&self) -> Option<&BitString>
         ensures { MatchOption result (NotBits (value_of self.now)) (λ bs. value_of self.now ≡ bits bs.now) }
@@ -149,7 +187,7 @@ impl Value {
         }
     }
 
-    /// The characters of a character string.
+    /// The characters of a character string, or of the text of a time.
     pub fn as_characters(&self) -> Option<&BmpString>
         ensures { MatchOption result (NotCharacters (value_of self.now)) (λ cs. value_of self.now ≡ characters cs.now) }
     {

@@ -5,23 +5,24 @@ use Rattle.rasn_types.specs.AllOf.{all_of}
 use Rattle.rasn_types.specs.Values
 use Rattle.rasn_types.specs.Values.{same}
 use Rattle.rasn_schema.specs.Normal.{normal}
-use Rattle.rasn_dynamic.specs.Types.{behind, default_value, schema_at, standing, within}
+use Rattle.rasn_dynamic.specs.Types.{behind, default_value, row_at, schema_at, standing, within}
 use Rattle.rasn_dynamic.specs.Values.{slot_step}
 use Rattle.rasn_dynamic.specs.declared.types.Alternative.{Alternative}
 use Rattle.rasn_dynamic.specs.declared.types.Component.{Component}
 use Rattle.rasn_dynamic.specs.declared.types.Kind.{Kind}
 use Rattle.rasn_dynamic.specs.declared.types.Kind.TheVariants.{Simple, List as ListKind, SetOf, Record as RecordKind}
-use Rattle.rasn_dynamic.specs.declared.types.Kind.TheVariants.{Choice}
+use Rattle.rasn_dynamic.specs.declared.types.Kind.TheVariants.{Choice, Open}
 use Rattle.rasn_dynamic.specs.declared.types.Presence.{Presence}
 use Rattle.rasn_dynamic.specs.declared.types.Presence.TheVariants.{Optional, Group, Default}
 use Rattle.rasn_dynamic.specs.declared.types.Record.{Record}
+use Rattle.rasn_dynamic.specs.declared.types.Row.{Row}
 use Rattle.rasn_dynamic.specs.declared.values.Value.{Value}
-use Rattle.rasn_dynamic.specs.declared.values.Value.TheOpen.{Value-F, Elements, Bag, Fields}
+use Rattle.rasn_dynamic.specs.declared.values.Value.TheOpen.{Value-F, Octets, Elements, Bag, Fields}
 use Rattle.rasn_dynamic.specs.declared.values.Value.TheOpen.{Alternative as AlternativeF}
 use Rattle.rasn_dynamic.specs.declared.values.Value.TheFolds.{fold-Value, map-Value}
 use Rattle.json.specs.Json.{Json, array, object, Members, no_members, member}
 use Rattle.json.specs.Value.{items_of}
-use Rattle.rasn_dynamic_jer.specs.Leaves.{below, simple_json}
+use Rattle.rasn_dynamic_jer.specs.Leaves.{below, hexadecimal, simple_json}
 
 -- a member of an object: its name and its value
 abbrev pub Member : Type 0
@@ -105,11 +106,19 @@ abbrev pub record_members : List Kind → ℕ → Record → List Known → List
 record_members ts n r xs ys =
     both (list_members ts false n r.root.items xs) (list_members ts true n (behind r.additions) ys)
 
--- X.697: an object of one member, the alternative's
+-- an object of one member: a name, and a value of the type at a place
+abbrev pub one_member : List Kind → ℕ → List ℕ → ℕ → Known → Option Json
+one_member ts n name i x = option_map (λ ms. object (members_from ms)) (named name (x.json n (kind_within ts i)))
+
+-- X.697: a choice, by the name of the alternative
 abbrev pub alternative_json : List Kind → ℕ → Option Alternative → Known → Option Json
 alternative_json ts n None x = None
-alternative_json ts n (Some a) x =
-    option_map (λ ms. object (members_from ms)) (named (string_bytes a.name) (x.json n (kind_within ts a.of)))
+alternative_json ts n (Some a) x = one_member ts n (string_bytes a.name) a.of x
+
+-- an open type whose value was read, by the name of its type (this project's choice)
+abbrev pub row_json : List Kind → ℕ → Option Row → Known → Option Json
+row_json ts n None x = None
+row_json ts n (Some r) x = one_member ts n (string_bytes r.name) r.of x
 
 -- the JSON of each of some values of a type
 abbrev pub all_json : List Kind → ℕ → ℕ → List Known → Option (List Json)
@@ -127,6 +136,8 @@ kind_json ts n (Some (SetOf i c)) (Bag v) = below n (λ m. array_json ts m i v.i
 kind_json ts n (Some (RecordKind r)) (Fields v w) =
     below n (λ m. option_map (λ ms. object (members_from ms)) (record_members ts m r v.items w.items))
 kind_json ts n (Some (Choice c)) (AlternativeF p v) = below n (λ m. alternative_json ts m (standing c p) v.value)
+kind_json ts n (Some (Open s)) (Octets os) = Some (hexadecimal os)
+kind_json ts n (Some (Open s)) (AlternativeF p v) = below n (λ m. row_json ts m (row_at s p) v.value)
 kind_json ts n k x = None
 
 -- the members of a value that is a record

@@ -29,9 +29,12 @@ use Rattle.rasn_dynamic.specs.declared.types.Items.{Items}
 use Rattle.rasn_dynamic.specs.declared.types.Kind.{Kind}
 use Rattle.rasn_dynamic.specs.declared.types.Kind.TheVariants.{Simple as SimpleKind, List as ListKind, SetOf}
 use Rattle.rasn_dynamic.specs.declared.types.Kind.TheVariants.{Record as RecordKind, Choice as ChoiceKind}
+use Rattle.rasn_dynamic.specs.declared.types.Kind.TheVariants.{Open as OpenKind}
+use Rattle.rasn_dynamic.specs.declared.types.ObjectSet.{ObjectSet}
 use Rattle.rasn_dynamic.specs.declared.types.Presence.{Presence}
 use Rattle.rasn_dynamic.specs.declared.types.Presence.TheVariants.{Required, Optional, Group, Default}
 use Rattle.rasn_dynamic.specs.declared.types.Record.{Record}
+use Rattle.rasn_dynamic.specs.declared.types.Row.{Row}
 use Rattle.rasn_dynamic.specs.declared.types.Simple.{Simple}
 use Rattle.rasn_dynamic.specs.declared.types.Simple.TheVariants as Simples
 use Rattle.rasn_dynamic.specs.declared.values.Value.{Value as Tree}
@@ -240,6 +243,29 @@ one_told f c ms = None
 abbrev pub choice_told : (ℕ → Json → Option Value) → Choice → Json → Option Value
 choice_told f c j = option_and_then (one_told f c) (as_object j)
 
+-- an open type by the value of a row's type
+abbrev pub read_told : (ℕ → Json → Option Value) → Place → Option Row → Json → Option Value
+read_told f p None j = None
+read_told f p (Some r) j = option_map (alternative (side_of p) (index_in p)) (f r.of j)
+
+-- by the index of the first row with a name
+abbrev pub row_place : ObjectSet → List ℕ → Option Place
+row_place s n = option_map Root (position (λ r. bytes_eq (string_bytes r.name) n) s.rows.items)
+
+abbrev pub row_told : (ℕ → Json → Option Value) → ObjectSet → Option Place → Json → Option Value
+row_told f s None j = None
+row_told f s (Some p) j = read_told f p (row_at s p) j
+
+-- by the only member of an object, which has the name of a row's type
+abbrev pub one_row_told : (ℕ → Json → Option Value) → ObjectSet → Members → Option Value
+one_row_told f s (member n j no_members) = row_told f s (row_place s n) j
+one_row_told f s ms = None
+
+-- an open type: by the hexadecimal digits of its octets, or by an object (this project's choice)
+abbrev pub open_told : (ℕ → Json → Option Value) → ObjectSet → Option (List ℕ) → Json → Option Value
+open_told f s None j = option_and_then (one_row_told f s) (as_object j)
+open_told f s (Some d) j = option_map octets (octets_in d)
+
 -- the items of an array as a list
 abbrev pub items_list : JsonItems → List Json
 items_list no_items = []
@@ -259,11 +285,13 @@ told_in ts f (Some (ListKind i c)) j = option_map list_value (values_told (f i) 
 told_in ts f (Some (SetOf i c)) j = option_map bag_of (values_told (f i) j)
 told_in ts f (Some (RecordKind r)) j = record_told ts f r j
 told_in ts f (Some (ChoiceKind c)) j = choice_told f c j
+told_in ts f (Some (OpenKind s)) j = open_told f s (as_str j) j
 told_in ts f k j = None
 
--- a type in which no other is
+-- a type in which no other is; an open type by its octets
 abbrev pub told_alone : Option Kind → Json → Option Value
 told_alone (Some (SimpleKind s)) j = simple_told s j
+told_alone (Some (OpenKind s)) j = simple_told Simples.Open j
 told_alone k j = None
 
 -- by what a type is, within so many levels of arrays and objects

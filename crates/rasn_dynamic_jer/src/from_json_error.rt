@@ -24,7 +24,7 @@ pub enum FromJsonError {
     /// A string isn't the name of an item of the type.
     #[error("a string is not the name of an item of its type")]
     UnknownItem,
-    /// The member of an object isn't an alternative of the type.
+    /// The member of an object isn't an alternative of the type, and no type that an open type may be.
     #[error("the member of an object is not an alternative of its type")]
     UnknownAlternative,
     /// The JSON is of another kind than the type asks for. No JSON is told of an OBJECT IDENTIFIER.

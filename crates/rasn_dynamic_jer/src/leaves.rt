@@ -121,7 +121,11 @@ pub(crate) fn put_octets(
 }
 
 /// Writes octets as a string of hexadecimal digits.
-fn put_hexadecimal(writer: &mut Writer, alloc: Global, octets: &[u8]) -> Result<(), ToJsonError>
+pub(crate) fn put_hexadecimal(
+    writer: &mut Writer,
+    alloc: Global,
+    octets: &[u8],
+) -> Result<(), ToJsonError>
     ensures { PutsToken (string_token (encode_upper octets.now)) writer.old result writer.new }
 {
     let digits = hex::encode_upper(alloc, octets)?;

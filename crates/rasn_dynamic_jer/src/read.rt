@@ -4,6 +4,7 @@ ghost use Rattle.std.specs.Prelude.{◌≡◌, ◌⊎◌, IfOk, IfErr, IsSomeAnd
 ghost use Rattle.std.specs.Prelude.{position, string_bytes};
 ghost use Rattle.std.specs.List.{list_all, list_any};
 ghost use Rattle.std.specs.Str.{IsUtf8, bytes_eq};
+ghost use Rattle.json.specs.Find.{as_str};
 ghost use Rattle.json.specs.Json.{document};
 ghost use Rattle.json.specs.Strict.{HasUniqueKeys, keys};
 ghost use Rattle.json.specs.Value.{members_view, value_view};
@@ -19,14 +20,17 @@ ghost use Rattle.rasn_dynamic_jer.specs.Told.{component_told, components_told, g
 ghost use Rattle.rasn_dynamic_jer.specs.Told.{is_component, is_member, IsNoText, IsTextOf, IsUntold, told_alone};
 ghost use Rattle.rasn_dynamic_jer.specs.Told.{TellsSlot, TellsSlots, TellsValue, TellsValues, told_at, told_by};
 ghost use Rattle.rasn_dynamic_jer.specs.Told.{alternative_told, choice_told, members_told, one_told, Parses};
-ghost use Rattle.rasn_dynamic_jer.specs.Told.{record_told, told_in, values_told};
+ghost use Rattle.rasn_dynamic_jer.specs.Told.{one_row_told, open_told, record_told, row_place, row_told, told_in};
+ghost use Rattle.rasn_dynamic_jer.specs.Told.{values_told};
 
 use crate::from_json_error::FromJsonError;
 use crate::json_parts::{items_of, members_of};
-use crate::read_simple::read_simple;
+use crate::read_simple::{read_octets, read_simple};
 use crate::table::{group_in, kind_within};
 use json::{Error, MAX_DEPTH, Scratch, Value as Json};
-use rasn_dynamic::types::{Alternative, Choice, Component, Kind, Presence, Record, Types};
+use rasn_dynamic::types::{
+    Alternative, Choice, Component, Kind, ObjectSet, Presence, Record, Row, Types,
+};
 use rasn_dynamic::values::Value;
 use rasn_schema::items::Place;
 use std::alloc::Global;
@@ -111,12 +115,13 @@ fn read_kind(
     }
 }
 
-/// Reads a value of a type in which no other is.
+/// Reads a value of a type in which no other is, or an open type by its octets.
 fn read_alone(alloc: Global, kind: &Kind, json: &Json<'_>) -> Result<Value, FromJsonError>
     ensures { TellsValue (told_alone (Some kind.now) (value_view json.now)) result }
 {
     match kind {
         Kind::Simple(simple) => read_simple(alloc, simple, json),
+        Kind::Open(_) => read_octets(alloc, json),
         _ => Err(FromJsonError::WrongKind),
     }
 }
@@ -138,6 +143,7 @@ fn read_within(
         Kind::SetOf(of, _) => read_set_of(alloc, kinds, levels, *of, json),
         Kind::Record(record) => read_record(alloc, kinds, levels, record, json),
         Kind::Choice(choice) => read_choice(alloc, kinds, levels, choice, json),
+        Kind::Open(set) => read_open(alloc, kinds, levels, set, json),
         Kind::Containing(_) => Err(FromJsonError::WrongKind),
     }
 }
@@ -516,4 +522,94 @@ fn read_chosen(
     let value = read_at(alloc, kinds, levels, of, json)?;
     let chosen = Box::new(alloc, value)?;
     Ok(Value::Alternative(place, chosen))
+}
+
+/// Reads an open type: its octets by their digits, or a value by the name of its type.
+#[cycle(reading)]
+fn read_open(
+    alloc: Global,
+    kinds: &[Kind],
+    levels: usize,
+    set: &ObjectSet,
+    json: &Json<'_>,
+) -> Result<Value, FromJsonError>
+    ensures { TellsValue (open_told (told_at kinds.now levels) set.now (as_str (value_view json.now))
+        (value_view json.now)) result }
+{
+    if json.as_str().is_some() {
+        return read_octets(alloc, json);
+    }
+    match members_of(json) {
+        Some(members) => read_row(alloc, kinds, levels, set, members),
+        None => Err(FromJsonError::WrongKind),
+    }
+}
+
+/// Reads an open type by the only member of an object.
+#[cycle(reading)]
+fn read_row(
+    alloc: Global,
+    kinds: &[Kind],
+    levels: usize,
+    set: &ObjectSet,
+    members: &[(&str, Json<'_>)],
+) -> Result<Value, FromJsonError>
+    ensures { TellsValue (one_row_told (told_at kinds.now levels) set.now (members_view members.now)) result }
+{
+    match members {
+        [] => Err(FromJsonError::WrongKind),
+        [member] => read_row_named(alloc, kinds, levels, set, member.0, &member.1),
+        [_, _, ..] => Err(FromJsonError::WrongKind),
+    }
+}
+
+/// Reads an open type by the name of its type.
+#[cycle(reading)]
+fn read_row_named(
+    alloc: Global,
+    kinds: &[Kind],
+    levels: usize,
+    set: &ObjectSet,
+    name: &str,
+    json: &Json<'_>,
+) -> Result<Value, FromJsonError>
+    ensures { TellsValue (row_told (told_at kinds.now levels) set.now (row_place set.now name.now)
+        (value_view json.now)) result }
+{
+    match row_place(set, name) {
+        Some(place) => read_row_at(alloc, kinds, levels, set, place, json),
+        None => Err(FromJsonError::UnknownAlternative),
+    }
+}
+
+/// Where the first row with a name is.
+fn row_place(set: &ObjectSet, name: &str) -> Option<Place>
+    ensures { result ≡ row_place set.now name.now }
+{
+    Some(Place::Root(row_index(&set.rows, name)?))
+}
+
+/// The index of the first of some rows that has a name.
+fn row_index(rows: &[Row], name: &str) -> Option<usize>
+    ensures { result ≡ position (λ r. bytes_eq (string_bytes r.name) name.now) rows.now }
+{
+    rows.iter().position(|own| own.name.as_str() == name)
+}
+
+/// Reads an open type as a value of the type of a row.
+#[cycle(reading)]
+fn read_row_at(
+    alloc: Global,
+    kinds: &[Kind],
+    levels: usize,
+    set: &ObjectSet,
+    place: Place,
+    json: &Json<'_>,
+) -> Result<Value, FromJsonError>
+    ensures { TellsValue (row_told (told_at kinds.now levels) set.now (Some place) (value_view json.now)) result }
+{
+    match set.row(place) {
+        Some(row) => read_chosen(alloc, kinds, levels, row.of, place, json),
+        None => Err(FromJsonError::UnknownAlternative),
+    }
 }

@@ -126,7 +126,7 @@ fn name_index(names: &[String], name: &str) -> Option<usize>
 }
 
 /// Reads octets by their hexadecimal digits.
-fn read_octets(alloc: Global, json: &Json<'_>) -> Result<Value, FromJsonError>
+pub(crate) fn read_octets(alloc: Global, json: &Json<'_>) -> Result<Value, FromJsonError>
     ensures { TellsValue (option_map octets (option_and_then octets_in (as_str (value_view json.now)))) result }
 {
     let Some(digits) = json.as_str() else {
@@ -137,7 +137,7 @@ fn read_octets(alloc: Global, json: &Json<'_>) -> Result<Value, FromJsonError>
 }
 
 /// The octets of hexadecimal digits, in either case.
-fn octets_of(alloc: Global, digits: &str) -> Result<Vec<u8>, FromJsonError>
+pub(crate) fn octets_of(alloc: Global, digits: &str) -> Result<Vec<u8>, FromJsonError>
     ensures { MatchResult result (λ os. octets_in digits.now ≡ Some os.items) (IsUntold (octets_in digits.now)) }
 {
     match hex::decode(alloc, digits) {

@@ -2,23 +2,26 @@
 
 ghost use Rattle.std.specs.Prelude.{◌≡◌, ℕ, IfOk, IfErr, Some, map, option_map};
 ghost use Rattle.json.specs.Json.{max_depth};
-ghost use Rattle.rasn_dynamic.specs.Types.{standing};
+ghost use Rattle.rasn_dynamic.specs.Types.{row_at, standing};
 ghost use Rattle.rasn_dynamic.specs.Values.{value_of};
 ghost use Rattle.rasn_dynamic.specs.declared.types.Kind.TheVariants.{Choice as ChoiceKind, List as ListKind};
-ghost use Rattle.rasn_dynamic.specs.declared.types.Kind.TheVariants.{Record as RecordKind, SetOf, Simple as SimpleKind};
+ghost use Rattle.rasn_dynamic.specs.declared.types.Kind.TheVariants.{Open as OpenKind, Record as RecordKind, SetOf};
+ghost use Rattle.rasn_dynamic.specs.declared.types.Kind.TheVariants.{Simple as SimpleKind};
 ghost use Rattle.rasn_dynamic_jer.specs.Leaves.{below};
 ghost use Rattle.rasn_dynamic_jer.specs.Puts.{IsRefused, IsJsonText, Puts, PutsAll, PutsMembers};
 ghost use Rattle.rasn_dynamic_jer.specs.Shown.{alternative_json, array_json, json_at, json_by, known};
 ghost use Rattle.rasn_dynamic_jer.specs.Shown.{component_members, group_among, is_default, is_optional};
-ghost use Rattle.rasn_dynamic_jer.specs.Shown.{list_members, members_there, named, values_json};
+ghost use Rattle.rasn_dynamic_jer.specs.Shown.{list_members, members_there, named, one_member, row_json, values_json};
 
 use crate::error::ToJsonError;
 use crate::leaves::{
-    put_bits, put_characters, put_item, put_null, put_number, put_octets, put_token, put_truth,
+    put_bits, put_characters, put_hexadecimal, put_item, put_null, put_number, put_octets, put_token, put_truth,
 };
 use crate::table::{group_in, kind_within};
 use json::{Token, Writer};
-use rasn_dynamic::types::{Choice, Component, Kind, Presence, Record, Simple, Types};
+use rasn_dynamic::types::{
+    Choice, Component, Kind, ObjectSet, Presence, Record, Simple, Types,
+};
 use rasn_dynamic::values::Value;
 use rasn_schema::items::Place;
 use std::alloc::Global;
@@ -79,6 +82,7 @@ fn put_kind(
         Kind::SetOf(of, _) => put_set_of(writer, alloc, kinds, *of, value, levels),
         Kind::Record(record) => put_record(writer, alloc, kinds, record, value, levels),
         Kind::Choice(choice) => put_choice(writer, alloc, kinds, choice, value, levels),
+        Kind::Open(set) => put_open(writer, alloc, kinds, set, value, levels),
         Kind::Containing(_) => Err(ToJsonError::NoJson),
     }
 }
@@ -402,21 +406,80 @@ fn put_alternative(
     ensures { Puts (below levels (λ m. alternative_json kinds.now m (standing choice.now place)
         (known kinds.now value.now))) levels writer.old result writer.new }
 {
-    let Some(alternative) = choice.at(place) else {
-        return Err(ToJsonError::NoJson);
-    };
+    match choice.at(place) {
+        Some(alternative) => put_one(
+            writer,
+            alloc,
+            kinds,
+            &alternative.name,
+            alternative.of,
+            value,
+            levels,
+        ),
+        None => Err(ToJsonError::NoJson),
+    }
+}
+
+/// Writes an open type: its octets, or the value that was read from them, by the name of its type.
+#[cycle(showing)]
+fn put_open(
+    writer: &mut Writer,
+    alloc: Global,
+    kinds: &[Kind],
+    set: &ObjectSet,
+    value: &Value,
+    levels: usize,
+) -> Result<(), ToJsonError>
+    ensures { Puts (json_by kinds.now levels (Some (OpenKind set.now)) value.now) levels
+        writer.old result writer.new }
+{
+    match value {
+        Value::Octets(octets) => put_hexadecimal(writer, alloc, octets.as_bytes()),
+        Value::Alternative(place, read) => {
+            put_row(writer, alloc, kinds, set, *place, read, levels)
+        }
+        _ => Err(ToJsonError::NoJson),
+    }
+}
+
+/// Writes the value of the type that a row of an object set tells as an object of one member.
+#[cycle(showing)]
+fn put_row(
+    writer: &mut Writer,
+    alloc: Global,
+    kinds: &[Kind],
+    set: &ObjectSet,
+    place: Place,
+    value: &Value,
+    levels: usize,
+) -> Result<(), ToJsonError>
+    ensures { Puts (below levels (λ m. row_json kinds.now m (row_at set.now place) (known kinds.now value.now))) levels
+        writer.old result writer.new }
+{
+    match set.row(place) {
+        Some(row) => put_one(writer, alloc, kinds, &row.name, row.of, value, levels),
+        None => Err(ToJsonError::NoJson),
+    }
+}
+
+/// Writes an object of one member: a name, and a value of the type at a place.
+#[cycle(showing)]
+fn put_one(
+    writer: &mut Writer,
+    alloc: Global,
+    kinds: &[Kind],
+    name: &str,
+    of: usize,
+    value: &Value,
+    levels: usize,
+) -> Result<(), ToJsonError>
+    ensures { Puts (below levels (λ m. one_member kinds.now m name.now of (known kinds.now value.now))) levels
+        writer.old result writer.new }
+{
     if levels == 0 {
         return Err(ToJsonError::NoJson);
     }
     put_token(writer, Token::BeginObject)?;
-    put_named(
-        writer,
-        alloc,
-        kinds,
-        &alternative.name,
-        alternative.of,
-        value,
-        levels - 1,
-    )?;
+    put_named(writer, alloc, kinds, name, of, value, levels - 1)?;
     put_token(writer, Token::EndObject)
 }

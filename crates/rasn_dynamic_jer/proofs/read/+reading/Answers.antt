@@ -15,10 +15,11 @@ use Rattle.rasn_schema.specs.declared.items.Place.{Place}
 use Rattle.rasn_dynamic.specs.declared.types.Alternative.{Alternative}
 use Rattle.rasn_dynamic.specs.declared.types.Kind.{Kind}
 use Rattle.rasn_dynamic.specs.declared.types.Record.{Record}
-use Rattle.rasn_dynamic_jer.specs.Told.{addition_told, additions_told, alternative_told, chosen_told, components_told, group_told, has_member, members_told, one_told, slot_told, TellsSlot, TellsValue, TellsValues, told_at, told_by, told_in, items_told, values_told}
+use Rattle.rasn_dynamic.specs.declared.types.Row.{Row}
+use Rattle.rasn_dynamic_jer.specs.Told.{addition_told, additions_told, alternative_told, chosen_told, components_told, group_told, has_member, members_told, one_told, slot_told, TellsSlot, TellsValue, TellsValues, told_at, told_by, told_in, items_told, values_told, one_row_told, open_told, read_told, row_told}
 use Rattle.rasn_dynamic_jer.proofs.Gathered.{no_more, one_lacks, one_more}
 use Rattle.rasn_dynamic_jer.proofs.Parts.{items_each}
-use Rattle.rasn_dynamic_jer.proofs.Records.{all_fields, group_lacks, no_additions, no_group, no_root, not_members, not_one, one_member, value_slot, whole_group}
+use Rattle.rasn_dynamic_jer.proofs.Records.{all_fields, group_lacks, no_additions, no_group, no_root, not_members, not_one, not_one_row, one_member, value_slot, whole_group}
 use Rattle.rasn_dynamic_jer.proofs.Untold.{no_level, told_below, told_last, told_none, told_value, untold_by}
 use Rattle.rasn_dynamic_jer.proofs.read.+reading.Goals as goal
 
@@ -248,3 +249,40 @@ read_within-returns-in-List t c = rw c.in-List.is c.read_list.ensures
 
 pub read_within-returns-in-SetOf : goal.read_within-returns-in-SetOf
 read_within-returns-in-SetOf t c = rw c.in-SetOf.is c.read_set_of.ensures
+
+pub read_open-returns-in-Some : goal.read_open-returns-in-Some
+read_open-returns-in-Some t c =
+    let F = told_at c.args.kinds.now c.args.levels in
+    let e = sym c.members_of.ensures ∙ ap (option_map (λ s. members_view s.now)) c.in-Some.is in
+    ?
+
+pub read_row-returns-in-len1 : goal.read_row-returns-in-len1
+read_row-returns-in-len1 t c =
+    let F = told_at c.args.kinds.now c.args.levels in
+    subst (λ (ms : Members). TellsValue (one_row_told F c.args.set.now ms) c.read_row_named.result) (sym (one_member c.args.members.now c.member-item.result (omega arith) c.member-item.is)) c.read_row_named.ensures
+
+pub read_row-returns-in-empty : goal.read_row-returns-in-empty
+read_row-returns-in-empty t c = inr (not_one_row (told_at c.args.kinds.now c.args.levels) c.args.set.now c.args.members.now (λ h. omega arith))
+
+pub read_row-returns-in-len2-up : goal.read_row-returns-in-len2-up
+read_row-returns-in-len2-up t c = inr (not_one_row (told_at c.args.kinds.now c.args.levels) c.args.set.now c.args.members.now (λ h. omega arith))
+
+pub read_row_named-returns-in-Some : goal.read_row_named-returns-in-Some
+read_row_named-returns-in-Some t c =
+    let F = told_at c.args.kinds.now c.args.levels in
+    subst (λ (o : Option Place). TellsValue (row_told F c.args.set.now o (value_view c.args.json.now)) c.read_row_at.result) (sym (sym c.row_place.ensures ∙ c.in-Some.is)) c.read_row_at.ensures
+
+pub read_row_named-returns-in-None : goal.read_row_named-returns-in-None
+read_row_named-returns-in-None t c =
+    let F = told_at c.args.kinds.now c.args.levels in
+    inr (ap (λ (o : Option Place). row_told F c.args.set.now o (value_view c.args.json.now)) (sym c.row_place.ensures ∙ c.in-None.is))
+
+pub read_row_at-returns-in-Some : goal.read_row_at-returns-in-Some
+read_row_at-returns-in-Some t c =
+    let F = told_at c.args.kinds.now c.args.levels in
+    subst (λ (o : Option Row). TellsValue (read_told F c.args.place o (value_view c.args.json.now)) c.read_chosen.result) (sym c.in-Some.ensures) c.read_chosen.ensures
+
+pub read_row_at-returns-in-None : goal.read_row_at-returns-in-None
+read_row_at-returns-in-None t c =
+    let F = told_at c.args.kinds.now c.args.levels in
+    inr (ap (λ (o : Option Row). read_told F c.args.place o (value_view c.args.json.now)) c.in-None.ensures)
