@@ -4,12 +4,13 @@ use Rattle.std.specs.Borrow.{Bor}
 use Rattle.rasn_types.specs.Values.{Value}
 use Rattle.rasn_schema.specs.Records.{record_value}
 use Rattle.rasn_dynamic.specs.declared.types.Choice.{Choice}
+use Rattle.rasn_dynamic.specs.declared.types.ObjectSet.{ObjectSet}
 use Rattle.rasn_dynamic.specs.declared.values.Value.{Value as Tree}
 use Rattle.rasn_dynamic.specs.Values.{slot_of}
 use Rattle.json.specs.Json.{Json, member, no_members}
 use Rattle.json.specs.Value.{members_view, value_view}
 use Rattle.json.specs.declared.value.Value.{Value as JsonTree}
-use Rattle.rasn_dynamic_jer.specs.Told.{fields_told, IsUntold, one_told, TellsSlot, TellsValue}
+use Rattle.rasn_dynamic_jer.specs.Told.{fields_told, IsUntold, one_row_told, one_told, TellsSlot, TellsValue}
 use Rattle.rasn_dynamic_jer.specs.declared.from_json_error.FromJsonError.{FromJsonError}
 use Rattle.rasn_dynamic_jer.proofs.Untold.{untold_by}
 
@@ -45,6 +46,11 @@ pub not_one : {A : Type 0} (f : ℕ → Json → Option Value) (k : Choice) (ms 
 not_one f k [] h = refl
 not_one f k (m ∷ []) h = absurd (h refl)
 not_one f k (m ∷ n ∷ ms) h = refl
+
+pub not_one_row : {A : Type 0} (f : ℕ → Json → Option Value) (s : ObjectSet) (ms : List (Bor (List ℕ) × JsonTree A)) → (length ms ≡ 1 → ⊥) → one_row_told f s (members_view ms) ≡ None
+not_one_row f s [] h = refl
+not_one_row f s (m ∷ []) h = absurd (h refl)
+not_one_row f s (m ∷ n ∷ ms) h = refl
 
 pub not_members : (b : Bool) (o w : Option (List (Option Value))) → b ≡ false → cond b (fields_told o w) None ≡ None
 not_members b o w e = rw e refl

@@ -20,7 +20,7 @@ use Rattle.rasn_schema.specs.Records.{record_value}
 use Rattle.rasn_schema.specs.declared.items.Place.{Place}
 use Rattle.rasn_schema.specs.declared.items.Place.TheVariants.{Root, Added}
 use Rattle.rasn_traits.specs.Counted.{index_in, item_at, side_of}
-use Rattle.rasn_dynamic.specs.Types.{behind, default_value, standing}
+use Rattle.rasn_dynamic.specs.Types.{behind, default_value, row_at, standing}
 use Rattle.rasn_dynamic.specs.Values.{slot_of, value_of}
 use Rattle.rasn_dynamic.specs.declared.types.Alternative.{Alternative}
 use Rattle.rasn_dynamic.specs.declared.types.Choice.{Choice}
@@ -145,6 +145,8 @@ simple_told (Simples.Characters c) j = option_and_then characters_told (as_str j
 simple_told Simples.Utf8 j = option_map octets (as_str j)
 simple_told Simples.Text j = option_and_then latin_told (as_str j)
 simple_told Simples.ObjectIdentifier j = None
+simple_told Simples.UtcTime j = None
+simple_told Simples.GeneralizedTime j = None
 simple_told Simples.Open j = option_map octets (option_and_then octets_in (as_str j))
 
 -- a component that no member tells: absent, or its default (X.680 25.9)

@@ -4,7 +4,8 @@ ghost use Rattle.std.specs.Prelude.{◌≡◌, ◌⊎◌, IfOk, IfErr, IsSomeAnd
 ghost use Rattle.std.specs.Prelude.{position, string_bytes};
 ghost use Rattle.std.specs.List.{list_all, list_any};
 ghost use Rattle.std.specs.Str.{IsUtf8, bytes_eq};
-ghost use Rattle.json.specs.Find.{as_str};
+ghost use Rattle.std.specs.Option.{option_and_then};
+ghost use Rattle.json.specs.Find.{as_object, as_str};
 ghost use Rattle.json.specs.Json.{document};
 ghost use Rattle.json.specs.Strict.{HasUniqueKeys, keys};
 ghost use Rattle.json.specs.Value.{members_view, value_view};
@@ -536,9 +537,24 @@ fn read_open(
     ensures { TellsValue (open_told (told_at kinds.now levels) set.now (as_str (value_view json.now))
         (value_view json.now)) result }
 {
-    if json.as_str().is_some() {
-        return read_octets(alloc, json);
+    match json.as_str() {
+        Some(_) => read_octets(alloc, json),
+        None => read_opened(alloc, kinds, levels, set, json),
     }
+}
+
+/// Reads an open type by an object.
+#[cycle(reading)]
+fn read_opened(
+    alloc: Global,
+    kinds: &[Kind],
+    levels: usize,
+    set: &ObjectSet,
+    json: &Json<'_>,
+) -> Result<Value, FromJsonError>
+    ensures { TellsValue (option_and_then (one_row_told (told_at kinds.now levels) set.now)
+        (as_object (value_view json.now))) result }
+{
     match members_of(json) {
         Some(members) => read_row(alloc, kinds, levels, set, members),
         None => Err(FromJsonError::WrongKind),

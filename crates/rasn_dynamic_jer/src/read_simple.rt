@@ -50,6 +50,8 @@ pub(crate) fn read_simple(
         Simple::Text => read_latin(alloc, json),
         Simple::ObjectIdentifier => Err(FromJsonError::WrongKind),
         Simple::Open => read_octets(alloc, json),
+        Simple::UtcTime => Err(FromJsonError::WrongKind),
+        Simple::GeneralizedTime => Err(FromJsonError::WrongKind),
     }
 }
 

@@ -1,7 +1,7 @@
 use Rattle.std.proofs.Common.{◌≡◌, suc, ◌∙◌, sym, ap, subst, inl, inr, Option, Some, None, option_map, ℕ, List, map, rules, refl, arith}
 use Rattle.std.proofs.lemmas.Result.{err_from_is_err_and}
 use Rattle.rasn_types.specs.AllOf.{all_of}
-use Rattle.rasn_types.specs.Values.{Value, alternative, bag_of}
+use Rattle.rasn_types.specs.Values.{Value, alternative, bag_of, octets}
 use Rattle.rasn_schema.specs.Lists.{list_value}
 use Rattle.rasn_schema.specs.Records.{record_value}
 use Rattle.rasn_traits.specs.Counted.{index_in, side_of}
@@ -16,7 +16,7 @@ use Rattle.rasn_dynamic.specs.declared.types.Alternative.{Alternative}
 use Rattle.rasn_dynamic.specs.declared.types.Kind.{Kind}
 use Rattle.rasn_dynamic.specs.declared.types.Record.{Record}
 use Rattle.rasn_dynamic.specs.declared.types.Row.{Row}
-use Rattle.rasn_dynamic_jer.specs.Told.{addition_told, additions_told, alternative_told, chosen_told, components_told, group_told, has_member, members_told, one_told, slot_told, TellsSlot, TellsValue, TellsValues, told_at, told_by, told_in, items_told, values_told, one_row_told, open_told, read_told, row_told}
+use Rattle.rasn_dynamic_jer.specs.Told.{addition_told, additions_told, alternative_told, chosen_told, components_told, group_told, has_member, members_told, one_told, slot_told, TellsSlot, TellsValue, TellsValues, told_at, told_by, told_in, items_told, values_told, octets_in, one_row_told, open_told, read_told, row_told}
 use Rattle.rasn_dynamic_jer.proofs.Gathered.{no_more, one_lacks, one_more}
 use Rattle.rasn_dynamic_jer.proofs.Parts.{items_each}
 use Rattle.rasn_dynamic_jer.proofs.Records.{all_fields, group_lacks, no_additions, no_group, no_root, not_members, not_one, not_one_row, one_member, value_slot, whole_group}
@@ -253,8 +253,28 @@ read_within-returns-in-SetOf t c = rw c.in-SetOf.is c.read_set_of.ensures
 pub read_open-returns-in-Some : goal.read_open-returns-in-Some
 read_open-returns-in-Some t c =
     let F = told_at c.args.kinds.now c.args.levels in
+    let j = value_view c.args.json.now in
+    let e = sym c.as_str.ensures ∙ ap (option_map (λ s. s.now)) c.in-Some.is in
+    subst (λ (o : Option (List ℕ)). TellsValue (open_told F c.args.set.now o j) c.read_octets.result) (sym e)
+    (subst (λ (o : Option (List ℕ)). TellsValue (option_map octets (option_and_then octets_in o)) c.read_octets.result) e c.read_octets.ensures)
+
+pub read_open-returns-in-None : goal.read_open-returns-in-None
+read_open-returns-in-None t c =
+    let F = told_at c.args.kinds.now c.args.levels in
+    let j = value_view c.args.json.now in
+    let e = sym c.as_str.ensures ∙ ap (option_map (λ s. s.now)) c.in-None.is in
+    subst (λ (o : Option (List ℕ)). TellsValue (open_told F c.args.set.now o j) c.read_opened.result) (sym e) c.read_opened.ensures
+
+pub read_opened-returns-in-Some : goal.read_opened-returns-in-Some
+read_opened-returns-in-Some t c =
+    let F = told_at c.args.kinds.now c.args.levels in
     let e = sym c.members_of.ensures ∙ ap (option_map (λ s. members_view s.now)) c.in-Some.is in
-    ?
+    subst (λ (o : Option Value). TellsValue o c.read_row.result) (sym (ap (option_and_then (one_row_told F c.args.set.now)) e)) c.read_row.ensures
+
+pub read_opened-returns-in-None : goal.read_opened-returns-in-None
+read_opened-returns-in-None t c =
+    let F = told_at c.args.kinds.now c.args.levels in
+    inr (ap (option_and_then (one_row_told F c.args.set.now)) (sym c.members_of.ensures ∙ ap (option_map (λ s. members_view s.now)) c.in-None.is))
 
 pub read_row-returns-in-len1 : goal.read_row-returns-in-len1
 read_row-returns-in-len1 t c =

@@ -64,7 +64,22 @@ abbrev pub decreases-read_named : goal.decreases-read_named
 decreases-read_named l = 16 * l.levels + 7
 
 abbrev pub decreases-read_chosen : goal.decreases-read_chosen
-decreases-read_chosen l = 16 * l.levels + 5
+decreases-read_chosen l = 16 * l.levels + 4
+
+abbrev pub decreases-read_open : goal.decreases-read_open
+decreases-read_open l = 16 * l.levels + 9
+
+abbrev pub decreases-read_opened : goal.decreases-read_opened
+decreases-read_opened l = 16 * l.levels + 8
+
+abbrev pub decreases-read_row : goal.decreases-read_row
+decreases-read_row l = 16 * l.levels + 7
+
+abbrev pub decreases-read_row_named : goal.decreases-read_row_named
+decreases-read_row_named l = 16 * l.levels + 6
+
+abbrev pub decreases-read_row_at : goal.decreases-read_row_at
+decreases-read_row_at l = 16 * l.levels + 5
 
 -- the values read, and what the items left tell, are what all items tell
 abbrev pub invariant-read_items-loop-item : goal.invariant-read_items-loop-item

@@ -46,7 +46,16 @@ abbrev pub decreases-put_named : goal.decreases-put_named
 decreases-put_named l = 16 * levels_of l.value.now + 8
 
 abbrev pub decreases-put_alternative : goal.decreases-put_alternative
-decreases-put_alternative l = 16 * levels_of l.value.now + 9
+decreases-put_alternative l = 16 * levels_of l.value.now + 10
+
+abbrev pub decreases-put_open : goal.decreases-put_open
+decreases-put_open l = 16 * levels_of l.value.now + 5
+
+abbrev pub decreases-put_row : goal.decreases-put_row
+decreases-put_row l = 16 * levels_of l.value.now + 10
+
+abbrev pub decreases-put_one : goal.decreases-put_one
+decreases-put_one l = 16 * levels_of l.value.now + 9
 
 -- the values up to a place are written
 abbrev pub invariant-put_values-loop-value : goal.invariant-put_values-loop-value
