@@ -3,6 +3,7 @@
 #![tactic(auto)]
 
 pub mod aper;
+pub mod open_types;
 pub mod table;
 pub mod uper;
 pub mod versions;

@@ -4,7 +4,7 @@ ghost use Rattle.std.specs.Prelude.{◌≡◌, ℕ, MatchOption, None, Some, cou
 ghost use Rattle.rasn_schema.specs.Levels.{Levelled};
 ghost use Rattle.rasn_dynamic.specs.Names.{name_at, place_of};
 ghost use Rattle.rasn_dynamic.specs.Types.{added_count, alternative_counts, behind, counts_of, has_required};
-ghost use Rattle.rasn_dynamic.specs.Types.{is_not_required, required_in, row_at, schema_at, standing};
+ghost use Rattle.rasn_dynamic.specs.Types.{is_not_required, required_in, row_at, schema_at, standing, within};
 
 use rasn_constraints::constraints::{Bounded, Extensible};
 use rasn_schema::items::{ItemCounts, Place};
@@ -390,6 +390,16 @@ pub fn required_in(kinds: &[Kind], place: usize) -> Option<bool>
     match kind_at(kinds, place)? {
         Kind::Record(record) => Some(record.has_required()),
         _ => None,
+    }
+}
+
+/// What the type at a place is, or contains where it is octets that contain a value.
+pub fn kind_within(kinds: &[Kind], place: usize) -> Option<&Kind>
+    ensures { option_map (λ k. k.now) result ≡ within kinds.now (slice_get kinds.now place) }
+{
+    match kind_at(kinds, place)? {
+        Kind::Containing(of) => kind_at(kinds, *of),
+        kind => Some(kind),
     }
 }
 

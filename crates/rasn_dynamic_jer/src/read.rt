@@ -27,10 +27,10 @@ ghost use Rattle.rasn_dynamic_jer.specs.Told.{values_told};
 use crate::from_json_error::FromJsonError;
 use crate::json_parts::{items_of, members_of};
 use crate::read_simple::{read_octets, read_simple};
-use crate::table::{group_in, kind_within};
+use crate::table::group_in;
 use json::{Error, MAX_DEPTH, Scratch, Value as Json};
 use rasn_dynamic::types::{
-    Alternative, Choice, Component, Kind, ObjectSet, Presence, Record, Row, Types,
+    Alternative, Choice, Component, Kind, ObjectSet, Presence, Record, Row, Types, kind_within,
 };
 use rasn_dynamic::values::Value;
 use rasn_schema::items::Place;

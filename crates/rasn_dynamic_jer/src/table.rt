@@ -2,19 +2,9 @@
 
 ghost use Rattle.std.specs.Prelude.{◌≡◌, option_map};
 ghost use Rattle.rasn_dynamic_jer.specs.Leaves.{fixed_by};
-ghost use Rattle.rasn_dynamic_jer.specs.Shown.{group_in, kind_within};
+ghost use Rattle.rasn_dynamic_jer.specs.Shown.{group_in};
 
 use rasn_dynamic::types::{Component, Kind, Presence, Record, SizeBounds, kind_at};
-
-/// What the type at a place is, or contains.
-pub(crate) fn kind_within(kinds: &[Kind], place: usize) -> Option<&Kind>
-    ensures { option_map (λ k. k.now) result ≡ kind_within kinds.now place }
-{
-    match kind_at(kinds, place)? {
-        Kind::Containing(of) => kind_at(kinds, *of),
-        kind => Some(kind),
-    }
-}
 
 /// The record of a component's type, where the component is a group.
 pub(crate) fn group_in<'kinds>(

@@ -17,10 +17,10 @@ use crate::error::ToJsonError;
 use crate::leaves::{
     put_bits, put_characters, put_hexadecimal, put_item, put_null, put_number, put_octets, put_token, put_truth,
 };
-use crate::table::{group_in, kind_within};
+use crate::table::group_in;
 use json::{Token, Writer};
 use rasn_dynamic::types::{
-    Choice, Component, Kind, ObjectSet, Presence, Record, Simple, Types,
+    Choice, Component, Kind, ObjectSet, Presence, Record, Simple, Types, kind_within,
 };
 use rasn_dynamic::values::Value;
 use rasn_schema::items::Place;
