@@ -2,6 +2,8 @@
 use Rattle.std.specs.Prelude.{ℕ, List, [], ◌∷◌, ◌++◌, codes}
 use Rattle.hex.specs.declared.error.FromHexError.{FromHexError}
 use Rattle.hex.specs.declared.error.FromHexError.TheVariants as Hexadecimal
+use Rattle.per_dynamic.specs.declared.open_types.OpenTypeError.{OpenTypeError}
+use Rattle.per_dynamic.specs.declared.open_types.OpenTypeError.TheVariants as Taken
 use Rattle.per_read.specs.Names.{name_of as decode_name}
 use Rattle.per_write.specs.Names.{name_of as encode_name}
 use Rattle.rasn_dynamic_jer.specs.declared.error.ToJsonError.{ToJsonError}
@@ -10,7 +12,7 @@ use Rattle.rasn_dynamic_jer.specs.declared.from_json_error.FromJsonError.{FromJs
 use Rattle.rasn_dynamic_jer.specs.declared.from_json_error.FromJsonError.TheVariants as Told
 use Rattle.per_table.specs.declared.refusal.Refusal.{Refusal}
 use Rattle.per_table.specs.declared.refusal.Refusal.TheVariants.{WrongRequest, UnknownType, BadHexadecimal}
-use Rattle.per_table.specs.declared.refusal.Refusal.TheVariants.{Decode, Encode, NoJson, Json, OutOfMemory}
+use Rattle.per_table.specs.declared.refusal.Refusal.TheVariants.{Decode, Encode, NoJson, OtherType, Json, OutOfMemory}
 
 -- the name of why JSON tells no value
 abbrev pub json_name : FromJsonError → List ℕ
@@ -35,6 +37,7 @@ text_of BadHexadecimal = codes "bad hexadecimal"
 text_of (Decode kind) = decode_name kind
 text_of (Encode kind) = encode_name kind
 text_of NoJson = codes "NoJson"
+text_of OtherType = codes "OtherType"
 text_of (Json error) = json_name error
 text_of OutOfMemory = codes "OutOfMemory"
 
@@ -51,6 +54,12 @@ hexadecimal_refusal _ = BadHexadecimal
 abbrev pub show_refusal : ToJsonError → Refusal
 show_refusal Shown.OutOfMemory = OutOfMemory
 show_refusal Shown.NoJson = NoJson
+
+-- why open types aren't written
+abbrev pub open_type_refusal : OpenTypeError → Refusal
+open_type_refusal Taken.OtherType = OtherType
+open_type_refusal (Taken.Encode kind) = Encode kind
+open_type_refusal Taken.OutOfMemory = OutOfMemory
 
 -- why JSON tells no value
 abbrev pub json_refusal : FromJsonError → Refusal

@@ -1,12 +1,14 @@
 //! Why a request has no answer.
 
 ghost use Rattle.std.specs.Prelude.{◌≡◌};
-ghost use Rattle.per_table.specs.Refusals.{hexadecimal_refusal, json_name, json_refusal, show_refusal, text_of};
+ghost use Rattle.per_table.specs.Refusals.{hexadecimal_refusal, json_name, json_refusal, open_type_refusal};
+ghost use Rattle.per_table.specs.Refusals.{show_refusal, text_of};
 ghost use Rattle.per_table.specs.declared.refusal.Refusal.TheVariants.{OutOfMemory};
 ghost use Rattle.per_table.specs.declared.refusal.Refusal.TheVariants.{Encode as encode_refusal};
 ghost use Rattle.per_table.specs.declared.refusal.Refusal.TheVariants.{Decode as decode_refusal};
 
 use hex::FromHexError;
+use per_dynamic::open_types::OpenTypeError;
 use rasn_dynamic_jer::error::ToJsonError;
 use rasn_dynamic_jer::from_json_error::FromJsonError;
 use rasn_per::uper::{DecodeError, DecodeErrorKind, EncodeError, EncodeErrorKind};
@@ -27,6 +29,8 @@ pub enum Refusal {
     Encode(EncodeErrorKind),
     /// The value has no JSON.
     NoJson,
+    /// An open type has a value of another type than its object set tells.
+    OtherType,
     /// The text is no JSON of a value of the type.
     Json(FromJsonError),
     /// Memory ran out.
@@ -45,6 +49,7 @@ impl Refusal {
             Refusal::Decode(kind) => kind.name(),
             Refusal::Encode(kind) => kind.name(),
             Refusal::NoJson => "NoJson",
+            Refusal::OtherType => "OtherType",
             Refusal::Json(error) => json_name(*error),
             Refusal::OutOfMemory => "OutOfMemory",
         }
@@ -107,6 +112,18 @@ impl From<ToJsonError> for Refusal {
         match error {
             ToJsonError::OutOfMemory => Refusal::OutOfMemory,
             ToJsonError::NoJson => Refusal::NoJson,
+        }
+    }
+}
+
+impl From<OpenTypeError> for Refusal {
+    ghost from_gives = { λ e r. r ≡ open_type_refusal e };
+
+    fn from(error: OpenTypeError) -> Refusal {
+        match error {
+            OpenTypeError::OtherType => Refusal::OtherType,
+            OpenTypeError::Encode(kind) => Refusal::Encode(kind),
+            OpenTypeError::OutOfMemory => Refusal::OutOfMemory,
         }
     }
 }

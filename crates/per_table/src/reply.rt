@@ -9,11 +9,13 @@ ghost use Rattle.per_table.specs.Refusals.{refusal_of};
 use crate::refusal::Refusal;
 use crate::request::Request;
 use crate::task::Task;
+use per_dynamic::open_types::{read_open_types, write_open_types};
 use per_dynamic::{aper, uper};
 use per_lines::fault::Fault;
 use per_lines::replies::Replies;
 use rasn_dynamic::types::Types;
 use rasn_dynamic::values::Value;
+use rasn_dynamic_jer::error::ToJsonError;
 use rasn_dynamic_jer::read::from_json;
 use rasn_dynamic_jer::write::to_json;
 use rasn_per::uper::{DecodeError, EncodeError};
@@ -106,8 +108,13 @@ fn show(
 ) -> Result<Vec<u8>, Refusal> {
     let octets = hex::decode(alloc, digits.as_bytes())?;
     let value = decode(alloc, codec, types, place, octets.as_slice())?;
-    let text = to_json(alloc, types, place, &value)?;
-    Ok(text)
+    let read = read_open_types(alloc, codec, types, place, &value)?;
+    match to_json(alloc, types, place, &read) {
+        Ok(text) => Ok(text),
+        // What is read of an open type may have no JSON: its octets have.
+        Err(ToJsonError::NoJson) => Ok(to_json(alloc, types, place, &value)?),
+        Err(error) => Err(Refusal::from(error)),
+    }
 }
 
 /// The canonical octets of the value that JSON tells, in hexadecimal.
@@ -119,6 +126,7 @@ fn make(
     text: &str,
 ) -> Result<Vec<u8>, Refusal> {
     let value = from_json(alloc, types, place, text.as_bytes())?;
+    let value = write_open_types(alloc, codec, types, place, &value)?;
     let canonical = encode(alloc, codec, types, place, &value)?;
     let digits = hex::encode(alloc, canonical.as_slice())?;
     Ok(digits.into_bytes())
