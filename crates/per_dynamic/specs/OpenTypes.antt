@@ -10,8 +10,7 @@ use Rattle.rasn_schema.specs.Normal.{normal}
 use Rattle.rasn_schema.specs.declared.items.Place.{Place}
 use Rattle.rasn_schema.specs.declared.items.Place.TheVariants.{Root}
 use Rattle.rasn_dynamic.specs.Types.{behind, default_value, schema_at, standing, within}
-use Rattle.rasn_dynamic.specs.Values.{levels_of, NotAlternative, NotBag, NotElements, NotFields, NotOctets}
-use Rattle.rasn_dynamic.specs.Values.{slot_of, value_of}
+use Rattle.rasn_dynamic.specs.Values.{levels_of, slot_of, value_of}
 use Rattle.rasn_dynamic.specs.declared.types.Alternative.{Alternative as ChoiceAlternative}
 use Rattle.rasn_dynamic.specs.declared.types.Choice.{Choice}
 use Rattle.rasn_dynamic.specs.declared.types.Component.{Component}
@@ -78,7 +77,7 @@ pub data IsOpenRead (way : Way) (ts : List Kind) (f : ℕ → Value → Value �
       → IsRowRead way ts f k r os x y → IsOpenRead way ts f s told x y
   unknown : option_and_then (slice_get s.rows.items) told ≡ None → IsLeft x y
       → IsOpenRead way ts f s told x y
-  other : NotOctets (value_of x) → IsLeft x y → IsOpenRead way ts f s told x y
+  other : ((os : List ℕ) → x ≡ Octets os → ⊥) → IsLeft x y → IsOpenRead way ts f s told x y
 
 -- a value of a row's type is written as its canonical octets, with the open types in it
 pub record IsRowWritten (way : Way) (ts : List Kind) (f : ℕ → Value → Value → Type 0) (r : Row) (x y : Value) : Type 0
@@ -101,33 +100,38 @@ pub data IsOpenWritten (way : Way) (ts : List Kind) (f : ℕ → Value → Value
     (x y : Value) : Type 0 where
   row : (p : Place) (r : Row) (b : Box Value) → x ≡ Alternative p b → IsRowAt s told p r → IsRowWritten way ts f r b.value y
       → IsOpenWritten way ts f s told x y
-  other : NotAlternative (value_of x) → IsLeft x y → IsOpenWritten way ts f s told x y
+  other : ((p : Place) (b : Box Value) → x ≡ Alternative p b → ⊥) → IsLeft x y → IsOpenWritten way ts f s told x y
 
 -- an open type is taken one way or the other
 abbrev pub TakesOpen : Way → List Kind → (ℕ → Value → Value → Type 0) → ObjectSet → Option ℕ → Value → Value → Type 0
 TakesOpen way ts f s told x y =
     (way.reads ≡ true → IsOpenRead way ts f s told x y) × (way.reads ≡ false → IsOpenWritten way ts f s told x y)
 
+-- the object set of an open type
+abbrev pub set_of : Option Kind → Option ObjectSet
+set_of (Some (Open s)) = Some s
+set_of k = None
+
 -- a component of a record is taken, by the record's root components and their values
-abbrev pub TakesKind : Way → List Kind → (ℕ → Value → Value → Type 0) → List Component → List Value → ℕ → Option Kind
-    → Value → Value → Type 0
-TakesKind way ts f cs xs i (Some (Open s)) x y = TakesOpen way ts f s (told_in ts cs xs s) x y
-TakesKind way ts f cs xs i k x y = f i x y
+abbrev pub TakesOne : Way → List Kind → (ℕ → Value → Value → Type 0) → List Component → List Value → ℕ
+    → Option ObjectSet → Value → Value → Type 0
+TakesOne way ts f cs xs i None x y = f i x y
+TakesOne way ts f cs xs i (Some s) x y = TakesOpen way ts f s (told_in ts cs xs s) x y
 
 abbrev pub TakesField : Way → List Kind → (ℕ → Value → Value → Type 0) → List Component → List Value → Option Component
     → Value → Value → Type 0
 TakesField way ts f cs xs None x y = IsLeft x y
-TakesField way ts f cs xs (Some c) x y = TakesKind way ts f cs xs c.of (slice_get ts c.of) x y
+TakesField way ts f cs xs (Some c) x y = TakesOne way ts f cs xs c.of (set_of (slice_get ts c.of)) x y
 
 -- the open types of a SEQUENCE OF are taken in each element
 pub data TakesList (r : Value → Value → Type 0) (x y : Value) : Type 0 where
   each : (v w : Vec Value) → x ≡ Elements v → y ≡ Elements w → Each (λ k. r) v.items w.items → TakesList r x y
-  other : NotElements (value_of x) → IsLeft x y → TakesList r x y
+  other : ((v : Vec Value) → x ≡ Elements v → ⊥) → IsLeft x y → TakesList r x y
 
 -- those of a SET OF likewise
 pub data TakesBag (r : Value → Value → Type 0) (x y : Value) : Type 0 where
   each : (v w : Vec Value) → x ≡ Bag v → y ≡ Bag w → Each (λ k. r) v.items w.items → TakesBag r x y
-  other : NotBag (value_of x) → IsLeft x y → TakesBag r x y
+  other : ((v : Vec Value) → x ≡ Bag v → ⊥) → IsLeft x y → TakesBag r x y
 
 -- those of components, by the record's root components and their values
 abbrev pub TakesFields : Way → List Kind → (ℕ → Value → Value → Type 0) → List Component → List Value → List Component
@@ -140,14 +144,14 @@ pub data TakesRecord (way : Way) (ts : List Kind) (f : ℕ → Value → Value �
   each : (v w v' w' : Vec Value) → x ≡ Fields v w → y ≡ Fields v' w'
       → TakesFields way ts f r.root.items v.items r.root.items v.items v'.items
       → TakesFields way ts f r.root.items v.items (behind r.additions) w.items w'.items → TakesRecord way ts f r x y
-  other : NotFields (value_of x) → IsLeft x y → TakesRecord way ts f r x y
+  other : ((v w : Vec Value) → x ≡ Fields v w → ⊥) → IsLeft x y → TakesRecord way ts f r x y
 
 -- those of a CHOICE are taken in its alternative
 pub data TakesChoice (f : ℕ → Value → Value → Type 0) (c : Choice) (x y : Value) : Type 0 where
   chosen : (p : Place) (a : ChoiceAlternative) (b b' : Box Value) → standing c p ≡ Some a → x ≡ Alternative p b
       → y ≡ Alternative p b' → f a.of b.value b'.value → TakesChoice f c x y
   unknown : (p : Place) (b : Box Value) → standing c p ≡ None → x ≡ Alternative p b → IsLeft x y → TakesChoice f c x y
-  other : NotAlternative (value_of x) → IsLeft x y → TakesChoice f c x y
+  other : ((p : Place) (b : Box Value) → x ≡ Alternative p b → ⊥) → IsLeft x y → TakesChoice f c x y
 
 -- the open types in a value are taken by what its type is, and those in its parts by the places of their types
 abbrev pub TakesParts : Way → List Kind → (ℕ → Value → Value → Type 0) → Option Kind → Value → Value → Type 0

@@ -8,9 +8,9 @@ ghost use Rattle.rasn_dynamic.specs.Types.{schema_at, within};
 ghost use Rattle.rasn_dynamic.specs.Values.{levels_of, value_of};
 ghost use Rattle.rasn_per.specs.Calls.{Decoded, Encoded};
 ghost use Rattle.per_dynamic.specs.OpenTypes.{Each, first_named, has_value, IsLeft, IsOpenRead, IsOpenWritten};
-ghost use Rattle.per_dynamic.specs.OpenTypes.{IsRowAt, IsRowRead, IsRowWritten, of_one_type, row_told, Takes};
-ghost use Rattle.per_dynamic.specs.OpenTypes.{TakesBag, TakesChoice, TakesField, TakesFields, TakesList, TakesOpen};
-ghost use Rattle.per_dynamic.specs.OpenTypes.{TakesParts, TakesRecord, told_in};
+ghost use Rattle.per_dynamic.specs.OpenTypes.{IsRowAt, IsRowRead, IsRowWritten, of_one_type, row_told, set_of, Takes};
+ghost use Rattle.per_dynamic.specs.OpenTypes.{TakesBag, TakesChoice, TakesField, TakesFields, TakesList, TakesOne};
+ghost use Rattle.per_dynamic.specs.OpenTypes.{TakesOpen, TakesParts, TakesRecord, told_in};
 ghost use Rattle.per_dynamic.specs.declared.open_types.OpenTypeError.TheVariants.{OutOfMemory};
 
 use crate::{aper, uper};
@@ -268,7 +268,7 @@ fn taken_fields(
 {
     let mut all = Vec::new(alloc);
     for (index, value) in values.iter().enumerate() {
-        let component = components.get(index);
+        let component = component_at(components, index);
         let taken = taken_field(
             alloc,
             types,
@@ -297,19 +297,62 @@ fn taken_field(
     value: &Value,
 ) -> Result<Value, OpenTypeError>
     ensures taken { IfOk result (TakesField way types.now.kinds.items (Takes way types.now.kinds.items levels)
-        root.now root_values.now (option_map (λ c. c.now) component) value.now) }
+        root.now root_values.now (option_map (λ c. c.now) component.entry) value.now) }
     ensures memory { IfErr result (λ e. way.reads ≡ true → e ≡ OutOfMemory) }
 {
     let Some(component) = component else {
         return left(alloc, value);
     };
-    match kind_at(&types.kinds, component.of) {
-        Some(Kind::Open(set)) => {
+    taken_one(alloc, types, way, levels, root, root_values, component.of, value)
+}
+
+/// Takes the open types of a component, of the type at a place.
+#[cycle(taking)]
+fn taken_one(
+    alloc: Global,
+    types: &Types,
+    way: Way,
+    levels: usize,
+    root: &[Component],
+    root_values: &[Value],
+    of: usize,
+    value: &Value,
+) -> Result<Value, OpenTypeError>
+    ensures taken { IfOk result (TakesOne way types.now.kinds.items (Takes way types.now.kinds.items levels)
+        root.now root_values.now of (set_of (slice_get types.now.kinds.items of)) value.now) }
+    ensures memory { IfErr result (λ e. way.reads ≡ true → e ≡ OutOfMemory) }
+{
+    match set_at(&types.kinds, of) {
+        Some(set) => {
             let told = told_in(&types.kinds, root, root_values, set);
             taken_open(alloc, types, way, levels, set, told, value)
         }
-        _ => taken_at(alloc, types, way, levels, component.of, value),
+        None => taken_at(alloc, types, way, levels, of, value),
     }
+}
+
+/// The object set of the open type at a place, where one is there.
+fn set_at(kinds: &[Kind], place: usize) -> Option<&ObjectSet>
+    ensures { option_map (λ s. s.now) result ≡ set_of (slice_get kinds.now place) }
+{
+    match kind_at(kinds, place)? {
+        Kind::Open(set) => Some(set),
+        _ => None,
+    }
+}
+
+/// The component at an index.
+fn component_at(components: &[Component], index: usize) -> Option<&Component>
+    ensures { option_map (λ c. c.now) result ≡ slice_get components.now index }
+{
+    components.get(index)
+}
+
+/// The row at an index.
+fn row_at_index(rows: &[Row], index: usize) -> Option<&Row>
+    ensures { option_map (λ r. r.now) result ≡ slice_get rows.now index }
+{
+    rows.get(index)
 }
 
 /// Takes the open types of a CHOICE.
@@ -377,7 +420,7 @@ fn read_open(
     let Some(index) = told else {
         return left(alloc, value);
     };
-    let Some(row) = set.rows.get(index) else {
+    let Some(row) = row_at_index(&set.rows, index) else {
         return left(alloc, value);
     };
     match value {
@@ -452,7 +495,7 @@ fn row_at(set: &ObjectSet, told: Option<usize>, place: Place) -> Option<&Row>
     ensures { IfSome result (λ r. IsRowAt set.now told place r.now) }
 {
     match place {
-        Place::Root(index) if told == Some(index) => set.rows.get(index),
+        Place::Root(index) if told == Some(index) => row_at_index(&set.rows, index),
         _ => None,
     }
 }

@@ -8,31 +8,34 @@ abbrev pub decreases-taken_at : goal.decreases-taken_at
 decreases-taken_at l = 16 * l.levels + 1
 
 abbrev pub decreases-taken_within : goal.decreases-taken_within
-decreases-taken_within l = 16 * l.levels + 12
+decreases-taken_within l = 16 * l.levels + 13
 
 abbrev pub decreases-taken_parts : goal.decreases-taken_parts
-decreases-taken_parts l = 16 * l.levels + 11
+decreases-taken_parts l = 16 * l.levels + 12
 
 abbrev pub decreases-taken_list : goal.decreases-taken_list
-decreases-taken_list l = 16 * l.levels + 10
+decreases-taken_list l = 16 * l.levels + 11
 
 abbrev pub decreases-taken_set_of : goal.decreases-taken_set_of
-decreases-taken_set_of l = 16 * l.levels + 10
+decreases-taken_set_of l = 16 * l.levels + 11
 
 abbrev pub decreases-taken_record : goal.decreases-taken_record
-decreases-taken_record l = 16 * l.levels + 10
+decreases-taken_record l = 16 * l.levels + 11
 
 abbrev pub decreases-taken_choice : goal.decreases-taken_choice
-decreases-taken_choice l = 16 * l.levels + 10
+decreases-taken_choice l = 16 * l.levels + 11
 
 abbrev pub decreases-taken_values : goal.decreases-taken_values
-decreases-taken_values l = 16 * l.levels + 9
+decreases-taken_values l = 16 * l.levels + 10
 
 abbrev pub decreases-taken_fields : goal.decreases-taken_fields
-decreases-taken_fields l = 16 * l.levels + 9
+decreases-taken_fields l = 16 * l.levels + 10
 
 abbrev pub decreases-taken_field : goal.decreases-taken_field
-decreases-taken_field l = 16 * l.levels + 8
+decreases-taken_field l = 16 * l.levels + 9
+
+abbrev pub decreases-taken_one : goal.decreases-taken_one
+decreases-taken_one l = 16 * l.levels + 8
 
 abbrev pub decreases-taken_open : goal.decreases-taken_open
 decreases-taken_open l = 16 * l.levels + 7
