@@ -1,7 +1,7 @@
 //! Whether defaults are values of their components' types.
 
 ghost use Rattle.std.specs.Prelude.{◌≡◌, slice_get, true};
-ghost use Rattle.rasn_types.specs.Contents.{is_identifier, is_text, utf8};
+ghost use Rattle.rasn_types.specs.Contents.{generalized, is_identifier, is_text, is_time, utc, utf8};
 ghost use Rattle.rasn_types.specs.Values;
 ghost use Rattle.rasn_schema.specs.Enumerations.{items_of};
 ghost use Rattle.rasn_schema.specs.Lawful.{all_pass, if_bits, if_characters, if_octets, is_value};
@@ -12,6 +12,7 @@ ghost use Rattle.lawful_types.specs.Keeps.{is_default_of_named, is_default_of_si
 
 use crate::identifiers::are_contents;
 use rasn_dynamic::defaults::are_normal;
+use rasn_dynamic::times::{generalized_moment, utc_moment};
 use rasn_dynamic::types::{Component, DefaultValue, Items, Kind, Presence, Simple, SizeBounds};
 use rasn_schema::items::Place;
 use rasn_types::bit_string::BitString;
@@ -79,6 +80,8 @@ fn is_default_of_simple(default: &DefaultValue, simple: &Simple) -> bool
         Simple::OctetString(_) | Simple::Text | Simple::Open => are_octets(default),
         Simple::Utf8 => is_text(default),
         Simple::ObjectIdentifier => is_object(default),
+        Simple::UtcTime => is_utc_time(default),
+        Simple::GeneralizedTime => is_generalized_time(default),
     }
 }
 
@@ -176,6 +179,32 @@ fn is_object(default: &DefaultValue) -> bool
         DefaultValue::Octets(octets) => {
             octets_are_countable(octets.as_bytes());
             are_contents(octets.as_bytes())
+        }
+        _ => false,
+    }
+}
+
+/// Whether a default is the canonical text of a UTCTime (X.690 11.8).
+fn is_utc_time(default: &DefaultValue) -> bool
+    ensures { result ≡ if_characters (is_time utc) (default_value default.now) }
+{
+    match default {
+        DefaultValue::Characters(characters) => {
+            characters_are_countable(characters.as_units());
+            utc_moment(characters).is_some()
+        }
+        _ => false,
+    }
+}
+
+/// Whether a default is the canonical text of a GeneralizedTime (X.690 11.7).
+fn is_generalized_time(default: &DefaultValue) -> bool
+    ensures { result ≡ if_characters (is_time generalized) (default_value default.now) }
+{
+    match default {
+        DefaultValue::Characters(characters) => {
+            characters_are_countable(characters.as_units());
+            generalized_moment(characters).is_some()
         }
         _ => false,
     }

@@ -36,6 +36,14 @@ pub returns-in-ObjectIdentifier : goal.returns-in-ObjectIdentifier
 unfolding is_value
 returns-in-ObjectIdentifier c = rw c.in-ObjectIdentifier.is c.is_object.ensures
 
+pub returns-in-UtcTime : goal.returns-in-UtcTime
+unfolding is_value
+returns-in-UtcTime c = rw c.in-UtcTime.is c.is_utc_time.ensures
+
+pub returns-in-GeneralizedTime : goal.returns-in-GeneralizedTime
+unfolding is_value
+returns-in-GeneralizedTime c = rw c.in-GeneralizedTime.is c.is_generalized_time.ensures
+
 pub returns-in-OctetString : goal.returns-in-OctetString
 returns-in-OctetString c = c.are_octets.ensures ∙ octets_kind c.args.simple.now c.args.default.now c.in-OctetString.is
 
