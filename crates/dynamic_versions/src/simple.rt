@@ -20,6 +20,8 @@ pub(crate) fn compare_simple(newer: &Simple, older: &Simple) -> Result<(), Reaso
         (Simple::Utf8, Simple::Utf8) => Ok(()),
         (Simple::Text, Simple::Text) => Ok(()),
         (Simple::ObjectIdentifier, Simple::ObjectIdentifier) => Ok(()),
+        (Simple::UtcTime, Simple::UtcTime) => Ok(()),
+        (Simple::GeneralizedTime, Simple::GeneralizedTime) => Ok(()),
         (Simple::Open, Simple::Open) => Ok(()),
         (Simple::Integer(newer), Simple::Integer(older)) => compare_bounds(newer, older),
         (Simple::Enumerated(newer), Simple::Enumerated(older)) => compare_items(newer, older),

@@ -18,6 +18,12 @@ returns-in-Text-Text c = rw (c.in-Text-Text.is-0, c.in-Text-Text.is-1) (unchange
 pub returns-in-ObjectIdentifier-ObjectIdentifier : goal.returns-in-ObjectIdentifier-ObjectIdentifier
 returns-in-ObjectIdentifier-ObjectIdentifier c = rw (c.in-ObjectIdentifier-ObjectIdentifier.is-0, c.in-ObjectIdentifier-ObjectIdentifier.is-1) (unchanged tt)
 
+pub returns-in-UtcTime-UtcTime : goal.returns-in-UtcTime-UtcTime
+returns-in-UtcTime-UtcTime c = rw (c.in-UtcTime-UtcTime.is-0, c.in-UtcTime-UtcTime.is-1) (unchanged tt)
+
+pub returns-in-GeneralizedTime-GeneralizedTime : goal.returns-in-GeneralizedTime-GeneralizedTime
+returns-in-GeneralizedTime-GeneralizedTime c = rw (c.in-GeneralizedTime-GeneralizedTime.is-0, c.in-GeneralizedTime-GeneralizedTime.is-1) (unchanged tt)
+
 pub returns-in-Open-Open : goal.returns-in-Open-Open
 returns-in-Open-Open c = rw (c.in-Open-Open.is-0, c.in-Open-Open.is-1) (unchanged tt)
 
