@@ -93,7 +93,7 @@ bits_json n (Simples.BitString c) bs = bits_shown n (fixed_by c) bs
 bits_json n (Simples.NamedBits c) bs = bits_shown n (fixed_by c) (filled_up (least_of c) (trimmed bs))
 bits_json n k bs = None
 
--- whether characters may be a value of a type: any of a character string's, of a time its canonical text (X.690 11.7 and
+-- whether characters may be a value of a type: any of a character string's, of a time its canonical text (X.690 11.7,
 -- 11.8)
 abbrev pub may_be_characters : Simple → List ℕ → Bool
 may_be_characters (Simples.Characters s) cs = true
