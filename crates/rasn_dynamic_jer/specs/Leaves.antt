@@ -1,6 +1,6 @@
 -- The JSON of values in which no others are (ITU-T X.697).
-use Rattle.std.specs.Prelude.{ℕ, zero, suc, Bool, true, false, ◌&&◌, if◌then◌else◌, nat_eq, List, Option, Some, None, length}
-use Rattle.std.specs.Prelude.{codes, decimal, encode_utf8_all, option_map, ℤ}
+use Rattle.std.specs.Prelude.{ℕ, zero, suc, Bool, true, false, ◌&&◌, if◌then◌else◌, nat_eq, List, Option, Some, None}
+use Rattle.std.specs.Prelude.{codes, decimal, encode_utf8_all, length, option_map, ℤ}
 use Rattle.std.specs.Fmt.{signed_decimal}
 use Rattle.std.specs.Option.{option_eq, unwrap_or}
 use Rattle.std.specs.Str.{all_scalars, is_utf8}
@@ -93,8 +93,8 @@ bits_json n (Simples.BitString c) bs = bits_shown n (fixed_by c) bs
 bits_json n (Simples.NamedBits c) bs = bits_shown n (fixed_by c) (filled_up (least_of c) (trimmed bs))
 bits_json n k bs = None
 
--- whether characters may be a value of a type: any of a character string's, of a time its canonical text (X.690 11.7,
--- 11.8)
+-- whether characters may be a value of a type: any of a character string, and of a time its canonical text (X.690
+-- 11.7 and 11.8)
 abbrev pub may_be_characters : Simple → List ℕ → Bool
 may_be_characters (Simples.Characters s) cs = true
 may_be_characters Simples.UtcTime cs = is_time utc cs
