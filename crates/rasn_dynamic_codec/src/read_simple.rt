@@ -1,7 +1,7 @@
 //! How values are read of types in which no other type stands.
 
 ghost use Rattle.std.specs.Prelude.{◌≡◌};
-ghost use Rattle.rasn_types.specs.Contents.{other, utf8};
+ghost use Rattle.rasn_types.specs.Contents.{generalized, other, utc, utf8};
 ghost use Rattle.rasn_types.specs.Values.{characters};
 ghost use Rattle.rasn_constraints.specs.Bounds.{unbounded};
 ghost use Rattle.rasn_schema.specs.Enumerations.{items_of};
@@ -25,6 +25,8 @@ use rasn_traits::counted::CountedDecoder;
 use rasn_traits::de::Octets;
 use rasn_types::ber::object_identifier_as_bytes;
 use rasn_types::types::{Any, Integer, Tag};
+use rasn_useful::generalized_time::GeneralizedTime;
+use rasn_useful::utc_time::UtcTime;
 
 /// Reads a value of a type in which no other stands.
 pub(crate) fn decode_simple<D: CountedDecoder>(
@@ -45,6 +47,8 @@ pub(crate) fn decode_simple<D: CountedDecoder>(
         Simple::Utf8 => decode_utf8(decoder),
         Simple::Text => decode_text(decoder),
         Simple::ObjectIdentifier => decode_identifier(decoder),
+        Simple::UtcTime => decode_utc_time(decoder),
+        Simple::GeneralizedTime => decode_generalized_time(decoder),
         Simple::Open => decode_any(decoder),
     }
 }
@@ -209,6 +213,28 @@ fn decode_identifier<D: CountedDecoder>(decoder: &mut D) -> Result<Value, D::Err
     let mut octets = Vec::new(decoder.alloc());
     match object_identifier_as_bytes(&arcs, &mut octets) {
         Ok(()) => Ok(Value::Octets(Any::new(octets))),
+        Err(_) => Err(decoder.out_of_memory()),
+    }
+}
+
+/// Reads a UTCTime.
+fn decode_utc_time<D: CountedDecoder>(decoder: &mut D) -> Result<Value, D::Error>
+    ensures { ReadsValue D.rules (Schema.time utc) decoder.old result decoder.new }
+{
+    let time: UtcTime = decoder.decode_utc_time(Tag::UTC_TIME)?;
+    match Value::from_utc_time(decoder.alloc(), time.to_datetime()) {
+        Ok(value) => Ok(value),
+        Err(_) => Err(decoder.out_of_memory()),
+    }
+}
+
+/// Reads a GeneralizedTime.
+fn decode_generalized_time<D: CountedDecoder>(decoder: &mut D) -> Result<Value, D::Error>
+    ensures { ReadsValue D.rules (Schema.time generalized) decoder.old result decoder.new }
+{
+    let time: GeneralizedTime = decoder.decode_generalized_time(Tag::GENERALIZED_TIME)?;
+    match Value::from_generalized_time(decoder.alloc(), time.to_datetime()) {
+        Ok(value) => Ok(value),
         Err(_) => Err(decoder.out_of_memory()),
     }
 }

@@ -1,7 +1,7 @@
 //! How values are written of types in which no other type stands.
 
 ghost use Rattle.std.specs.Prelude.{◌≡◌, Err, IfOk, false};
-ghost use Rattle.rasn_types.specs.Contents.{is_identifier, other, utf8};
+ghost use Rattle.rasn_types.specs.Contents.{generalized, is_identifier, other, utc, utf8};
 ghost use Rattle.rasn_types.specs.Identifiers.{contents};
 ghost use Rattle.rasn_types.specs.Values.{characters};
 ghost use Rattle.rasn_constraints.specs.Bounds.{unbounded};
@@ -29,6 +29,8 @@ use rasn_traits::counted::CountedEncoder;
 use rasn_types::ber::{BerError, object_identifier_from_bytes};
 use rasn_types::octet_strings::GeneralString;
 use rasn_types::types::{Any, Identifier, Tag};
+use rasn_useful::generalized_time::GeneralizedTime;
+use rasn_useful::utc_time::UtcTime;
 
 /// Writes a value of a type in which no other stands.
 pub(crate) fn encode_simple<E: CountedEncoder>(
@@ -51,6 +53,8 @@ pub(crate) fn encode_simple<E: CountedEncoder>(
         Simple::Utf8 => encode_utf8(encoder, value),
         Simple::Text => encode_text(encoder, value),
         Simple::ObjectIdentifier => encode_identifier(encoder, value),
+        Simple::UtcTime => encode_utc_time(encoder, value),
+        Simple::GeneralizedTime => encode_generalized_time(encoder, value),
         Simple::Open => encode_any(encoder, value),
     }
 }
@@ -317,6 +321,36 @@ fn arcs_in(octets: &Any) -> Result<Vec<u32>, BerError>
 {
     let copy = octets.clone()?.into_vec();
     object_identifier_from_bytes(*copy.allocator(), &copy)
+}
+
+/// Writes a UTCTime by its text. Characters that aren't its canonical text are refused.
+fn encode_utc_time<E: CountedEncoder>(encoder: &mut E, value: &Value) -> Result<(), E::Error>
+    ensures { Encodes E.rules (always (Schema.time utc)) (levels_of value.now) (value_of value.now)
+        encoder.old result encoder.new }
+{
+    match value.to_utc_time() {
+        Some(moment) => {
+            encoder.encode_utc_time(Tag::UTC_TIME, &UtcTime::new(moment), Identifier::EMPTY)
+        }
+        None => encoder.refuse_other(),
+    }
+}
+
+/// Writes a GeneralizedTime by its text. Characters that aren't its canonical text are refused.
+fn encode_generalized_time<E: CountedEncoder>(
+    encoder: &mut E,
+    value: &Value,
+) -> Result<(), E::Error>
+    ensures { Encodes E.rules (always (Schema.time generalized)) (levels_of value.now) (value_of value.now)
+        encoder.old result encoder.new }
+{
+    match value.to_generalized_time() {
+        Some(moment) => {
+            let time = GeneralizedTime::new(moment);
+            encoder.encode_generalized_time(Tag::GENERALIZED_TIME, &time, Identifier::EMPTY)
+        }
+        None => encoder.refuse_other(),
+    }
 }
 
 /// Writes the octets of an open type.
