@@ -27,6 +27,7 @@ json_name Told.WrongKind = codes "WrongKind"
 json_name Told.BadNumber = codes "BadNumber"
 json_name Told.BadHexadecimal = codes "BadHexadecimal"
 json_name Told.BadCharacter = codes "BadCharacter"
+json_name Told.BadTime = codes "BadTime"
 json_name Told.NoType = codes "NoType"
 
 -- what is said of a refusal

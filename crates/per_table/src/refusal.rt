@@ -72,6 +72,7 @@ fn json_name(error: FromJsonError) -> &'static str
         FromJsonError::BadNumber => "BadNumber",
         FromJsonError::BadHexadecimal => "BadHexadecimal",
         FromJsonError::BadCharacter => "BadCharacter",
+        FromJsonError::BadTime => "BadTime",
         FromJsonError::NoType => "NoType",
     }
 }

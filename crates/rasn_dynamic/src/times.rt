@@ -16,7 +16,7 @@ use std::alloc::{AllocError, Global};
 /// How many characters the longest of these texts has: that of a GeneralizedTime with nine digits of a fraction.
 const MOST: usize = 25;
 
-/// The moment in UTC with this canonical text of a UTCTime (X.690 11.8); none where it is no such text. Takes no memory.
+/// The moment in UTC with this canonical text of a UTCTime (X.690 11.8); none where it is another. Takes no memory.
 pub fn utc_moment(text: &BmpString) -> Option<DateTime>
     ensures read { IfSome result (λ moment. utc_text moment ≡ text.now) }
     ensures accepted { is_some result ≡ is_time utc text.now }
@@ -28,7 +28,7 @@ pub fn utc_moment(text: &BmpString) -> Option<DateTime>
     }
 }
 
-/// The moment in UTC with this canonical text of a GeneralizedTime (X.690 11.7); none where it is no such text. Takes
+/// The moment in UTC with this canonical text of a GeneralizedTime (X.690 11.7); none where it is another. Takes
 /// no memory.
 pub fn generalized_moment(text: &BmpString) -> Option<DateTime>
     ensures read { IfSome result (λ moment. generalized_text moment ≡ text.now) }

@@ -7,3 +7,4 @@ pub mod Putting
 pub mod Records
 pub mod Tokens
 pub mod Untold
+pub mod TimesTold

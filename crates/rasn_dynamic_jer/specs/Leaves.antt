@@ -1,10 +1,11 @@
 -- The JSON of values in which no others are (ITU-T X.697).
-use Rattle.std.specs.Prelude.{ℕ, zero, suc, Bool, false, if◌then◌else◌, nat_eq, List, Option, Some, None, length}
-use Rattle.std.specs.Prelude.{codes, decimal, encode_utf8_all, option_map, ℤ}
+use Rattle.std.specs.Prelude.{ℕ, zero, suc, Bool, true, false, ◌&&◌, if◌then◌else◌, nat_eq, List, Option, Some, None}
+use Rattle.std.specs.Prelude.{codes, decimal, encode_utf8_all, length, option_map, ℤ}
 use Rattle.std.specs.Fmt.{signed_decimal}
 use Rattle.std.specs.Option.{option_eq, unwrap_or}
 use Rattle.std.specs.Str.{all_scalars, is_utf8}
 use Rattle.rasn_types.specs.Bits.{Bits}
+use Rattle.rasn_types.specs.Contents.{generalized, is_time, utc}
 use Rattle.rasn_types.specs.Integers.{is_i128}
 use Rattle.rasn_types.specs.Packed.{packed}
 use Rattle.rasn_types.specs.Trimmed.{filled_up, trimmed}
@@ -92,10 +93,17 @@ bits_json n (Simples.BitString c) bs = bits_shown n (fixed_by c) bs
 bits_json n (Simples.NamedBits c) bs = bits_shown n (fixed_by c) (filled_up (least_of c) (trimmed bs))
 bits_json n k bs = None
 
--- X.697: a character string whose characters are scalar values of Unicode
+-- whether characters may be a value of a type: any of a character string, and of a time its canonical text (X.690
+-- 11.7 and 11.8)
+abbrev pub may_be_characters : Simple → List ℕ → Bool
+may_be_characters (Simples.Characters s) cs = true
+may_be_characters Simples.UtcTime cs = is_time utc cs
+may_be_characters Simples.GeneralizedTime cs = is_time generalized cs
+may_be_characters k cs = false
+
+-- X.697: a character string, UTCTime and GeneralizedTime: characters that are scalar values of Unicode
 abbrev pub characters_json : Simple → List ℕ → Option Json
-characters_json (Simples.Characters s) cs = if all_scalars cs then Some (string (encode_utf8_all cs)) else None
-characters_json k cs = None
+characters_json k cs = if may_be_characters k cs && all_scalars cs then Some (string (encode_utf8_all cs)) else None
 
 -- the JSON of a value of a type in which no other is, within so many levels; none of a value of another kind
 abbrev pub simple_json : {A : Type 0} → ℕ → Simple → Value-F A → Option Json

@@ -13,6 +13,7 @@ use Rattle.std.specs.Str.Parse.{digits_value, signed_digits_value, without_leadi
 use Rattle.rasn_types.specs.AllOf.{all_of}
 use Rattle.rasn_types.specs.Alphabets.{bmp, has_all}
 use Rattle.rasn_types.specs.Bits.{unpack}
+use Rattle.rasn_types.specs.Contents.{generalized, is_time, TimeKind, utc}
 use Rattle.rasn_types.specs.Integers.{is_i128}
 use Rattle.rasn_types.specs.Values.{Value, alternative, bag_of, bits, characters, nothing, octets, truth, whole}
 use Rattle.rasn_schema.specs.Lists.{list_value}
@@ -128,6 +129,10 @@ item_place i s = place_among (position (λ n. bytes_eq (string_bytes n) s) i.roo
 abbrev pub characters_told : List ℕ → Option Value
 characters_told s = if has_all bmp (chars s) then Some (characters (chars s)) else None
 
+-- X.697: a UTCTime or a GeneralizedTime: characters that are its canonical text (X.690 11.7 and 11.8)
+abbrev pub time_told : TimeKind → List ℕ → Option Value
+time_told kind s = if is_time kind (chars s) then characters_told s else None
+
 -- the octets that are the numbers of characters
 abbrev pub latin_told : List ℕ → Option Value
 latin_told s = if list_all (λ c. nat_lt c 256) (chars s) then Some (octets (chars s)) else None
@@ -145,8 +150,8 @@ simple_told (Simples.Characters c) j = option_and_then characters_told (as_str j
 simple_told Simples.Utf8 j = option_map octets (as_str j)
 simple_told Simples.Text j = option_and_then latin_told (as_str j)
 simple_told Simples.ObjectIdentifier j = None
-simple_told Simples.UtcTime j = None
-simple_told Simples.GeneralizedTime j = None
+simple_told Simples.UtcTime j = option_and_then (time_told utc) (as_str j)
+simple_told Simples.GeneralizedTime j = option_and_then (time_told generalized) (as_str j)
 simple_told Simples.Open j = option_map octets (option_and_then octets_in (as_str j))
 
 -- a component that no member tells: absent, or its default (X.680 25.9)

@@ -39,6 +39,9 @@ pub enum FromJsonError {
     /// A string has a character that its type can't have.
     #[error("a string has a character that its type cannot have")]
     BadCharacter,
+    /// A string isn't the canonical text of a time (X.690 11.7 and 11.8).
+    #[error("a string is not the canonical text of a time")]
+    BadTime,
     /// The place is past the table of types.
     #[error("no type stands at the place")]
     NoType,

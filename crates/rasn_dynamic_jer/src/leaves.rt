@@ -11,14 +11,15 @@ ghost use Rattle.hex.specs.Hex.{encode_upper};
 ghost use Rattle.json.specs.Print.{IsPrintable};
 ghost use Rattle.json.specs.Reads.{token_of};
 ghost use Rattle.rasn_dynamic_jer.specs.Leaves.{bits_json, bits_shown, characters_json, counted};
-ghost use Rattle.rasn_dynamic_jer.specs.Leaves.{item_json, least_of, null_json, number_json, octets_json, truth_json};
-ghost use Rattle.rasn_dynamic_jer.specs.Leaves.{utf8_json};
+ghost use Rattle.rasn_dynamic_jer.specs.Leaves.{item_json, least_of, may_be_characters, null_json};
+ghost use Rattle.rasn_dynamic_jer.specs.Leaves.{number_json, octets_json, truth_json, utf8_json};
 ghost use Rattle.rasn_dynamic_jer.specs.Puts.{Puts, PutsToken};
 ghost use Rattle.rasn_dynamic_jer.specs.declared.error.ToJsonError.TheVariants.{NoJson, OutOfMemory};
 
 use crate::error::ToJsonError;
 use crate::table::fixed_by;
 use json::{Token, Writer};
+use rasn_dynamic::times::{generalized_moment, utc_moment};
 use rasn_dynamic::types::{Simple, SizeBounds};
 use rasn_schema::items::Place;
 use rasn_strings::strings::BmpString;
@@ -240,11 +241,23 @@ pub(crate) fn put_characters(
 ) -> Result<(), ToJsonError>
     ensures { (n : ℕ) → Puts (characters_json simple.now characters.now) n writer.old result writer.new }
 {
-    let Simple::Characters(_) = simple else {
+    if !may_be_characters(simple, characters) {
         return Err(ToJsonError::NoJson);
-    };
+    }
     let text = scalars(alloc, characters)?;
     put_token(writer, Token::String(text.as_str()))
+}
+
+/// Whether characters may be a value of a type: any of a character string's, of a time its canonical text.
+fn may_be_characters(simple: &Simple, characters: &BmpString) -> bool
+    ensures { result ≡ may_be_characters simple.now characters.now }
+{
+    match simple {
+        Simple::Characters(_) => true,
+        Simple::UtcTime => utc_moment(characters).is_some(),
+        Simple::GeneralizedTime => generalized_moment(characters).is_some(),
+        _ => false,
+    }
 }
 
 /// Characters, which have to be scalar values of Unicode.

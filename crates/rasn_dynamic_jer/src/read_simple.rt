@@ -5,6 +5,7 @@ ghost use Rattle.std.specs.Prelude.{option_map, position, string_bytes};
 ghost use Rattle.std.specs.Str.{bytes_eq, chars};
 ghost use Rattle.json.specs.Find.{as_bool, as_number, as_str};
 ghost use Rattle.json.specs.Value.{value_view};
+ghost use Rattle.rasn_types.specs.Contents.{generalized, utc};
 ghost use Rattle.rasn_types.specs.Values.{octets, truth};
 ghost use Rattle.rasn_traits.specs.Counted.{item_at};
 ghost use Rattle.rasn_dynamic.specs.Values.{slot_of};
@@ -12,7 +13,7 @@ ghost use Rattle.hex.specs.declared.error.FromHexError.TheVariants as HexErrors;
 ghost use Rattle.rasn_dynamic_jer.specs.Leaves.{fixed_by};
 ghost use Rattle.rasn_dynamic_jer.specs.Told.{bits_in, bits_told, characters_told, count_told, counted_told};
 ghost use Rattle.rasn_dynamic_jer.specs.Told.{digits_member, fixed_told, item_place, IsUntold, latin_told};
-ghost use Rattle.rasn_dynamic_jer.specs.Told.{length_member, null_told, octets_in, simple_told, TellsValue};
+ghost use Rattle.rasn_dynamic_jer.specs.Told.{length_member, null_told, octets_in, simple_told, TellsValue, time_told};
 ghost use Rattle.rasn_dynamic_jer.specs.Told.{whole_told};
 ghost use Rattle.rasn_dynamic_jer.specs.declared.from_json_error.FromJsonError.TheVariants.{OutOfMemory};
 
@@ -49,9 +50,9 @@ pub(crate) fn read_simple(
         Simple::Utf8 => read_utf8(alloc, json),
         Simple::Text => read_latin(alloc, json),
         Simple::ObjectIdentifier => Err(FromJsonError::WrongKind),
+        Simple::UtcTime => read_utc_time(alloc, json),
+        Simple::GeneralizedTime => read_generalized_time(alloc, json),
         Simple::Open => read_octets(alloc, json),
-        Simple::UtcTime => Err(FromJsonError::WrongKind),
-        Simple::GeneralizedTime => Err(FromJsonError::WrongKind),
     }
 }
 
@@ -247,6 +248,48 @@ fn characters_of(alloc: Global, text: &str) -> Result<Value, FromJsonError>
         Ok(characters) => Ok(Value::Characters(characters)),
         Err(StringError::OutOfMemory) => Err(FromJsonError::OutOfMemory),
         Err(StringError::ForeignCharacter { .. }) => Err(FromJsonError::BadCharacter),
+    }
+}
+
+/// Reads a UTCTime by its text.
+fn read_utc_time(alloc: Global, json: &Json<'_>) -> Result<Value, FromJsonError>
+    ensures { TellsValue (option_and_then (time_told utc) (as_str (value_view json.now))) result }
+{
+    match json.as_str() {
+        Some(text) => utc_time_of(alloc, text),
+        None => Err(FromJsonError::WrongKind),
+    }
+}
+
+/// The characters of a text, where they are the canonical text of a UTCTime.
+fn utc_time_of(alloc: Global, text: &str) -> Result<Value, FromJsonError>
+    ensures { TellsValue (time_told utc text.now) result }
+{
+    let value = characters_of(alloc, text)?;
+    match value.to_utc_time() {
+        Some(_) => Ok(value),
+        None => Err(FromJsonError::BadTime),
+    }
+}
+
+/// Reads a GeneralizedTime by its text.
+fn read_generalized_time(alloc: Global, json: &Json<'_>) -> Result<Value, FromJsonError>
+    ensures { TellsValue (option_and_then (time_told generalized) (as_str (value_view json.now))) result }
+{
+    match json.as_str() {
+        Some(text) => generalized_time_of(alloc, text),
+        None => Err(FromJsonError::WrongKind),
+    }
+}
+
+/// The characters of a text, where they are the canonical text of a GeneralizedTime.
+fn generalized_time_of(alloc: Global, text: &str) -> Result<Value, FromJsonError>
+    ensures { TellsValue (time_told generalized text.now) result }
+{
+    let value = characters_of(alloc, text)?;
+    match value.to_generalized_time() {
+        Some(_) => Ok(value),
+        None => Err(FromJsonError::BadTime),
     }
 }
 

@@ -1,0 +1,12 @@
+use Rattle.std.proofs.Common.{inr}
+use Rattle.rasn_types.specs.Contents.{generalized}
+use Rattle.rasn_dynamic_jer.specs.Told.{characters_told, time_told}
+use Rattle.rasn_dynamic_jer.proofs.TimesTold.{told_time, untold_text, untold_time}
+use Rattle.rasn_dynamic_jer.proofs.Untold.{untold_by}
+use Rattle.rasn_dynamic_jer.proofs.read_simple.generalized_time_of.Goals as goal
+
+pub returns-in-Some : goal.returns-in-Some
+returns-in-Some c = told_time generalized c.args.text.now _ c.in_ok-value.ensures c.in-Some.ensures.accepted
+
+pub returns-in-None : goal.returns-in-None
+returns-in-None c = inr (untold_time generalized c.args.text.now _ c.in_ok-value.ensures c.in-None.ensures.accepted)
