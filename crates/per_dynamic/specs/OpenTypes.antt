@@ -1,4 +1,5 @@
--- The open types of a value by their object sets (ITU-T X.681, 14; X.682, 10): their octets read as values, and written.
+-- The open types of a value by their object sets (ITU-T X.681, 14; X.682, 10): their octets read as values, and
+-- written.
 use Rattle.std.specs.Prelude.{◌≡◌, ℕ, zero, suc, Bool, true, false, if◌then◌else◌, List, [], ◌∷◌, ◌++◌, length}
 use Rattle.std.specs.Prelude.{Option, Some, None, nat_eq, option_map, position, slice_get, string_bytes}
 use Rattle.std.specs.Global.{Box, Vec}
@@ -65,8 +66,8 @@ IsLeft x y = slot_of y ≡ slot_of x
 -- octets are read as a value of a row's type, in which open types are taken; or they are left, being no encoding of one
 pub data IsRowRead (way : Way) (ts : List Kind) (f : ℕ → Value → Value → Type 0) (k : ℕ) (r : Row) (os : List ℕ)
     (x y : Value) : Type 0 where
-  read : (v : Value) (b : Box Value) → AreReadAs (variant_of way.codec) (schema_at ts r.of) (value_of v) os → f r.of v b.value
-      → y ≡ Alternative (Root k) b → IsRowRead way ts f k r os x y
+  read : (v : Value) (b : Box Value) → AreReadAs (variant_of way.codec) (schema_at ts r.of) (value_of v) os
+      → f r.of v b.value → y ≡ Alternative (Root k) b → IsRowRead way ts f k r os x y
   unread : AreUnread (variant_of way.codec) (schema_at ts r.of) os → IsLeft x y
       → IsRowRead way ts f k r os x y
 
@@ -81,12 +82,12 @@ pub data IsOpenRead (way : Way) (ts : List Kind) (f : ℕ → Value → Value �
 
 -- a value of a row's type is written as its canonical octets, with the open types in it
 pub record IsRowWritten (way : Way) (ts : List Kind) (f : ℕ → Value → Value → Type 0) (r : Row) (x y : Value) : Type 0
-    where
-  pub taken : Value
-  pub octets : List ℕ
-  pub in_it : f r.of x taken
-  pub bytes : AreBytes (variant_of way.codec) (schema_at ts r.of) (levels_of taken) (value_of taken) octets
-  pub written : y ≡ Octets octets
+  where
+    pub taken : Value
+    pub octets : List ℕ
+    pub in_it : f r.of x taken
+    pub bytes : AreBytes (variant_of way.codec) (schema_at ts r.of) (levels_of taken) (value_of taken) octets
+    pub written : y ≡ Octets octets
 
 -- the row that a place is the index of is the one that is told
 pub record IsRowAt (s : ObjectSet) (told : Option ℕ) (p : Place) (r : Row) : Type 0 where
@@ -98,8 +99,8 @@ pub record IsRowAt (s : ObjectSet) (told : Option ℕ) (p : Place) (r : Row) : T
 -- the value of an open type is written by the row that is told; what is no such value is left
 pub data IsOpenWritten (way : Way) (ts : List Kind) (f : ℕ → Value → Value → Type 0) (s : ObjectSet) (told : Option ℕ)
     (x y : Value) : Type 0 where
-  row : (p : Place) (r : Row) (b : Box Value) → x ≡ Alternative p b → IsRowAt s told p r → IsRowWritten way ts f r b.value y
-      → IsOpenWritten way ts f s told x y
+  row : (p : Place) (r : Row) (b : Box Value) → x ≡ Alternative p b → IsRowAt s told p r
+      → IsRowWritten way ts f r b.value y → IsOpenWritten way ts f s told x y
   other : ((p : Place) (b : Box Value) → x ≡ Alternative p b → ⊥) → IsLeft x y → IsOpenWritten way ts f s told x y
 
 -- an open type is taken one way or the other
@@ -140,11 +141,11 @@ TakesFields way ts f cs xs own = Each (λ k. TakesField way ts f cs xs (slice_ge
 
 -- those of a record are taken in each component
 pub data TakesRecord (way : Way) (ts : List Kind) (f : ℕ → Value → Value → Type 0) (r : Record) (x y : Value) : Type 0
-    where
-  each : (v w v' w' : Vec Value) → x ≡ Fields v w → y ≡ Fields v' w'
-      → TakesFields way ts f r.root.items v.items r.root.items v.items v'.items
-      → TakesFields way ts f r.root.items v.items (behind r.additions) w.items w'.items → TakesRecord way ts f r x y
-  other : ((v w : Vec Value) → x ≡ Fields v w → ⊥) → IsLeft x y → TakesRecord way ts f r x y
+  where
+    each : (v w v' w' : Vec Value) → x ≡ Fields v w → y ≡ Fields v' w'
+        → TakesFields way ts f r.root.items v.items r.root.items v.items v'.items
+        → TakesFields way ts f r.root.items v.items (behind r.additions) w.items w'.items → TakesRecord way ts f r x y
+    other : ((v w : Vec Value) → x ≡ Fields v w → ⊥) → IsLeft x y → TakesRecord way ts f r x y
 
 -- those of a CHOICE are taken in its alternative
 pub data TakesChoice (f : ℕ → Value → Value → Type 0) (c : Choice) (x y : Value) : Type 0 where

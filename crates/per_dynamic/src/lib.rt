@@ -3,7 +3,9 @@
 #![tactic(auto)]
 
 pub mod aper;
+pub mod codecs;
 pub mod open_types;
+mod rows;
 pub mod table;
 pub mod uper;
 pub mod versions;

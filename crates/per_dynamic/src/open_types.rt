@@ -1,25 +1,20 @@
 //! The open types of a value by their object sets (X.681 14, X.682 10): their octets read as values, and written.
 
-ghost use Rattle.std.specs.Prelude.{◌≡◌, ◌≢◌, IfErr, IfOk, IfSome, Some, false, option_map, position, slice_get};
-ghost use Rattle.std.specs.Prelude.{string_bytes, true};
-ghost use Rattle.std.specs.Str.{bytes_eq};
+ghost use Rattle.std.specs.Prelude.{◌≡◌, ◌≢◌, IfErr, IfOk, Some, false, option_map, slice_get, true};
 ghost use Rattle.per_read.specs.declared.error.DecodeErrorKind.TheVariants.{OutOfMemory as no_room_to_read};
-ghost use Rattle.rasn_dynamic.specs.Types.{schema_at, within};
-ghost use Rattle.rasn_dynamic.specs.Values.{levels_of, value_of};
-ghost use Rattle.rasn_per.specs.Calls.{Decoded, Encoded};
-ghost use Rattle.per_dynamic.specs.OpenTypes.{Each, first_named, has_value, IsLeft, IsOpenRead, IsOpenWritten};
-ghost use Rattle.per_dynamic.specs.OpenTypes.{IsRowAt, IsRowRead, IsRowWritten, of_one_type, row_told, set_of, Takes};
+ghost use Rattle.rasn_dynamic.specs.Types.{within};
+ghost use Rattle.per_dynamic.specs.OpenTypes.{Each, IsLeft, IsOpenRead, IsOpenWritten, IsRowRead, IsRowWritten};
+ghost use Rattle.per_dynamic.specs.OpenTypes.{set_of, Takes};
 ghost use Rattle.per_dynamic.specs.OpenTypes.{TakesBag, TakesChoice, TakesField, TakesFields, TakesList, TakesOne};
-ghost use Rattle.per_dynamic.specs.OpenTypes.{TakesOpen, TakesParts, TakesRecord, told_in};
+ghost use Rattle.per_dynamic.specs.OpenTypes.{TakesOpen, TakesParts, TakesRecord};
 ghost use Rattle.per_dynamic.specs.declared.open_types.OpenTypeError.TheVariants.{OutOfMemory};
 
-use crate::{aper, uper};
+use crate::codecs::{decode, encode};
+use crate::rows::{component_at, row_at, row_at_index, set_at, told_in};
 use per_de::{DecodeError, DecodeErrorKind};
 use per_enc::{EncodeError, EncodeErrorKind};
 use rasn_dynamic::copying::copy_of;
-use rasn_dynamic::types::{
-    Choice, Component, Kind, ObjectSet, Record, Row, Types, kind_at, kind_within,
-};
+use rasn_dynamic::types::{Choice, Component, Kind, ObjectSet, Record, Row, Types, kind_within};
 use rasn_dynamic::values::Value;
 use rasn_schema::items::Place;
 use rasn_types::types::{Any, Codec};
@@ -60,7 +55,8 @@ pub fn read_open_types(
     place: usize,
     value: &Value,
 ) -> Result<Value, OpenTypeError>
-    ensures read { IfOk result (Takes (record { codec = codec; reads = true }) types.now.kinds.items 255 place value.now) }
+    ensures read { IfOk result (Takes (record { codec = codec; reads = true }) types.now.kinds.items 255 place
+        value.now) }
     ensures memory { IfErr result (λ e. e ≡ OutOfMemory) }
 {
     let way = Way { codec, reads: true };
@@ -303,7 +299,16 @@ fn taken_field(
     let Some(component) = component else {
         return left(alloc, value);
     };
-    taken_one(alloc, types, way, levels, root, root_values, component.of, value)
+    taken_one(
+        alloc,
+        types,
+        way,
+        levels,
+        root,
+        root_values,
+        component.of,
+        value,
+    )
 }
 
 /// Takes the open types of a component, of the type at a place.
@@ -329,30 +334,6 @@ fn taken_one(
         }
         None => taken_at(alloc, types, way, levels, of, value),
     }
-}
-
-/// The object set of the open type at a place, where one is there.
-fn set_at(kinds: &[Kind], place: usize) -> Option<&ObjectSet>
-    ensures { option_map (λ s. s.now) result ≡ set_of (slice_get kinds.now place) }
-{
-    match kind_at(kinds, place)? {
-        Kind::Open(set) => Some(set),
-        _ => None,
-    }
-}
-
-/// The component at an index.
-fn component_at(components: &[Component], index: usize) -> Option<&Component>
-    ensures { option_map (λ c. c.now) result ≡ slice_get components.now index }
-{
-    components.get(index)
-}
-
-/// The row at an index.
-fn row_at_index(rows: &[Row], index: usize) -> Option<&Row>
-    ensures { option_map (λ r. r.now) result ≡ slice_get rows.now index }
-{
-    rows.get(index)
 }
 
 /// Takes the open types of a CHOICE.
@@ -425,7 +406,16 @@ fn read_open(
     };
     match value {
         Value::Octets(octets) => {
-            read_row(alloc, types, way, levels, index, row, octets.as_bytes(), value)
+            read_row(
+                alloc,
+                types,
+                way,
+                levels,
+                index,
+                row,
+                octets.as_bytes(),
+                value,
+            )
         }
         _ => left(alloc, value),
     }
@@ -490,16 +480,6 @@ fn written_open(
     }
 }
 
-/// The row that a place is the index of, where it is the one that is told.
-fn row_at(set: &ObjectSet, told: Option<usize>, place: Place) -> Option<&Row>
-    ensures { IfSome result (λ r. IsRowAt set.now told place r.now) }
-{
-    match place {
-        Place::Root(index) if told == Some(index) => row_at_index(&set.rows, index),
-        _ => None,
-    }
-}
-
 /// Writes a value of the type of a row as its octets, and the open types in it.
 #[cycle(taking)]
 fn written_row(
@@ -516,94 +496,6 @@ fn written_row(
     let taken = taken_at(alloc, types, way, levels, row.of, value)?;
     let octets = encode(alloc, way.codec, types, row.of, &taken)?;
     Ok(Value::Octets(Any::new(octets)))
-}
-
-/// The index of the row of an object set that a record tells, by its root components and their values.
-fn told_in(
-    kinds: &[Kind],
-    components: &[Component],
-    values: &[Value],
-    set: &ObjectSet,
-) -> Option<usize>
-    ensures { result ≡ told_in kinds.now components.now values.now set.now }
-{
-    let component = components.get(set.chooser)?;
-    let value = values.get(set.chooser)?;
-    row_told(kinds, &set.rows, component.of, value)
-}
-
-/// The index of the row that a component's value tells, by the name of the row's type.
-fn row_told(kinds: &[Kind], rows: &[Row], of: usize, value: &Value) -> Option<usize>
-    ensures { result ≡ row_told kinds.now rows.now of value.now }
-{
-    let index = row_with(kinds, rows, of, value)?;
-    let row = rows.get(index)?;
-    first_named(rows, row)
-}
-
-/// The index of the first row with the name of one, where both are of one type.
-fn first_named(rows: &[Row], row: &Row) -> Option<usize>
-    ensures { result ≡ first_named rows.now row.now }
-{
-    let index = index_named(rows, &row.name)?;
-    of_one_type(rows, row, index)
-}
-
-/// The index of a row, where it is of the type of another.
-fn of_one_type(rows: &[Row], row: &Row, index: usize) -> Option<usize>
-    ensures { result ≡ of_one_type rows.now row.now (Some index) }
-{
-    match rows.get(index) {
-        Some(own) if own.of == row.of => Some(index),
-        _ => None,
-    }
-}
-
-/// The index of the first row whose value a component has, of the type at a place.
-fn row_with(kinds: &[Kind], rows: &[Row], of: usize, value: &Value) -> Option<usize>
-    ensures { result ≡ position (has_value kinds.now of value.now) rows.now }
-{
-    rows.iter()
-        .position(|row| value.is_default_at(kinds, of, &row.value))
-}
-
-/// The index of the first row with a name.
-fn index_named(rows: &[Row], name: &str) -> Option<usize>
-    ensures { result ≡ position (λ q. bytes_eq (string_bytes q.name) name.now) rows.now }
-{
-    rows.iter().position(|row| row.name.as_str() == name)
-}
-
-/// The value of the type at a place that all octets spell, in the variant of a codec.
-fn decode(
-    alloc: Global,
-    codec: Codec,
-    types: &Types,
-    place: usize,
-    octets: &[u8],
-) -> Result<Value, DecodeError>
-    ensures { Decoded codec (schema_at types.now.kinds.items place) value_of octets.now result }
-{
-    match codec {
-        Codec::Aper => aper::decode(alloc, types, place, octets),
-        Codec::Uper => uper::decode(alloc, types, place, octets),
-    }
-}
-
-/// The canonical octets of a value of the type at a place, in the variant of a codec.
-fn encode(
-    alloc: Global,
-    codec: Codec,
-    types: &Types,
-    place: usize,
-    value: &Value,
-) -> Result<Vec<u8>, EncodeError>
-    ensures { Encoded codec (schema_at types.now.kinds.items place) (levels_of value.now) (value_of value.now) result }
-{
-    match codec {
-        Codec::Aper => aper::encode(alloc, types, place, value),
-        Codec::Uper => uper::encode(alloc, types, place, value),
-    }
 }
 
 impl From<AllocError> for OpenTypeError {

@@ -9,8 +9,8 @@ ghost use Rattle.per_table.specs.Refusals.{refusal_of};
 use crate::refusal::Refusal;
 use crate::request::Request;
 use crate::task::Task;
+use per_dynamic::codecs::{decode, encode};
 use per_dynamic::open_types::{read_open_types, write_open_types};
-use per_dynamic::{aper, uper};
 use per_lines::fault::Fault;
 use per_lines::replies::Replies;
 use rasn_dynamic::types::Types;
@@ -143,36 +143,4 @@ fn recoded(
     let value = decode(alloc, codec, types, place, octets)?;
     let canonical = encode(alloc, codec, types, place, &value)?;
     Ok(canonical)
-}
-
-/// The value of the type at a place that all octets spell, in the variant of a codec.
-fn decode(
-    alloc: Global,
-    codec: Codec,
-    types: &Types,
-    place: usize,
-    octets: &[u8],
-) -> Result<Value, DecodeError>
-    ensures { Decoded codec (schema_at types.now.kinds.items place) value_of octets.now result }
-{
-    match codec {
-        Codec::Aper => aper::decode(alloc, types, place, octets),
-        Codec::Uper => uper::decode(alloc, types, place, octets),
-    }
-}
-
-/// The canonical octets of a value of the type at a place, in the variant of a codec.
-fn encode(
-    alloc: Global,
-    codec: Codec,
-    types: &Types,
-    place: usize,
-    value: &Value,
-) -> Result<Vec<u8>, EncodeError>
-    ensures { Encoded codec (schema_at types.now.kinds.items place) (levels_of value.now) (value_of value.now) result }
-{
-    match codec {
-        Codec::Aper => aper::encode(alloc, types, place, value),
-        Codec::Uper => uper::encode(alloc, types, place, value),
-    }
 }

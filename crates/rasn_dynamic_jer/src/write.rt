@@ -15,7 +15,8 @@ ghost use Rattle.rasn_dynamic_jer.specs.Shown.{list_members, members_there, name
 
 use crate::error::ToJsonError;
 use crate::leaves::{
-    put_bits, put_characters, put_hexadecimal, put_item, put_null, put_number, put_octets, put_token, put_truth,
+    put_bits, put_characters, put_hexadecimal, put_item, put_null, put_number, put_octets,
+    put_token, put_truth,
 };
 use crate::table::group_in;
 use json::{Token, Writer};

@@ -9,8 +9,8 @@ use rasn_dynamic::types::{
 };
 use std::alloc::Global;
 
-/// What a line says of a type, in a table of so many. Places are judged later, but those of an open type's rows, of which
-/// not all are kept.
+/// What a line says of a type, in a table of so many. Places are judged later, but those of an open type's rows, of
+/// which not all are kept.
 pub fn kind(alloc: Global, line: &str, types: usize) -> Result<Kind, Reason> {
     let mut words = Words::new(line);
     let kind = kind_in(alloc, &mut words, types)?;

@@ -1,0 +1,99 @@
+//! The rows of object sets that records tell.
+
+ghost use Rattle.std.specs.Prelude.{◌≡◌, IfSome, Some, option_map, position, slice_get, string_bytes};
+ghost use Rattle.std.specs.Str.{bytes_eq};
+ghost use Rattle.per_dynamic.specs.OpenTypes.{first_named, has_value, IsRowAt, of_one_type, row_told, set_of, told_in};
+
+use rasn_dynamic::types::{Component, Kind, ObjectSet, Row, kind_at};
+use rasn_dynamic::values::Value;
+use rasn_schema::items::Place;
+
+/// The index of the row of an object set that a record tells, by its root components and their values.
+pub(crate) fn told_in(
+    kinds: &[Kind],
+    components: &[Component],
+    values: &[Value],
+    set: &ObjectSet,
+) -> Option<usize>
+    ensures { result ≡ told_in kinds.now components.now values.now set.now }
+{
+    let component = components.get(set.chooser)?;
+    let value = values.get(set.chooser)?;
+    row_told(kinds, &set.rows, component.of, value)
+}
+
+/// The index of the row that a component's value tells, by the name of the row's type.
+fn row_told(kinds: &[Kind], rows: &[Row], of: usize, value: &Value) -> Option<usize>
+    ensures { result ≡ row_told kinds.now rows.now of value.now }
+{
+    let index = row_with(kinds, rows, of, value)?;
+    let row = rows.get(index)?;
+    first_named(rows, row)
+}
+
+/// The index of the first row with the name of one, where both are of one type.
+fn first_named(rows: &[Row], row: &Row) -> Option<usize>
+    ensures { result ≡ first_named rows.now row.now }
+{
+    let index = index_named(rows, &row.name)?;
+    of_one_type(rows, row, index)
+}
+
+/// The index of a row, where it is of the type of another.
+fn of_one_type(rows: &[Row], row: &Row, index: usize) -> Option<usize>
+    ensures { result ≡ of_one_type rows.now row.now (Some index) }
+{
+    match rows.get(index) {
+        Some(own) if own.of == row.of => Some(index),
+        _ => None,
+    }
+}
+
+/// The index of the first row whose value a component has, of the type at a place.
+fn row_with(kinds: &[Kind], rows: &[Row], of: usize, value: &Value) -> Option<usize>
+    ensures { result ≡ position (has_value kinds.now of value.now) rows.now }
+{
+    rows.iter()
+        .position(|row| value.is_default_at(kinds, of, &row.value))
+}
+
+/// The index of the first row with a name.
+fn index_named(rows: &[Row], name: &str) -> Option<usize>
+    ensures { result ≡ position (λ q. bytes_eq (string_bytes q.name) name.now) rows.now }
+{
+    rows.iter().position(|row| row.name.as_str() == name)
+}
+
+/// The object set of the open type at a place, where one is there.
+pub(crate) fn set_at(kinds: &[Kind], place: usize) -> Option<&ObjectSet>
+    ensures { option_map (λ s. s.now) result ≡ set_of (slice_get kinds.now place) }
+{
+    match kind_at(kinds, place)? {
+        Kind::Open(set) => Some(set),
+        _ => None,
+    }
+}
+
+/// The component at an index.
+pub(crate) fn component_at(components: &[Component], index: usize) -> Option<&Component>
+    ensures { option_map (λ c. c.now) result ≡ slice_get components.now index }
+{
+    components.get(index)
+}
+
+/// The row at an index.
+pub(crate) fn row_at_index(rows: &[Row], index: usize) -> Option<&Row>
+    ensures { option_map (λ r. r.now) result ≡ slice_get rows.now index }
+{
+    rows.get(index)
+}
+
+/// The row that a place is the index of, where it is the one that is told.
+pub(crate) fn row_at(set: &ObjectSet, told: Option<usize>, place: Place) -> Option<&Row>
+    ensures { IfSome result (λ r. IsRowAt set.now told place r.now) }
+{
+    match place {
+        Place::Root(index) if told == Some(index) => row_at_index(&set.rows, index),
+        _ => None,
+    }
+}
