@@ -12,7 +12,7 @@ use rasn_dynamic::values::Value;
 use rasn_types::types::Codec;
 use std::alloc::Global;
 
-/// The value of the type at a place of a table that all octets spell, in the variant of a codec, as `decode` of it says.
+/// The value of the type at a place of a table that all octets spell, in the variant of a codec, as its `decode` says.
 pub fn decode(
     alloc: Global,
     codec: Codec,
@@ -28,7 +28,7 @@ pub fn decode(
     }
 }
 
-/// The canonical octets of a value of the type at a place of a table, in the variant of a codec, as `encode` of it says.
+/// The canonical octets of a value of the type at a place of a table, in the variant of a codec, as its `encode` says.
 pub fn encode(
     alloc: Global,
     codec: Codec,

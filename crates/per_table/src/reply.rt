@@ -1,9 +1,6 @@
 //! The reply to a request.
 
 ghost use Rattle.std.specs.Prelude.{◌≡◌, IfOk, string_bytes};
-ghost use Rattle.rasn_dynamic.specs.Types.{schema_at};
-ghost use Rattle.rasn_dynamic.specs.Values.{levels_of, value_of};
-ghost use Rattle.rasn_per.specs.Calls.{Decoded, Encoded};
 ghost use Rattle.per_table.specs.Refusals.{refusal_of};
 
 use crate::refusal::Refusal;
@@ -18,7 +15,6 @@ use rasn_dynamic::values::Value;
 use rasn_dynamic_jer::error::ToJsonError;
 use rasn_dynamic_jer::read::from_json;
 use rasn_dynamic_jer::write::to_json;
-use rasn_per::uper::{DecodeError, EncodeError};
 use rasn_types::types::Codec;
 use std::alloc::{AllocError, Global};
 
