@@ -23,7 +23,11 @@ use Rattle.rasn_dynamic.specs.declared.types.Record.{Record}
 use Rattle.rasn_dynamic.specs.declared.types.Row.{Row}
 use Rattle.rasn_dynamic.specs.declared.values.Value.{Value}
 use Rattle.rasn_dynamic.specs.declared.values.Value.TheVariants.{Alternative, Bag, Elements, Fields, Octets}
-use Rattle.rasn_per.specs.Complete.{AreBytes, AreReadAs, AreUnread}
+use Rattle.per_write.specs.declared.error.EncodeErrorKind.{EncodeErrorKind}
+use Rattle.per_write.specs.declared.error.EncodeErrorKind.TheVariants.{OutOfMemory as no_room_to_write}
+use Rattle.rasn_per.specs.Complete.{AreBytes, AreReadAs, AreUnread, HasNoBytes}
+use Rattle.per_dynamic.specs.declared.open_types.OpenTypeError.{OpenTypeError}
+use Rattle.per_dynamic.specs.declared.open_types.OpenTypeError.TheVariants.{Encode, OtherType, OutOfMemory}
 use Rattle.per_dynamic.specs.declared.open_types.Way.{Way}
 
 -- whether a component, of the type at a place, has the value of a row
@@ -102,6 +106,19 @@ pub data IsOpenWritten (way : Way) (ts : List Kind) (f : ℕ → Value → Value
   row : (p : Place) (r : Row) (b : Box Value) → x ≡ Alternative p b → IsRowAt s told p r
       → IsRowWritten way ts f r b.value y → IsOpenWritten way ts f s told x y
   other : ((p : Place) (b : Box Value) → x ≡ Alternative p b → ⊥) → IsLeft x y → IsOpenWritten way ts f s told x y
+
+-- why the value of an open type isn't written
+abbrev pub fault_of : EncodeErrorKind → OpenTypeError
+fault_of no_room_to_write = OutOfMemory
+fault_of kind = Encode kind
+
+-- open types aren't taken: memory ran out; or they are written, and one is of another type than the row that is told, or
+-- has no bytes
+abbrev pub IsUntaken : Way → List Kind → OpenTypeError → Type 0
+IsUntaken way ts OutOfMemory = Unit {0}
+IsUntaken way ts OtherType = way.reads ≡ false
+IsUntaken way ts (Encode kind) = (way.reads ≡ false) × ((i : ℕ) × (w : Value)
+    × HasNoBytes (variant_of way.codec) (schema_at ts i) (levels_of w) (value_of w))
 
 -- an open type is taken one way or the other
 abbrev pub TakesOpen : Way → List Kind → (ℕ → Value → Value → Type 0) → ObjectSet → Option ℕ → Value → Value → Type 0

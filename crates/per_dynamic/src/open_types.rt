@@ -3,8 +3,8 @@
 ghost use Rattle.std.specs.Prelude.{◌≡◌, ◌≢◌, IfErr, IfOk, Some, false, option_map, slice_get, true};
 ghost use Rattle.per_read.specs.declared.error.DecodeErrorKind.TheVariants.{OutOfMemory as no_room_to_read};
 ghost use Rattle.rasn_dynamic.specs.Types.{within};
-ghost use Rattle.per_dynamic.specs.OpenTypes.{Each, IsLeft, IsOpenRead, IsOpenWritten, IsRowRead, IsRowWritten};
-ghost use Rattle.per_dynamic.specs.OpenTypes.{set_of, Takes};
+ghost use Rattle.per_dynamic.specs.OpenTypes.{Each, fault_of, IsLeft, IsOpenRead, IsOpenWritten, IsRowRead};
+ghost use Rattle.per_dynamic.specs.OpenTypes.{IsRowWritten, IsUntaken, set_of, Takes};
 ghost use Rattle.per_dynamic.specs.OpenTypes.{TakesBag, TakesChoice, TakesField, TakesFields, TakesList, TakesOne};
 ghost use Rattle.per_dynamic.specs.OpenTypes.{TakesOpen, TakesParts, TakesRecord};
 ghost use Rattle.per_dynamic.specs.declared.open_types.OpenTypeError.TheVariants.{OutOfMemory};
@@ -74,7 +74,9 @@ pub fn write_open_types(
     place: usize,
     value: &Value,
 ) -> Result<Value, OpenTypeError>
-    ensures { IfOk result (Takes (record { codec = codec; reads = false }) types.now.kinds.items 255 place value.now) }
+    ensures written { IfOk result (Takes (record { codec = codec; reads = false }) types.now.kinds.items 255 place
+        value.now) }
+    ensures refused { IfErr result (IsUntaken (record { codec = codec; reads = false }) types.now.kinds.items) }
 {
     let way = Way {
         codec,
@@ -102,7 +104,7 @@ fn taken_at(
     value: &Value,
 ) -> Result<Value, OpenTypeError>
     ensures taken { IfOk result (Takes way types.now.kinds.items levels place value.now) }
-    ensures memory { IfErr result (λ e. way.reads ≡ true → e ≡ OutOfMemory) }
+    ensures refused { IfErr result (IsUntaken way types.now.kinds.items) }
 {
     match levels.checked_sub(1) {
         Some(below) => taken_within(alloc, types, way, below, place, value),
@@ -122,7 +124,7 @@ fn taken_within(
 ) -> Result<Value, OpenTypeError>
     ensures taken { IfOk result (TakesParts way types.now.kinds.items (Takes way types.now.kinds.items levels)
         (within types.now.kinds.items (slice_get types.now.kinds.items place)) value.now) }
-    ensures memory { IfErr result (λ e. way.reads ≡ true → e ≡ OutOfMemory) }
+    ensures refused { IfErr result (IsUntaken way types.now.kinds.items) }
 {
     match kind_within(&types.kinds, place) {
         Some(kind) => taken_parts(alloc, types, way, levels, kind, value),
@@ -142,7 +144,7 @@ fn taken_parts(
 ) -> Result<Value, OpenTypeError>
     ensures taken { IfOk result (TakesParts way types.now.kinds.items (Takes way types.now.kinds.items levels)
         (Some kind.now) value.now) }
-    ensures memory { IfErr result (λ e. way.reads ≡ true → e ≡ OutOfMemory) }
+    ensures refused { IfErr result (IsUntaken way types.now.kinds.items) }
 {
     match kind {
         Kind::List(of, _) => taken_list(alloc, types, way, levels, *of, value),
@@ -166,7 +168,7 @@ fn taken_list(
     value: &Value,
 ) -> Result<Value, OpenTypeError>
     ensures taken { IfOk result (TakesList (Takes way types.now.kinds.items levels of) value.now) }
-    ensures memory { IfErr result (λ e. way.reads ≡ true → e ≡ OutOfMemory) }
+    ensures refused { IfErr result (IsUntaken way types.now.kinds.items) }
 {
     match value {
         Value::Elements(values) => {
@@ -188,7 +190,7 @@ fn taken_set_of(
     value: &Value,
 ) -> Result<Value, OpenTypeError>
     ensures taken { IfOk result (TakesBag (Takes way types.now.kinds.items levels of) value.now) }
-    ensures memory { IfErr result (λ e. way.reads ≡ true → e ≡ OutOfMemory) }
+    ensures refused { IfErr result (IsUntaken way types.now.kinds.items) }
 {
     match value {
         Value::Bag(values) => {
@@ -210,7 +212,7 @@ fn taken_values(
     values: &[Value],
 ) -> Result<Vec<Value>, OpenTypeError>
     ensures taken { IfOk result (λ all. Each (λ k. Takes way types.now.kinds.items levels of) values.now all.items) }
-    ensures memory { IfErr result (λ e. way.reads ≡ true → e ≡ OutOfMemory) }
+    ensures refused { IfErr result (IsUntaken way types.now.kinds.items) }
 {
     let mut all = Vec::new(alloc);
     for value in values {
@@ -232,7 +234,7 @@ fn taken_record(
 ) -> Result<Value, OpenTypeError>
     ensures taken { IfOk result (TakesRecord way types.now.kinds.items (Takes way types.now.kinds.items levels)
         sequence.now value.now) }
-    ensures memory { IfErr result (λ e. way.reads ≡ true → e ≡ OutOfMemory) }
+    ensures refused { IfErr result (IsUntaken way types.now.kinds.items) }
 {
     match value {
         Value::Fields(root, additions) => {
@@ -260,7 +262,7 @@ fn taken_fields(
 ) -> Result<Vec<Value>, OpenTypeError>
     ensures taken { IfOk result (λ all. TakesFields way types.now.kinds.items (Takes way types.now.kinds.items levels)
         root.now root_values.now components.now values.now all.items) }
-    ensures memory { IfErr result (λ e. way.reads ≡ true → e ≡ OutOfMemory) }
+    ensures refused { IfErr result (IsUntaken way types.now.kinds.items) }
 {
     let mut all = Vec::new(alloc);
     for (index, value) in values.iter().enumerate() {
@@ -294,7 +296,7 @@ fn taken_field(
 ) -> Result<Value, OpenTypeError>
     ensures taken { IfOk result (TakesField way types.now.kinds.items (Takes way types.now.kinds.items levels)
         root.now root_values.now (option_map (λ c. c.now) component.entry) value.now) }
-    ensures memory { IfErr result (λ e. way.reads ≡ true → e ≡ OutOfMemory) }
+    ensures refused { IfErr result (IsUntaken way types.now.kinds.items) }
 {
     let Some(component) = component else {
         return left(alloc, value);
@@ -325,7 +327,7 @@ fn taken_one(
 ) -> Result<Value, OpenTypeError>
     ensures taken { IfOk result (TakesOne way types.now.kinds.items (Takes way types.now.kinds.items levels)
         root.now root_values.now of (set_of (slice_get types.now.kinds.items of)) value.now) }
-    ensures memory { IfErr result (λ e. way.reads ≡ true → e ≡ OutOfMemory) }
+    ensures refused { IfErr result (IsUntaken way types.now.kinds.items) }
 {
     match set_at(&types.kinds, of) {
         Some(set) => {
@@ -347,7 +349,7 @@ fn taken_choice(
     value: &Value,
 ) -> Result<Value, OpenTypeError>
     ensures taken { IfOk result (TakesChoice (Takes way types.now.kinds.items levels) choice.now value.now) }
-    ensures memory { IfErr result (λ e. way.reads ≡ true → e ≡ OutOfMemory) }
+    ensures refused { IfErr result (IsUntaken way types.now.kinds.items) }
 {
     match value {
         Value::Alternative(place, chosen) => match choice.at(*place) {
@@ -374,7 +376,7 @@ fn taken_open(
 ) -> Result<Value, OpenTypeError>
     ensures taken { IfOk result (TakesOpen way types.now.kinds.items (Takes way types.now.kinds.items levels)
         set.now told value.now) }
-    ensures memory { IfErr result (λ e. way.reads ≡ true → e ≡ OutOfMemory) }
+    ensures refused { IfErr result (IsUntaken way types.now.kinds.items) }
 {
     if way.reads {
         read_open(alloc, types, way, levels, set, told, value)
@@ -396,7 +398,7 @@ fn read_open(
 ) -> Result<Value, OpenTypeError>
     ensures taken { IfOk result (IsOpenRead way types.now.kinds.items (Takes way types.now.kinds.items levels)
         set.now told value.now) }
-    ensures memory { IfErr result (λ e. way.reads ≡ true → e ≡ OutOfMemory) }
+    ensures refused { IfErr result (IsUntaken way types.now.kinds.items) }
 {
     let Some(index) = told else {
         return left(alloc, value);
@@ -435,7 +437,7 @@ fn read_row(
 ) -> Result<Value, OpenTypeError>
     ensures taken { IfOk result (IsRowRead way types.now.kinds.items (Takes way types.now.kinds.items levels)
         index row.now octets.now value.now) }
-    ensures memory { IfErr result (λ e. way.reads ≡ true → e ≡ OutOfMemory) }
+    ensures refused { IfErr result (IsUntaken way types.now.kinds.items) }
 {
     match decode(alloc, way.codec, types, row.of, octets) {
         Ok(read) => {
@@ -468,8 +470,9 @@ fn written_open(
     told: Option<usize>,
     value: &Value,
 ) -> Result<Value, OpenTypeError>
-    ensures { IfOk result (IsOpenWritten way types.now.kinds.items (Takes way types.now.kinds.items levels)
+    ensures taken { IfOk result (IsOpenWritten way types.now.kinds.items (Takes way types.now.kinds.items levels)
         set.now told value.now) }
+    ensures refused { way.reads ≡ false → IfErr result (IsUntaken way types.now.kinds.items) }
 {
     match value {
         Value::Alternative(place, chosen) => match row_at(set, told, *place) {
@@ -490,8 +493,9 @@ fn written_row(
     row: &Row,
     value: &Value,
 ) -> Result<Value, OpenTypeError>
-    ensures { IfOk result (IsRowWritten way types.now.kinds.items (Takes way types.now.kinds.items levels)
+    ensures taken { IfOk result (IsRowWritten way types.now.kinds.items (Takes way types.now.kinds.items levels)
         row.now value.now) }
+    ensures refused { way.reads ≡ false → IfErr result (IsUntaken way types.now.kinds.items) }
 {
     let taken = taken_at(alloc, types, way, levels, row.of, value)?;
     let octets = encode(alloc, way.codec, types, row.of, &taken)?;
@@ -515,7 +519,7 @@ impl<T: Drop> From<AllocFailed<T>> for OpenTypeError {
 }
 
 impl From<EncodeError> for OpenTypeError {
-    ghost from_gives = { λ e r. Unit {0} };
+    ghost from_gives = { λ e r. r ≡ fault_of e.kind };
 
     fn from(error: EncodeError) -> OpenTypeError {
         match error.kind {

@@ -82,7 +82,7 @@ taken_open-returns-then-way-clause-taken t c =
 pub taken_open-returns-else-way-clause-taken : goal.taken_open-returns-else-way-clause-taken
 taken_open-returns-else-way-clause-taken t c =
     let e = c.if-way.false in
-    ok_as c.written_open.result (λ y h. ((λ z. absurd (bools z e)), (λ z. h))) c.written_open.ensures
+    ok_as c.written_open.result (λ y h. ((λ z. absurd (bools z e)), (λ z. h))) c.written_open.ensures.taken
 
 pub read_open-returns-in-Octets-clause-taken : goal.read_open-returns-in-Octets-clause-taken
 read_open-returns-in-Octets-clause-taken t c =
@@ -97,4 +97,4 @@ read_row-returns-in_ok-new-in-Ok-clause-taken t c =
 
 pub written_open-returns-in-Some : goal.written_open-returns-in-Some
 written_open-returns-in-Some t c =
-    ok_as c.written_row.result (λ y h. IsOpenWritten.row c.in-Alternative.place c.in-Some.row.now c.in-Alternative.chosen c.in-Alternative.is c.in-Some.ensures (rw c.deref.ensures at h)) c.written_row.ensures
+    ok_as c.written_row.result (λ y h. IsOpenWritten.row c.in-Alternative.place c.in-Some.row.now c.in-Alternative.chosen c.in-Alternative.is c.in-Some.ensures (rw c.deref.ensures at h)) c.written_row.ensures.taken
