@@ -112,8 +112,8 @@ pub data IsFaultOf (kind : EncodeErrorKind) (e : OpenTypeError) : Type 0 where
   no_memory : e ≡ OutOfMemory → IsFaultOf kind e
   fault : kind ≢ no_room_to_write → e ≡ Encode kind → IsFaultOf kind e
 
--- open types aren't taken: memory ran out; or they are written, and one is of another type than the row that is told, or
--- has no bytes
+-- open types aren't taken: memory ran out; or they are written, and one is of another type than the row that is told,
+-- or has no bytes
 abbrev pub IsUntaken : Way → List Kind → OpenTypeError → Type 0
 IsUntaken way ts OutOfMemory = Unit {0}
 IsUntaken way ts OtherType = way.reads ≡ false
