@@ -1,44 +1,39 @@
-//! What several tests expect, and values that they make: as calls that give no error back, since each exit of a test's
-//! own body costs its proof. Where something isn't as expected, or memory is lacking, the test ends.
+//! What several tests expect, as rows of text. Nothing here gives an error back, since each exit of a test's own body
+//! costs its proof: where something isn't as expected, or memory is lacking, the test ends.
 
-use rasn_below::types::{Codec, ObjectIdentifier, OctetString};
+use rasn_below::types::Codec;
 use rasn_below::{Decode, Encode};
-use rasn_per::uper::{DecodeError, DecodeErrorKind, EncodeError, EncodeErrorKind};
+use rasn_per::uper::{DecodeError, EncodeError};
 use rasn_per::{aper, uper};
+use serde_json::Value;
 use std::alloc::Global;
-use std::fmt::Debug;
 use std::process::Abort;
 
-/// The codecs of both variants.
-pub(crate) const BOTH: &[Codec] = &[Codec::Aper, Codec::Uper];
+/// Octets of the ALIGNED variant and of the UNALIGNED one in hexadecimal, none where these aren't tried, and the JSON
+/// of the value that they spell.
+pub(crate) type Rows = &'static [(&'static str, &'static str, &'static str)];
 
-/// A value is this one.
-pub(crate) fn expect_equal<T: PartialEq + Debug>(rt: &impl Abort, found: &T, expected: &T) {
+/// The octets that a text of hexadecimal spells.
+pub(crate) fn octets_of(rt: &impl Abort, alloc: Global, digits: &str) -> Vec<u8> {
+    hex::decode(alloc, digits.as_bytes()).expect(rt, "hexadecimal")
+}
+
+/// Octets are these.
+pub(crate) fn expect_octets(rt: &impl Abort, found: &[u8], expected: &[u8]) {
     assert_eq!(rt; found, expected);
 }
 
-/// The items of a list are these.
-pub(crate) fn expect_items<T: PartialEq + Debug>(rt: &impl Abort, found: &[T], expected: &[T]) {
+/// A text is this one.
+pub(crate) fn expect_text(rt: &impl Abort, found: &str, expected: &str) {
     assert_eq!(rt; found, expected);
-}
-
-/// A list of these.
-pub(crate) fn list_of<T: Copy>(rt: &impl Abort, alloc: Global, items: &[T]) -> Vec<T> {
-    Vec::from_slice(alloc, items).expect(rt, "memory")
-}
-
-/// A string of these octets.
-pub(crate) fn string_of(rt: &impl Abort, alloc: Global, octets: &[u8]) -> OctetString {
-    OctetString::new(list_of(rt, alloc, octets))
-}
-
-/// The identifier of these arcs.
-pub(crate) fn identifier_of(rt: &impl Abort, alloc: Global, arcs: &[u32]) -> ObjectIdentifier {
-    ObjectIdentifier::from_slice(alloc, arcs).expect(rt, "memory")
 }
 
 /// The octets of a value, in the variant of a codec.
-fn encode<T: Encode>(alloc: Global, codec: Codec, value: &T) -> Result<Vec<u8>, EncodeError> {
+pub(crate) fn encode<T: Encode>(
+    alloc: Global,
+    codec: Codec,
+    value: &T,
+) -> Result<Vec<u8>, EncodeError> {
     match codec {
         Codec::Aper => aper::encode(alloc, value),
         Codec::Uper => uper::encode(alloc, value),
@@ -46,11 +41,24 @@ fn encode<T: Encode>(alloc: Global, codec: Codec, value: &T) -> Result<Vec<u8>, 
 }
 
 /// The value of octets, in the variant of a codec.
-fn decode<T: Decode>(alloc: Global, codec: Codec, octets: &[u8]) -> Result<T, DecodeError> {
+pub(crate) fn decode<T: Decode>(
+    alloc: Global,
+    codec: Codec,
+    octets: &[u8],
+) -> Result<T, DecodeError> {
     match codec {
         Codec::Aper => aper::decode(alloc, octets),
         Codec::Uper => uper::decode(alloc, octets),
     }
+}
+
+/// A value is shown as this JSON (X.697), which `serde_json` reads.
+pub(crate) fn expect_json<T: Encode>(rt: &impl Abort, alloc: Global, value: &T, json: &str) {
+    match rasn_jer::encode(alloc, value) {
+        Ok(text) => assert_eq!(rt; str::from_utf8(text.as_slice()), Ok(json)),
+        Err(error) => assert!(rt; false, "{json:?}: {error:?}"),
+    }
+    assert!(rt; Value::from_str(alloc, json).is_ok());
 }
 
 /// A value is written as these octets, in the variant of a codec.
@@ -59,121 +67,72 @@ pub(crate) fn expect_written<T: Encode>(
     alloc: Global,
     codec: Codec,
     value: &T,
-    octets: &[u8],
+    digits: &str,
 ) {
+    let octets = octets_of(rt, alloc, digits);
     match encode(alloc, codec, value) {
-        Ok(written) => expect_items(rt, written.as_slice(), octets),
-        Err(error) => assert!(rt; false, "{octets:?}: {error:?}"),
+        Ok(written) => expect_octets(rt, written.as_slice(), octets.as_slice()),
+        Err(error) => assert!(rt; false, "{digits:?}: {error:?}"),
     }
 }
 
-/// A value is read from these octets, in the variant of a codec.
-pub(crate) fn expect_read<T: Decode + PartialEq + Debug>(
+/// The value that octets spell is shown as this JSON, and written as other octets, in the variant of a codec.
+fn expect_spelled<T: Encode + Decode>(
     rt: &impl Abort,
     alloc: Global,
     codec: Codec,
-    value: &T,
-    octets: &[u8],
+    (digits, written): (&str, &str),
+    json: &str,
 ) {
-    match decode::<T>(alloc, codec, octets) {
-        Ok(read) => expect_equal(rt, &read, value),
-        Err(error) => assert!(rt; false, "{octets:?}: {error:?}"),
+    let octets = octets_of(rt, alloc, digits);
+    match decode::<T>(alloc, codec, octets.as_slice()) {
+        Ok(value) => {
+            expect_json(rt, alloc, &value, json);
+            expect_written(rt, alloc, codec, &value, written);
+        }
+        Err(error) => assert!(rt; false, "{digits:?}: {error:?}"),
     }
 }
 
-/// A value is written as these octets, and read from them, in the variant of a codec.
-pub(crate) fn expect_coded<T: Encode + Decode + PartialEq + Debug>(
-    rt: &impl Abort,
-    alloc: Global,
-    codec: Codec,
-    value: &T,
-    octets: &[u8],
-) {
-    expect_written(rt, alloc, codec, value, octets);
-    expect_read(rt, alloc, codec, value, octets);
-}
-
-/// A value is written as these octets of the ALIGNED and the UNALIGNED variant, and read from them.
-pub(crate) fn expect_variants<T: Encode + Decode + PartialEq + Debug>(
-    rt: &impl Abort,
-    alloc: Global,
-    value: &T,
-    aligned: &[u8],
-    unaligned: &[u8],
-) {
-    expect_coded(rt, alloc, Codec::Aper, value, aligned);
-    expect_coded(rt, alloc, Codec::Uper, value, unaligned);
-}
-
-/// Each value is written as the octets beside it in both variants, and read from them.
-pub(crate) fn expect_rows<T: Encode + Decode + PartialEq + Debug>(
-    rt: &impl Abort,
-    alloc: Global,
-    rows: &[(T, &[u8])],
-) {
-    for (value, octets) in rows {
-        expect_variants(rt, alloc, value, octets, octets);
+/// Octets of both variants spell the values of these texts of JSON, and are what these are written as.
+pub(crate) fn expect_rows<T: Encode + Decode>(rt: &(impl Abort + AllocGlobal), rows: Rows) {
+    for (aligned, unaligned, json) in rows {
+        if !aligned.is_empty() {
+            expect_spelled::<T>(rt, rt.alloc(), Codec::Aper, (aligned, aligned), json);
+        }
+        if !unaligned.is_empty() {
+            expect_spelled::<T>(rt, rt.alloc(), Codec::Uper, (unaligned, unaligned), json);
+        }
     }
 }
 
-/// Some value of the type is read from these octets, and written as others, in the variant of a codec.
+/// Octets, in the variant of a codec, spell the values of these texts of JSON, which are written as the octets beside
+/// them.
 pub(crate) fn expect_recoded<T: Encode + Decode>(
-    rt: &impl Abort,
-    alloc: Global,
+    rt: &(impl Abort + AllocGlobal),
     codec: Codec,
-    octets: &[u8],
-    written: &[u8],
+    rows: Rows,
 ) {
-    match decode::<T>(alloc, codec, octets) {
-        Ok(value) => expect_written(rt, alloc, codec, &value, written),
-        Err(error) => assert!(rt; false, "{octets:?}: {error:?}"),
+    for (digits, written, json) in rows {
+        expect_spelled::<T>(rt, rt.alloc(), codec, (digits, written), json);
     }
 }
 
-/// Some value of the type is read from these octets, and written as them, in the variant of a codec.
-pub(crate) fn expect_value<T: Encode + Decode>(
-    rt: &impl Abort,
-    alloc: Global,
+/// Octets are refused in the variant of a codec, each for the reason beside it, as it is printed.
+pub(crate) fn expect_refused<T: Decode>(
+    rt: &(impl Abort + AllocGlobal),
     codec: Codec,
-    octets: &[u8],
+    rows: &[(&str, &str)],
 ) {
-    expect_recoded::<T>(rt, alloc, codec, octets, octets);
-}
-
-/// Some value of the type is read from each of these octets, and written as them, in the variant of a codec.
-pub(crate) fn expect_values<T: Encode + Decode>(
-    rt: &impl Abort,
-    alloc: Global,
-    codec: Codec,
-    each: &[&[u8]],
-) {
-    for octets in each {
-        expect_value::<T>(rt, alloc, codec, octets);
+    for (digits, reason) in rows {
+        let octets = octets_of(rt, rt.alloc(), digits);
+        match decode::<T>(rt.alloc(), codec, octets.as_slice()) {
+            Ok(_) => assert!(rt; false, "{digits:?}: read"),
+            Err(error) => {
+                assert!(rt; error.codec == codec);
+                let told = format!(in rt.alloc(); "{:?}", error.kind).expect(rt, "memory");
+                expect_text(rt, told.as_str(), reason);
+            }
+        }
     }
-}
-
-/// These octets are refused in the variant of a codec, each for the reason beside it.
-pub(crate) fn expect_unread<T: Decode>(
-    rt: &impl Abort,
-    alloc: Global,
-    codec: Codec,
-    rows: &[(&[u8], DecodeErrorKind)],
-) {
-    for (octets, kind) in rows {
-        let refused = decode::<T>(alloc, codec, octets).err();
-        let error = DecodeError { kind: *kind, codec };
-        expect_equal(rt, &refused, &Some(error));
-    }
-}
-
-/// A value is refused in the variant of a codec, for this reason.
-pub(crate) fn expect_unwritten<T: Encode>(
-    rt: &impl Abort,
-    alloc: Global,
-    codec: Codec,
-    value: &T,
-    kind: EncodeErrorKind,
-) {
-    let refused = encode(alloc, codec, value).err();
-    expect_equal(rt, &refused, &Some(EncodeError { kind, codec }));
 }

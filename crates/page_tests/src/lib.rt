@@ -1,12 +1,8 @@
-//! Tests of pages, of each form, and of types that the program doesn't take: values and their octets in both variants,
-//! by X.691 or as another encoder wrote them, values as JSON, and which refusal is named where several would do. No row
-//! of `rows/` or `vectors/` has these.
+//! Tests of pages, of each form, and of types that the program doesn't take: octets in both variants, by X.691 or as
+//! another encoder wrote them, and the values that they spell, as JSON; and which refusal is named where several would
+//! do. No row of `rows/` or `vectors/` has these.
 #![tactic(auto)]
 
-#[cfg(test)]
-mod alternatives;
-#[cfg(test)]
-mod bags;
 #[cfg(test)]
 mod contents;
 #[cfg(test)]
@@ -16,20 +12,8 @@ mod expected;
 #[cfg(test)]
 mod forms;
 #[cfg(test)]
-mod groups;
+mod plain;
 #[cfg(test)]
-mod header;
-#[cfg(test)]
-mod moments;
-#[cfg(test)]
-mod own_tags;
-#[cfg(test)]
-mod records;
-#[cfg(test)]
-mod recursive;
+mod protocols;
 #[cfg(test)]
 mod sets;
-#[cfg(test)]
-mod shown;
-#[cfg(test)]
-mod values;

@@ -1,0 +1,36 @@
+//! Elements of an S1SetupRequest, which no message of the program has: there they are octets of open types.
+
+use crate::expected::{Rows, expect_rows};
+use s1ap::aliases::{EnBname, SupportedTas};
+use s1ap::global_enb_id::GlobalEnbId;
+use s1ap::paging_drx::PagingDrx;
+
+/// A base station, by its network and its number.
+const STATIONS: Rows = &[(
+    "0062f21000123450",
+    "",
+    "{\"pLMNidentity\":\"62F210\",\"eNB-ID\":{\"macroENB-ID\":\"123450\"}}",
+)];
+
+const NAMES: Rows = &[(
+    "0880654e422045757265636f6d204c5445426f78",
+    "",
+    "\"eNB Eurecom LTEBox\"",
+)];
+
+/// The area of two networks.
+const AREAS: Rows = &[(
+    "000001c862f21021f354",
+    "",
+    "[{\"tAC\":\"0007\",\"broadcastPLMNs\":[\"62F210\",\"21F354\"]}]",
+)];
+
+const CYCLES: Rows = &[("40", "", "\"v128\"")];
+
+#[test]
+fn elements_are_written_as_they_were_read(rt: HostRuntime) {
+    expect_rows::<GlobalEnbId>(&rt, STATIONS);
+    expect_rows::<EnBname>(&rt, NAMES);
+    expect_rows::<SupportedTas>(&rt, AREAS);
+    expect_rows::<PagingDrx>(&rt, CYCLES);
+}
