@@ -1,9 +1,24 @@
-//! Elements of an S1SetupRequest, which no message of the program has: there they are octets of open types.
+//! An S1SetupRequest and its elements, which in the program's messages are octets of open types.
 
 use crate::expected::{Rows, expect_rows};
 use s1ap::aliases::{EnBname, SupportedTas};
 use s1ap::global_enb_id::GlobalEnbId;
 use s1ap::paging_drx::PagingDrx;
+use s1ap::s1_setup_request::S1SetupRequest;
+
+const REQUESTS: Rows = &[(
+    concat!(
+        "000004003b00080062f21000123450003c40140880654e422045757265636f6d204c5445426f78",
+        "0040000a000001c862f21021f3540089400140",
+    ),
+    "",
+    concat!(
+        "{\"protocolIEs\":[{\"id\":59,\"criticality\":\"reject\",\"value\":\"0062F21000123450\"},",
+        "{\"id\":60,\"criticality\":\"ignore\",\"value\":\"0880654E422045757265636F6D204C5445426F78\"},",
+        "{\"id\":64,\"criticality\":\"reject\",\"value\":\"000001C862F21021F354\"},",
+        "{\"id\":137,\"criticality\":\"ignore\",\"value\":\"40\"}]}",
+    ),
+)];
 
 /// A base station, by its network and its number.
 const STATIONS: Rows = &[(
@@ -29,6 +44,7 @@ const CYCLES: Rows = &[("40", "", "\"v128\"")];
 
 #[test]
 fn elements_are_written_as_they_were_read(rt: HostRuntime) {
+    expect_rows::<S1SetupRequest>(&rt, REQUESTS);
     expect_rows::<GlobalEnbId>(&rt, STATIONS);
     expect_rows::<EnBname>(&rt, NAMES);
     expect_rows::<SupportedTas>(&rt, AREAS);
