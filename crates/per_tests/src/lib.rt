@@ -1,7 +1,7 @@
 //! Tests of what no clause of the writer and the reader says (`per_write` and `per_enc`, `per_read` and `per_de`) and
 //! no other test shows: calls that no type of the project makes, that they succeed where there is memory, what is
-//! padded before a component, which of two faults is named, that a codec refuses again once it has failed, and the texts of
-//! errors.
+//! padded before a component, which of two faults is named, that a codec refuses again once it has failed, and the
+//! texts of errors.
 #![tactic(auto)]
 
 #[cfg(test)]
