@@ -1,6 +1,6 @@
 //! A value or more of each form of page that neither the program nor another test takes, as asn1ct writes them.
 
-use crate::expected::{Rows, expect_recoded, expect_rows};
+use crate::pages::expected::{Rows, expect_recoded, expect_rows};
 use per_samples_a::alternative::Alternative;
 use per_samples_a::brackets::Brackets;
 use per_samples_a::eight::Eight;

@@ -1,6 +1,6 @@
 //! An S1SetupRequest and its elements, which in the program's messages are octets of open types.
 
-use crate::expected::{Rows, expect_rows};
+use crate::pages::expected::{Rows, expect_rows};
 use s1ap::aliases::{EnBname, SupportedTas};
 use s1ap::global_enb_id::GlobalEnbId;
 use s1ap::paging_drx::PagingDrx;

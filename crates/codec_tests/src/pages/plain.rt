@@ -1,6 +1,8 @@
 //! Values of types that stand on no page of their own: strings, times, numbers, bags; and what is refused of them.
 
-use crate::expected::{Rows, encode, expect_json, expect_recoded, expect_refused, expect_rows};
+use crate::pages::expected::{
+    Rows, encode, expect_json, expect_recoded, expect_refused, expect_rows,
+};
 use its_header::speed::Speed;
 use jiff::civil::DateTime;
 use per_samples_a::bounded::MinusOneTo254;

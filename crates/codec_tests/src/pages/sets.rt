@@ -1,6 +1,6 @@
 //! Pages of SETs, of types that hold themselves, of records with times, and of messages, as other encoders wrote them.
 
-use crate::expected::{Rows, decode, expect_rows, expect_written};
+use crate::pages::expected::{Rows, decode, expect_rows, expect_written};
 use its_header::header::ItsPduHeader;
 use its_header::message::Message;
 use per_samples_c::group1::Group1;

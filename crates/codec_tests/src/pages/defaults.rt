@@ -1,6 +1,6 @@
 //! Components at their defaults, which are left out (X.691 19.5), as asn1ct writes them.
 
-use crate::expected::{Rows, expect_json, expect_recoded, expect_rows, expect_written};
+use crate::pages::expected::{Rows, expect_json, expect_recoded, expect_rows, expect_written};
 use per_samples_a::default_bits::DefaultBits;
 use per_samples_a::default_list::DefaultList;
 use per_samples_a::default_named_bits::DefaultNamedBits;
