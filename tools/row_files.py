@@ -7,7 +7,7 @@ from repository import TOP, Failure
 
 ESCAPES = {r"\n": b"\n", r"\r": b"\r", r"\0": b"\0"}
 # The parts of a text: an escape, a part so many times, and the rest.
-PART = re.compile(r"(?P<escape>\\[nr0]|\\x[0-9a-f]{2})|\{(?P<part>[^\\{}*]+)\*(?P<times>[0-9]+)\}|(?P<plain>[ -\[\]-z|~])")
+PART = re.compile(r"(?P<escape>\\[nr0]|\\x[0-9a-f]{2})|\{(?P<part>[^\\{}*]+)\*(?P<times>[0-9]+)\}|(?P<plain>[ -\[\]-~])")
 
 
 def octets_of(text):
@@ -39,9 +39,9 @@ def row_of(line):
     return words.split(), octets_of(read), (octets_of(output), int(status), octets_of(told))
 
 
-def rows():
-    """Gives each row of each file: where it stands, its words, its input and its answer."""
-    files = sorted(glob.glob(f"{TOP}/rows/*.tsv"))
+def rows(folder="rows"):
+    """Gives each row of each file of a folder: where it stands, its words, its input and its answer."""
+    files = sorted(glob.glob(f"{TOP}/{folder}/*.tsv"))
     if not files:
         raise Failure("there are no files of rows")
     for file in files:

@@ -1,11 +1,9 @@
 //! Tests of what no clause says of values (`rasn_types`, `rasn_times`, `rasn_strings`, `rasn_constraints`), of bits
-//! (`per_bits`) and of the calls (`rasn_per`, `per_versions`, `per_located`), and no row of `rows/` or `vectors/` has:
-//! outside vectors, printed text, that calls succeed, the calls for additions, what `uper` says of what it refuses, and
-//! where octets are refused.
+//! (`per_bits`), of the calls (`rasn_per`, `per_versions`, `per_located`, `per_contents`, `rasn_jer`) and of pages, and
+//! no row of `rows/` or `vectors/` has: outside vectors, printed text, that calls succeed, what `uper` says of what it
+//! refuses, and where octets are refused.
 #![tactic(auto)]
 
-#[cfg(test)]
-mod additions;
 #[cfg(test)]
 mod bit_strings;
 #[cfg(test)]
@@ -25,9 +23,7 @@ mod numbers;
 #[cfg(test)]
 mod octets;
 #[cfg(test)]
-mod records;
-#[cfg(test)]
-mod scopes;
+mod pages;
 #[cfg(test)]
 mod strings;
 #[cfg(test)]

@@ -76,25 +76,51 @@ const ROWS: &[(Writing, Reading, Both, &[u8])] = &[
     ),
 ];
 
+// Each call is in a function of its own: to prove several in one costs more than the sum.
+fn put_bounded<E: AnyEncoder>(encoder: &mut E) -> Result<(), E::Error> {
+    encoder.encode_some_with_constraints(&Constraints::new(FROM_0_TO_7), &5_u8, NONE)
+}
+
+fn put_bounded_absent<E: AnyEncoder>(encoder: &mut E) -> Result<(), E::Error> {
+    encoder.encode_none::<u8>(NONE)
+}
+
+fn put_own<E: AnyEncoder>(encoder: &mut E) -> Result<(), E::Error> {
+    encoder.encode_some(&5_u8, NONE)
+}
+
+fn put_tagged<E: AnyEncoder>(encoder: &mut E) -> Result<(), E::Error> {
+    encoder.encode_some_with_tag(Tag::INTEGER, &5_u8, NONE)
+}
+
+fn put_tagged_absent<E: AnyEncoder>(encoder: &mut E) -> Result<(), E::Error> {
+    encoder.encode_none_with_tag(Tag::INTEGER, NONE)
+}
+
 /// Writes the second component, which is 5 where it is there.
 fn put_second<E: AnyEncoder>(encoder: &mut E, writing: Writing) -> Result<(), E::Error> {
-    let bounds = Constraints::new(FROM_0_TO_7);
     match writing {
-        Writing::Bounded => encoder.encode_some_with_constraints(&bounds, &5_u8, NONE),
-        Writing::BoundedAbsent => encoder.encode_none::<u8>(NONE),
-        Writing::Own => encoder.encode_some(&5_u8, NONE),
-        Writing::Tagged => encoder.encode_some_with_tag(Tag::INTEGER, &5_u8, NONE),
-        Writing::TaggedAbsent => encoder.encode_none_with_tag(Tag::INTEGER, NONE),
+        Writing::Bounded => put_bounded(encoder),
+        Writing::BoundedAbsent => put_bounded_absent(encoder),
+        Writing::Own => put_own(encoder),
+        Writing::Tagged => put_tagged(encoder),
+        Writing::TaggedAbsent => put_tagged_absent(encoder),
     }
 }
 
-fn put_third<E: AnyEncoder>(encoder: &mut E, writing: Writing, c: &u8) -> Result<(), E::Error> {
+fn put_third_bounded<E: AnyEncoder>(encoder: &mut E, c: &u8) -> Result<(), E::Error> {
     let bounds = Constraints::new(FROM_0_TO_7);
+    encoder.encode_default_with_constraints(&bounds, c, |c| *c == 3, NONE)
+}
+
+fn put_third_own<E: AnyEncoder>(encoder: &mut E, c: &u8) -> Result<(), E::Error> {
+    encoder.encode_default(c, |c| *c == 3, NONE)
+}
+
+fn put_third<E: AnyEncoder>(encoder: &mut E, writing: Writing, c: &u8) -> Result<(), E::Error> {
     match writing {
-        Writing::Bounded | Writing::BoundedAbsent => {
-            encoder.encode_default_with_constraints(&bounds, c, |c| *c == 3, NONE)
-        }
-        _ => encoder.encode_default(c, |c| *c == 3, NONE),
+        Writing::Bounded | Writing::BoundedAbsent => put_third_bounded(encoder, c),
+        _ => put_third_own(encoder, c),
     }
 }
 

@@ -16,6 +16,12 @@ pub(crate) fn unaligned(alloc: Global, octets: &[u8]) -> Decoder<'_> {
     Decoder::from_reader(alloc, bits, DecoderOptions::unaligned())
 }
 
+/// A decoder of octets in the ALIGNED variant.
+pub(crate) fn aligned(alloc: Global, octets: &[u8]) -> Decoder<'_> {
+    let bits = BitReader::from_octets(octets);
+    Decoder::from_reader(alloc, bits, DecoderOptions::aligned())
+}
+
 /// What an encoder is made to write, and answers.
 ///
 /// To prove that this crate's encoder is one of any costs more than most else here: so one function hands it on, for

@@ -1,58 +1,73 @@
 //! Which octets a `Decoder` lends, and which it copies.
 
-use crate::expected::{expect_equal, expect_octets};
 use per_bits::BitReader;
 use per_de::{Decoder, DecoderOptions};
-use per_read::error::DecodeError;
 use rasn_below::Constraints;
 use rasn_below::codec::Decoder as AnyDecoder;
 use rasn_below::types::Tag;
 use std::alloc::Global;
 use std::borrow::CowSlice;
-use std::process::Abort;
 use std::test::Fail;
 
-/// Reads an OCTET STRING without constraints, of any decoder.
-fn take_octets<D: AnyDecoder>(decoder: &mut D) -> Result<D::Octets, D::Error> {
+/// Reads an OCTET STRING without constraints, of any decoder, behind a BOOLEAN where there is one.
+fn take_octets<D: AnyDecoder>(decoder: &mut D, has_boolean: bool) -> Result<D::Octets, D::Error> {
+    if has_boolean {
+        decoder.decode_bool(Tag::BOOL)?;
+    }
     decoder.decode_octet_string(Tag::OCTET_STRING, &Constraints::NONE)
 }
 
-/// Reads a truth value, and an OCTET STRING behind it.
-fn take_behind_a_bit<'input>(
-    decoder: &mut Decoder<'input>,
-) -> Result<(bool, CowSlice<'input, u8>), DecodeError> {
-    let truth = decoder.decode_bool(Tag::BOOL)?;
-    Ok((truth, take_octets(decoder)?))
-}
-
-/// Whether octets are borrowed, and they themselves.
-fn parts<'octets>(octets: &'octets CowSlice<'_, u8>) -> (bool, &'octets [u8]) {
+/// Whether these octets are read and lent, where they have to be, else copied.
+fn is_taken(octets: Option<CowSlice<'_, u8>>, is_lent: bool, expected: &[u8]) -> bool {
     match octets {
-        CowSlice::Borrowed(octets) => (true, octets),
-        CowSlice::Owned(octets) => (false, octets.as_slice()),
+        Some(CowSlice::Borrowed(octets)) => is_lent && octets == expected,
+        Some(CowSlice::Owned(octets)) => !is_lent && octets.as_slice() == expected,
+        None => false,
     }
 }
 
+/// The octets of an OCTET STRING in the UNALIGNED variant, behind a BOOLEAN where there is one.
+fn octets_of<'input>(
+    alloc: Global,
+    reader: BitReader<'input>,
+    has_boolean: bool,
+) -> Option<CowSlice<'input, u8>> {
+    let mut decoder = Decoder::from_reader(alloc, reader, DecoderOptions::unaligned());
+    take_octets(&mut decoder, has_boolean).ok()
+}
+
+/// Octets, how many bits are left out in front of the OCTET STRING, whether a BOOLEAN stands there too, and whether the
+/// three octets are lent.
+const ROWS: &[(&[u8], u128, bool, bool)] = &[
+    (&[0x03, 0xaa, 0xbb, 0xcc], 0, false, true),
+    (&[0xff, 0x03, 0xaa, 0xbb, 0xcc], 8, false, true),
+    (&[0xf0, 0x3a, 0xab, 0xbc, 0xc0], 4, false, false),
+    (&[0x81, 0xd5, 0x5d, 0xe6, 0x00], 0, true, false),
+];
+
 #[test]
-fn lends_octets_with_one_count_alone(rt: HostRuntime) -> Result<(), Fail> {
-    let input = [0x03, 0xaa, 0xbb, 0xcc];
-    let mut decoder = Decoder::from_octets(rt.alloc(), &input, DecoderOptions::aligned());
-    let taken = take_octets(&mut decoder)?;
-    let (is_borrowed, octets) = parts(&taken);
-    expect_equal(&rt, &is_borrowed, &true);
-    expect_octets(&rt, octets, &[0xaa, 0xbb, 0xcc]);
-    Ok(())
+fn lends_octets_with_one_count_alone_that_stand_on_octets(rt: HostRuntime) {
+    for (input, count, has_boolean, is_lent) in ROWS {
+        let mut reader = BitReader::from_octets(input);
+        assert!(rt; reader.take(*count).is_ok());
+        let octets = octets_of(rt.alloc(), reader, *has_boolean);
+        assert!(rt;
+            is_taken(octets, *is_lent, &[0xaa, 0xbb, 0xcc]),
+            "{input:?}"
+        );
+    }
+}
+
+/// Whether the octets of an OCTET STRING in the ALIGNED variant are lent.
+fn is_lent_of_octets(alloc: Global, input: &[u8], expected: &[u8]) -> bool {
+    let mut decoder = Decoder::from_octets(alloc, input, DecoderOptions::aligned());
+    is_taken(take_octets(&mut decoder, false).ok(), true, expected)
 }
 
 #[test]
-fn copies_octets_behind_a_bit(rt: HostRuntime) -> Result<(), Fail> {
-    let input = [0x81, 0xd5, 0x5d, 0xe6, 0x00];
-    let mut decoder = Decoder::from_octets(rt.alloc(), &input, DecoderOptions::unaligned());
-    let (truth, taken) = take_behind_a_bit(&mut decoder)?;
-    let (is_borrowed, octets) = parts(&taken);
-    expect_equal(&rt, &(truth, is_borrowed), &(true, false));
-    expect_octets(&rt, octets, &[0xaa, 0xbb, 0xcc]);
-    Ok(())
+fn lends_octets_of_the_aligned_variant(rt: HostRuntime) {
+    let input = [0x03, 0xaa, 0xbb, 0xcc];
+    assert!(rt; is_lent_of_octets(rt.alloc(), &input, &[0xaa, 0xbb, 0xcc]));
 }
 
 #[test]
@@ -60,38 +75,8 @@ fn copies_octets_in_fragments(rt: HostRuntime) -> Result<(), Fail> {
     let mut input = Vec::from_slice(rt.alloc(), &[0xc1])?;
     input.extend_from_slice(&[0x55; 16384])?;
     input.push(0x00)?;
-    let mut decoder = Decoder::from_octets(
-        rt.alloc(),
-        input.as_slice(),
-        DecoderOptions::unaligned(),
-    );
-    let taken = take_octets(&mut decoder)?;
-    let (is_borrowed, octets) = parts(&taken);
-    expect_equal(&rt, &is_borrowed, &false);
-    expect_octets(&rt, octets, &[0x55; 16384]);
+    let reader = BitReader::from_octets(input.as_slice());
+    let octets = octets_of(rt.alloc(), reader, false);
+    assert!(rt; is_taken(octets, false, &[0x55; 16384]));
     Ok(())
-}
-
-/// What a decoder reads of octets behind their first bits, so many, and whether it lends it.
-fn expect_behind(
-    rt: &impl Abort,
-    alloc: Global,
-    input: &[u8],
-    count: u128,
-    is_lent: bool,
-) -> Result<(), DecodeError> {
-    let mut reader = BitReader::from_octets(input);
-    assert!(rt; reader.take(count).is_ok());
-    let mut decoder = Decoder::from_reader(alloc, reader, DecoderOptions::unaligned());
-    let taken = take_octets(&mut decoder)?;
-    let (is_borrowed, octets) = parts(&taken);
-    expect_equal(rt, &is_borrowed, &is_lent);
-    expect_octets(rt, octets, &[0xaa, 0xbb, 0xcc]);
-    Ok(())
-}
-
-#[test]
-fn lends_octets_of_a_reader(rt: HostRuntime) -> Result<(), DecodeError> {
-    expect_behind(&rt, rt.alloc(), &[0xff, 0x03, 0xaa, 0xbb, 0xcc], 8, true)?;
-    expect_behind(&rt, rt.alloc(), &[0xf0, 0x3a, 0xab, 0xbc, 0xc0], 4, false)
 }

@@ -1,10 +1,13 @@
 //! Tests of what no clause of the writer and the reader says (`per_write` and `per_enc`, `per_read` and `per_de`) and
-//! no other test shows: calls that no type of the project makes, that they succeed where there is memory, which of two
-//! faults is named, that a codec refuses again once it has failed, and the texts of errors.
+//! no other test shows: calls that no type of the project makes, that they succeed where there is memory, what is
+//! padded before a component, which of two faults is named, that a codec refuses again once it has failed, and the
+//! texts of errors.
 #![tactic(auto)]
 
 #[cfg(test)]
 mod absences;
+#[cfg(test)]
+mod additions;
 #[cfg(test)]
 mod allocators;
 #[cfg(test)]
@@ -25,6 +28,8 @@ mod lending;
 mod options;
 #[cfg(test)]
 mod pieces;
+#[cfg(test)]
+mod records;
 #[cfg(test)]
 mod refusals;
 #[cfg(test)]

@@ -1,7 +1,7 @@
 //! Each call of both modules, and an encoder and a decoder of one's own: where a request for memory is refused, one of
 //! them says so, and none says anything else.
 
-use rasn_below::codec::{Decode, Decoder as _, Encode, Encoder as _};
+use rasn_below::codec::{Decode, Decoder as AnyDecoder, Encode, Encoder as AnyEncoder};
 use rasn_below::types::{Codec, Identifier, Tag};
 use rasn_per::bits::BitReader;
 use rasn_per::per::de::{DecodeError, DecodeErrorKind, Decoder, DecoderOptions};
@@ -71,6 +71,14 @@ fn is_any_unread<T: Decode>(rt: &impl Abort, alloc: Global, codec: Codec, octets
     all || front || limited || is_refused_by_decoder::<T>(rt, alloc, codec, octets)
 }
 
+/// Why a decoder refuses octets, and a NULL behind them: of any decoder, since to prove it of one alone costs more.
+fn refusals_to_read<T: Decode, D: AnyDecoder>(
+    decoder: &mut D,
+) -> (Option<D::Error>, Option<D::Error>) {
+    let first = T::decode(decoder).err();
+    (first, decoder.decode_null(Tag::NULL).err())
+}
+
 /// Whether a decoder of one's own refused the octets; it refuses again then.
 fn is_refused_by_decoder<T: Decode>(
     rt: &impl Abort,
@@ -82,12 +90,9 @@ fn is_refused_by_decoder<T: Decode>(
         Codec::Aper => DecoderOptions::aligned(),
         Codec::Uper => DecoderOptions::unaligned(),
     };
-    let mut decoder = Decoder::from_reader(alloc, BitReader::from_octets(octets), options);
-    let error = T::decode(&mut decoder).err();
-    if error.is_some() {
-        let again = decoder.decode_null(Tag::NULL).err();
-        assert!(rt; had_decoder_failed(codec, again), "{again:?}");
-    }
+    let bits = BitReader::from_octets(octets);
+    let (error, again) = refusals_to_read::<T, _>(&mut Decoder::from_reader(alloc, bits, options));
+    assert!(rt; error.is_none() || had_decoder_failed(codec, again));
     is_unread(rt, codec, error)
 }
 
@@ -127,6 +132,18 @@ fn is_refused_into_buffer<T: Encode>(
     is_unwritten(rt, codec, written.err()) || !is_filled
 }
 
+/// Why an encoder refuses a value, and a NULL behind it.
+fn refusals_to_write<T: Encode, E: AnyEncoder>(
+    encoder: &mut E,
+    value: &T,
+) -> (Option<E::Error>, Option<E::Error>) {
+    let first = value.encode(encoder).err();
+    (
+        first,
+        encoder.encode_null(Tag::NULL, Identifier::EMPTY).err(),
+    )
+}
+
 /// Whether an encoder of one's own refused the value; it refuses again then.
 fn is_refused_by_encoder<T: Encode>(
     rt: &impl Abort,
@@ -138,12 +155,8 @@ fn is_refused_by_encoder<T: Encode>(
         Codec::Aper => EncoderOptions::aligned(),
         Codec::Uper => EncoderOptions::unaligned(),
     };
-    let mut encoder = Encoder::new(alloc, options);
-    let error = value.encode(&mut encoder).err();
-    if error.is_some() {
-        let again = encoder.encode_null(Tag::NULL, Identifier::EMPTY).err();
-        assert!(rt; had_encoder_failed(codec, again), "{again:?}");
-    }
+    let (error, again) = refusals_to_write(&mut Encoder::new(alloc, options), value);
+    assert!(rt; error.is_none() || had_encoder_failed(codec, again));
     is_unwritten(rt, codec, error)
 }
 

@@ -2,49 +2,38 @@
 //! begins on an octet boundary follows from its bounds. A SEQUENCE of both has the same bits, one component behind the
 //! other (X.691 19).
 
-use crate::expected::{expect_equal, expect_items};
+use crate::calls::{Part, aligned, encoding_of};
+use crate::expected::{expect_equal, expect_octets};
+use per_enc::EncoderOptions;
 use rasn_below::codec::{Decode, Decoder as AnyDecoder, Encode, Encoder as AnyEncoder};
 use rasn_below::types::{BitString, Identifier, OctetString, Tag, VisibleString};
 use rasn_below::{Constraint, Constraints, constraints};
-use rasn_per::bits::BitReader;
-use rasn_per::per::de::{DecodeError, Decoder, DecoderOptions};
-use rasn_per::per::enc::{EncodeError, Encoder, EncoderOptions};
 use std::alloc::Global;
 use std::fmt::Debug;
 use std::process::Abort;
 
-/// Writes TRUE and a value under constraints: over any encoder, since to prove it of one alone costs more.
-fn put<T: Encode, E: AnyEncoder>(
-    encoder: &mut E,
-    limits: &Constraints,
-    value: &T,
-) -> Result<(), E::Error> {
-    encoder.encode_bool(Tag::BOOL, true, Identifier::EMPTY)?;
-    value.encode_with_constraints(encoder, limits)
+/// TRUE and a value under constraints.
+#[derive(Drop)]
+struct BehindTrue<'a, T> {
+    value: &'a T,
+    limits: &'static [Constraint<'static>],
 }
 
-/// The octets of TRUE and a value under constraints.
-fn encode<T: Encode>(
-    alloc: Global,
-    limits: &Constraints,
-    value: &T,
-) -> Result<Vec<u8>, EncodeError> {
-    let mut encoder = Encoder::new(alloc, EncoderOptions::aligned());
-    put(&mut encoder, limits, value)?;
-    encoder.output_into_vec()
+impl<'a, T: Encode> Part for BehindTrue<'a, T> {
+    fn put<E: AnyEncoder>(&self, encoder: &mut E) -> Result<(), E::Error> {
+        encoder.encode_bool(Tag::BOOL, true, Identifier::EMPTY)?;
+        let limits = Constraints::new(self.limits);
+        self.value.encode_with_constraints(encoder, &limits)
+    }
 }
 
 /// Reads a BOOLEAN, and the value under constraints behind it.
-fn take<T: Decode, D: AnyDecoder>(decoder: &mut D, limits: &Constraints) -> Result<T, D::Error> {
+fn take<T: Decode, D: AnyDecoder>(
+    decoder: &mut D,
+    limits: &'static [Constraint<'static>],
+) -> Result<T, D::Error> {
     decoder.decode_bool(Tag::BOOL)?;
-    T::decode_with_constraints(decoder, limits)
-}
-
-/// The value under constraints that stands behind a BOOLEAN.
-fn decode<T: Decode>(alloc: Global, limits: &Constraints, octets: &[u8]) -> Result<T, DecodeError> {
-    let bits = BitReader::from_octets(octets);
-    let mut decoder = Decoder::from_reader(alloc, bits, DecoderOptions::aligned());
-    take(&mut decoder, limits)
+    T::decode_with_constraints(decoder, &Constraints::new(limits))
 }
 
 /// TRUE and a value under constraints are written as these octets, and the value is read from them.
@@ -55,12 +44,15 @@ fn expect_behind_true<T: Encode + Decode + PartialEq + Debug>(
     value: &T,
     octets: &[u8],
 ) {
-    let limits = Constraints::new(limits);
-    match encode(alloc, &limits, value) {
-        Ok(written) => expect_items(rt, written.as_slice(), octets),
+    match encoding_of(
+        alloc,
+        EncoderOptions::aligned(),
+        &BehindTrue { value, limits },
+    ) {
+        Ok(written) => expect_octets(rt, written.as_slice(), octets),
         Err(error) => assert!(rt; false, "{octets:?}: {error:?}"),
     }
-    match decode::<T>(alloc, &limits, octets) {
+    match take::<T, _>(&mut aligned(alloc, octets), limits) {
         Ok(read) => expect_equal(rt, &read, value),
         Err(error) => assert!(rt; false, "{octets:?}: {error:?}"),
     }
