@@ -54,7 +54,7 @@ fn message() -> Cam {
     }
 }
 
-/// A refusal is looked at, or passed on by its name, as an `io::Result` takes it; an `anyhow::Result` takes it as it is.
+/// A refusal is looked at, or passed on by its name for an `io::Result`; an `anyhow::Result` takes it by `?` alone.
 fn main(rt: HostRuntime) -> io::Result<()> {
     let octets = uper::encode(rt.alloc(), &message()).map_err(|error| io::Error::other(
         error.kind.name(),
