@@ -1,11 +1,18 @@
 -- What is taken of values, one after another.
-use Rattle.std.proofs.Common.{◌≡◌, refl, sym, ap, ◌∙◌, subst, ℕ, zero, suc, ◌+◌, ◌<◌, ◌≤◌, List, [], ◌∷◌, ◌++◌, length, get_or, take, arith, Option, Some, None, Result, Ok, Err, IfOk, Bool, true, false}
+use Rattle.std.proofs.Common.{◌≡◌, ◌≢◌, refl, sym, ap, ◌∙◌, subst, ℕ, zero, suc, ◌+◌, ◌<◌, ◌≤◌, List, [], ◌∷◌, ◌++◌, length, get_or, take, arith, Option, Some, None, Result, Ok, Err, IfOk, Bool, true, false}
 use Rattle.std.proofs.lemmas.List.{take_all, take_more, length-take-le}
 use Rattle.std.specs.Prelude.{slice_get}
 use Rattle.rasn_dynamic.specs.declared.types.Kind.{Kind}
 use Rattle.rasn_dynamic.specs.declared.values.Value.{Value}
 use Rattle.rasn_dynamic.specs.Types.{within}
-use Rattle.per_dynamic.specs.OpenTypes.{Each, IsLeft, more, Takes, TakesParts}
+use Rattle.rasn_types.specs.Codecs.{variant_of}
+use Rattle.rasn_dynamic.specs.Types.{schema_at}
+use Rattle.rasn_dynamic.specs.Values.{levels_of, value_of}
+use Rattle.per_write.specs.declared.error.EncodeErrorKind.{EncodeErrorKind}
+use Rattle.per_write.specs.declared.error.EncodeErrorKind.TheVariants.{OutOfMemory as no_room_to_write}
+use Rattle.rasn_per.specs.Complete.{HasNoBytes}
+use Rattle.per_dynamic.specs.declared.open_types.OpenTypeError.{OpenTypeError}
+use Rattle.per_dynamic.specs.OpenTypes.{Each, fault, IsFaultOf, IsLeft, IsUntaken, more, no_memory, Takes, TakesParts}
 use Rattle.per_dynamic.specs.declared.open_types.Way.{Way}
 
 pub each_more : {A : Type 0} {B : Type 0} (r : ℕ → A → B → Type 0) (k : ℕ) (xs : List A) (ys : List B) (x : A) (y : B) → k < length xs → x ≡ get_or xs k x
@@ -40,3 +47,9 @@ ok_as (Err e) f h = h
 
 pub bools : {b : Bool} → b ≡ true → b ≡ false → ⊥
 bools {b} e f = let h : true ≡ false = sym e ∙ f in absurd (cc)
+
+-- a value without bytes
+pub untaken : (way : Way) (ts : List Kind) (i : ℕ) (w : Value) (kind : EncodeErrorKind) (e : OpenTypeError) → way.reads ≡ false → IsFaultOf kind e
+    → (kind ≢ no_room_to_write → HasNoBytes (variant_of way.codec) (schema_at ts i) (levels_of w) (value_of w)) → IsUntaken way ts e
+untaken way ts i w kind e r (no_memory q) h = subst (IsUntaken way ts) (sym q) tt
+untaken way ts i w kind e r (fault n q) h = subst (IsUntaken way ts) (sym q) (r, (i, w, h n))

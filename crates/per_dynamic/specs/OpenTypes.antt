@@ -1,6 +1,6 @@
 -- The open types of a value by their object sets (ITU-T X.681, 14; X.682, 10): their octets read as values, and
 -- written.
-use Rattle.std.specs.Prelude.{◌≡◌, ℕ, zero, suc, Bool, true, false, if◌then◌else◌, List, [], ◌∷◌, ◌++◌, length}
+use Rattle.std.specs.Prelude.{◌≡◌, ◌≢◌, ℕ, zero, suc, Bool, true, false, if◌then◌else◌, List, [], ◌∷◌, ◌++◌, length}
 use Rattle.std.specs.Prelude.{Option, Some, None, nat_eq, option_map, position, slice_get, string_bytes}
 use Rattle.std.specs.Global.{Box, Vec}
 use Rattle.std.specs.Option.{option_and_then, option_eq}
@@ -107,13 +107,13 @@ pub data IsOpenWritten (way : Way) (ts : List Kind) (f : ℕ → Value → Value
       → IsRowWritten way ts f r b.value y → IsOpenWritten way ts f s told x y
   other : ((p : Place) (b : Box Value) → x ≡ Alternative p b → ⊥) → IsLeft x y → IsOpenWritten way ts f s told x y
 
--- why the value of an open type isn't written
-abbrev pub fault_of : EncodeErrorKind → OpenTypeError
-fault_of no_room_to_write = OutOfMemory
-fault_of kind = Encode kind
+-- why the value of an open type isn't written: memory ran out, or a fault of the value
+pub data IsFaultOf (kind : EncodeErrorKind) (e : OpenTypeError) : Type 0 where
+  no_memory : e ≡ OutOfMemory → IsFaultOf kind e
+  fault : kind ≢ no_room_to_write → e ≡ Encode kind → IsFaultOf kind e
 
--- open types aren't taken: memory ran out; or they are written, and one is of another type than the row that is told, or
--- has no bytes
+-- open types aren't taken: memory ran out; or they are written, and one is of another type than the row that is told,
+-- or has no bytes
 abbrev pub IsUntaken : Way → List Kind → OpenTypeError → Type 0
 IsUntaken way ts OutOfMemory = Unit {0}
 IsUntaken way ts OtherType = way.reads ≡ false

@@ -3,7 +3,7 @@
 ghost use Rattle.std.specs.Prelude.{◌≡◌, ◌≢◌, IfErr, IfOk, Some, false, option_map, slice_get, true};
 ghost use Rattle.per_read.specs.declared.error.DecodeErrorKind.TheVariants.{OutOfMemory as no_room_to_read};
 ghost use Rattle.rasn_dynamic.specs.Types.{within};
-ghost use Rattle.per_dynamic.specs.OpenTypes.{Each, fault_of, IsLeft, IsOpenRead, IsOpenWritten, IsRowRead};
+ghost use Rattle.per_dynamic.specs.OpenTypes.{Each, IsFaultOf, IsLeft, IsOpenRead, IsOpenWritten, IsRowRead};
 ghost use Rattle.per_dynamic.specs.OpenTypes.{IsRowWritten, IsUntaken, set_of, Takes};
 ghost use Rattle.per_dynamic.specs.OpenTypes.{TakesBag, TakesChoice, TakesField, TakesFields, TakesList, TakesOne};
 ghost use Rattle.per_dynamic.specs.OpenTypes.{TakesOpen, TakesParts, TakesRecord};
@@ -519,7 +519,7 @@ impl<T: Drop> From<AllocFailed<T>> for OpenTypeError {
 }
 
 impl From<EncodeError> for OpenTypeError {
-    ghost from_gives = { λ e r. r ≡ fault_of e.kind };
+    ghost from_gives = { λ e r. IsFaultOf e.kind r };
 
     fn from(error: EncodeError) -> OpenTypeError {
         match error.kind {

@@ -1,10 +1,11 @@
 use Rattle.std.proofs.Common.{◌≡◌, ◌∙◌, refl, sym, ap, subst, ◌+◌, ℕ, suc, List, Option, Some, None, option_map, IfOk, arith, rules}
 use Rattle.std.specs.Prelude.{slice_get}
+use Rattle.std.proofs.lemmas.Result.{err_from_is_err_and}
 use Rattle.rasn_dynamic.specs.declared.types.Kind.{Kind}
 use Rattle.rasn_dynamic.specs.declared.types.ObjectSet.{ObjectSet}
 use Rattle.rasn_dynamic.specs.declared.types.Row.{Row}
 use Rattle.per_dynamic.specs.OpenTypes.{chosen, each, Each, IsOpenRead, IsOpenWritten, read, set_of, Takes, TakesOne, unknown}
-use Rattle.per_dynamic.proofs.Taking.{bools, each_all, each_more, no_level, ok_as, takes_below, takes_last}
+use Rattle.per_dynamic.proofs.Taking.{bools, each_all, each_more, no_level, ok_as, takes_below, takes_last, untaken}
 use Rattle.per_dynamic.proofs.open_types.+taking.Goals as goal
 
 pub taken_at-returns-in-Some-clause-taken : goal.taken_at-returns-in-Some-clause-taken
@@ -96,5 +97,12 @@ read_row-returns-in_ok-new-in-Ok-clause-taken t c =
     read c.in-Ok.read c.in_ok-new-in-Ok.field-0 c.in-Ok.ensures.ok (rw e c.in_ok-taken-in-Ok.ensures.taken) refl
 
 pub written_open-returns-in-Some : goal.written_open-returns-in-Some
-written_open-returns-in-Some t c =
-    ok_as c.written_row.result (λ y h. IsOpenWritten.row c.in-Alternative.place c.in-Some.row.now c.in-Alternative.chosen c.in-Alternative.is c.in-Some.ensures (rw c.deref.ensures at h)) c.written_row.ensures.taken
+written_open-returns-in-Some t c = record {
+  taken = ok_as c.written_row.result (λ y h. IsOpenWritten.row c.in-Alternative.place c.in-Some.row.now c.in-Alternative.chosen c.in-Alternative.is c.in-Some.ensures (rw c.deref.ensures at h)) c.written_row.ensures.taken;
+  refused = c.written_row.ensures.refused;
+}
+
+pub written_row-returns-in_err-octets-clause-refused : goal.written_row-returns-in_err-octets-clause-refused
+written_row-returns-in_err-octets-clause-refused t c r =
+    let p = err_from_is_err_and c.from_residual-in_err-octets.result c.from_residual-in_err-octets.ensures.1 in
+    rw p.1 (untaken c.args.way c.args.types.now.kinds.items c.args.row.now.of c.in_ok-taken.taken _ p.0 r p.2 c.in_err-octets.ensures.err)
