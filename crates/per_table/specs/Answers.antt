@@ -1,7 +1,7 @@
 -- What the program replies to a line, by a table of types.
-use Rattle.std.specs.Prelude.{ℕ, ◌≡◌, ◌≢◌, ◌⊎◌, List, [], ◌∷◌, ◌++◌, Some, None, Ok}
+use Rattle.std.specs.Prelude.{ℕ, ◌≡◌, ◌≢◌, ◌⊎◌, true, false, List, [], ◌∷◌, ◌++◌, Some, None, Ok}
 use Rattle.hex.specs.Hex.{decode_of, encode_lower}
-use Rattle.json.specs.Json.{Json, document, max_depth}
+use Rattle.json.specs.Json.{max_depth}
 use Rattle.rasn_types.specs.Values
 use Rattle.rasn_schema.specs.AtDepths.{AtDepths}
 use Rattle.rasn_schema.specs.Normal.{normal}
