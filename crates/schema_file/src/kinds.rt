@@ -47,8 +47,9 @@ fn simple(alloc: Global, word: &str, words: &mut Words<'_>) -> Result<Simple, Re
         "general_string" | "graphic_string" | "teletex_string" => Simple::Text,
         "videotex_string" | "object_descriptor" => Simple::Text,
         "object_identifier" => Simple::ObjectIdentifier,
-        "utc_time" | "generalized_time" | "date" => return Err(Reason::NotHeld),
-        "universal_string" => return Err(Reason::NotHeld),
+        "utc_time" => Simple::UtcTime,
+        "generalized_time" => Simple::GeneralizedTime,
+        "date" | "universal_string" => return Err(Reason::NotHeld),
         word => Simple::Characters(characters(alloc, word, words)?),
     };
     Ok(simple)
