@@ -5,6 +5,7 @@ pub mod error;
 pub mod from_json_error;
 mod json_parts;
 mod leaves;
+mod names;
 pub mod read;
 mod read_simple;
 mod table;

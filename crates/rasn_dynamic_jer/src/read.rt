@@ -1,24 +1,18 @@
 //! Values from JSON by a table of types.
 
-ghost use Rattle.std.specs.Prelude.{◌≡◌, ◌⊎◌, IfOk, IfErr, IsSomeAnd, MatchResult, None, Some, option_map, map};
-ghost use Rattle.std.specs.Prelude.{position, string_bytes};
-ghost use Rattle.std.specs.List.{list_all, list_any};
-ghost use Rattle.std.specs.Str.{IsUtf8, bytes_eq};
+ghost use Rattle.std.specs.Prelude.{◌≡◌, ◌⊎◌, IfOk, IfErr, MatchResult, None, Some, option_map, map};
 ghost use Rattle.std.specs.Option.{option_and_then};
 ghost use Rattle.json.specs.Find.{as_object, as_str};
-ghost use Rattle.json.specs.Json.{document};
-ghost use Rattle.json.specs.Strict.{HasUniqueKeys, keys};
 ghost use Rattle.json.specs.Value.{members_view, value_view};
 ghost use Rattle.rasn_types.specs.AllOf.{all_of};
 ghost use Rattle.rasn_types.specs.Values.{alternative, bag_of};
 ghost use Rattle.rasn_traits.specs.Counted.{index_in, side_of};
 ghost use Rattle.rasn_schema.specs.Lists.{list_value};
-ghost use Rattle.rasn_dynamic.specs.Types.{behind};
 ghost use Rattle.rasn_dynamic.specs.Values.{slot_of, value_of};
 ghost use Rattle.rasn_dynamic_jer.specs.Shown.{group_in};
 ghost use Rattle.rasn_dynamic_jer.specs.Told.{absent_told, addition_told, additions_told, alternative_place};
-ghost use Rattle.rasn_dynamic_jer.specs.Told.{component_told, components_told, group_told, has_member, is_addition};
-ghost use Rattle.rasn_dynamic_jer.specs.Told.{is_component, is_member, IsNoText, IsTextOf, IsUntold, told_alone};
+ghost use Rattle.rasn_dynamic_jer.specs.Told.{component_told, components_told, group_told};
+ghost use Rattle.rasn_dynamic_jer.specs.Told.{IsNoText, IsTextOf, IsUntold, told_alone};
 ghost use Rattle.rasn_dynamic_jer.specs.Told.{TellsSlot, TellsSlots, TellsValue, TellsValues, told_at, told_by};
 ghost use Rattle.rasn_dynamic_jer.specs.Told.{alternative_told, choice_told, members_told, one_told, Parses};
 ghost use Rattle.rasn_dynamic_jer.specs.Told.{one_row_told, open_told, record_told, row_place, row_told, told_in};
@@ -26,11 +20,12 @@ ghost use Rattle.rasn_dynamic_jer.specs.Told.{values_told};
 
 use crate::from_json_error::FromJsonError;
 use crate::json_parts::{items_of, members_of};
+use crate::names::{alternative_place, are_members, has_member, row_place};
 use crate::read_simple::{read_octets, read_simple};
 use crate::table::group_in;
 use json::{Error, MAX_DEPTH, Scratch, Value as Json};
 use rasn_dynamic::types::{
-    Alternative, Choice, Component, Kind, ObjectSet, Presence, Record, Row, Types, kind_within,
+    Choice, Component, Kind, ObjectSet, Presence, Record, Types, kind_within,
 };
 use rasn_dynamic::values::Value;
 use rasn_schema::items::Place;
@@ -362,59 +357,6 @@ fn read_group(
     Ok(Value::Fields(root, Vec::new(alloc)))
 }
 
-/// Whether one of some components has a member.
-fn has_member(json: &Json<'_>, components: &[Component]) -> bool
-    ensures { result ≡ has_member (value_view json.now) components.now }
-{
-    components
-        .iter()
-        .any(|component| json.get(component.name.as_str()).is_some())
-}
-
-/// Whether each member of an object has a name of a record's members.
-fn are_members(kinds: &[Kind], sequence: &Record, members: &[(&str, Json<'_>)]) -> bool
-    ensures { result ≡ list_all (is_member kinds.now sequence.now) (keys (members_view members.now)) }
-{
-    members
-        .iter()
-        .all(|member| is_member(kinds, sequence, member.0))
-}
-
-/// Whether a name is that of a record's member.
-fn is_member(kinds: &[Kind], sequence: &Record, name: &str) -> bool
-    ensures { result ≡ is_member kinds.now sequence.now name.now }
-{
-    is_component(sequence.root(), name) || is_added(kinds, sequence.behind(), name)
-}
-
-/// Whether a name is that of one of some components.
-fn is_component(components: &[Component], name: &str) -> bool
-    ensures { result ≡ is_component components.now name.now }
-{
-    components
-        .iter()
-        .any(|component| component.name.as_str() == name)
-}
-
-/// Whether a name is that of a member of one of some additions.
-fn is_added(kinds: &[Kind], components: &[Component], name: &str) -> bool
-    ensures { result ≡ list_any (λ c. is_addition (group_in kinds.now c) c name.now) components.now }
-{
-    components
-        .iter()
-        .any(|component| is_addition(kinds, component, name))
-}
-
-/// Whether a name is that of a member of an addition: of a group, one of its components.
-fn is_addition(kinds: &[Kind], component: &Component, name: &str) -> bool
-    ensures { result ≡ is_addition (group_in kinds.now component.now) component.now name.now }
-{
-    match group_in(kinds, component) {
-        Some(group) => is_component(group.root(), name),
-        None => component.name.as_str() == name,
-    }
-}
-
 /// Reads a CHOICE.
 #[cycle(reading)]
 fn read_choice(
@@ -467,25 +409,6 @@ fn read_named(
         Some(place) => read_alternative(alloc, kinds, levels, choice, place, json),
         None => Err(FromJsonError::UnknownAlternative),
     }
-}
-
-/// Where the first alternative with a name stands.
-fn alternative_place(choice: &Choice, name: &str) -> Option<Place>
-    ensures { result ≡ alternative_place choice.now name.now }
-{
-    match alternative_index(&choice.roots, name) {
-        Some(index) => Some(Place::Root(index)),
-        None => Some(Place::Added(alternative_index(choice.behind(), name)?)),
-    }
-}
-
-/// The index of the first of some alternatives that has a name.
-fn alternative_index(alternatives: &[Alternative], name: &str) -> Option<usize>
-    ensures { result ≡ position (λ a. bytes_eq (string_bytes a.name) name.now) alternatives.now }
-{
-    alternatives
-        .iter()
-        .position(|own| own.name.as_str() == name)
 }
 
 /// Reads the value of the alternative at a place.
@@ -596,20 +519,6 @@ fn read_row_named(
         Some(place) => read_row_at(alloc, kinds, levels, set, place, json),
         None => Err(FromJsonError::UnknownAlternative),
     }
-}
-
-/// Where the first row with a name is.
-fn row_place(set: &ObjectSet, name: &str) -> Option<Place>
-    ensures { result ≡ row_place set.now name.now }
-{
-    Some(Place::Root(row_index(&set.rows, name)?))
-}
-
-/// The index of the first of some rows that has a name.
-fn row_index(rows: &[Row], name: &str) -> Option<usize>
-    ensures { result ≡ position (λ r. bytes_eq (string_bytes r.name) name.now) rows.now }
-{
-    rows.iter().position(|own| own.name.as_str() == name)
 }
 
 /// Reads an open type as a value of the type of a row.

@@ -4,7 +4,7 @@ use Rattle.std.proofs.lemmas.Iterator.Search.{all_from_yields_List}
 use borrow.Author.Tests.{tests}
 use Rattle.rasn_dynamic_jer.specs.Told.{is_member}
 use Rattle.rasn_dynamic_jer.proofs.Parts.{keys_all}
-use Rattle.rasn_dynamic_jer.proofs.read.are_members.Goals as goal
+use Rattle.rasn_dynamic_jer.proofs.names.are_members.Goals as goal
 
 pub returns : goal.returns
 returns c =

@@ -5,7 +5,7 @@ use borrow.Author.Tests.{tests}
 use Rattle.rasn_dynamic.specs.declared.types.Component.{Component}
 use Rattle.json.specs.Value.{value_view}
 use Rattle.rasn_dynamic_jer.specs.Told.{own_member}
-use Rattle.rasn_dynamic_jer.proofs.read.has_member.Goals as goal
+use Rattle.rasn_dynamic_jer.proofs.names.has_member.Goals as goal
 
 pub returns : goal.returns
 returns c = any_from_yields_List (λ (k : Component). is_some (own_member (value_view c.args.json.now) k)) _ _ _ c.any.ensures.ran (YieldsList-from_slice c.args.components.now cc) (λ x b q k. search (rules, tests))

@@ -5,7 +5,7 @@ use Rattle.std.proofs.lemmas.Iterator.{YieldsList-from_slice}
 use Rattle.std.proofs.lemmas.Iterator.Search.{position_from_yields_List}
 use borrow.Author.Tests.{tests}
 use Rattle.rasn_dynamic.specs.declared.types.Row.{Row}
-use Rattle.rasn_dynamic_jer.proofs.read.row_index.Goals as goal
+use Rattle.rasn_dynamic_jer.proofs.names.row_index.Goals as goal
 
 pub returns : goal.returns
 returns c = position_from_yields_List (λ (r : Row). bytes_eq (string_bytes r.name) c.args.name.now) _ _ _ c.position.ensures.ran (YieldsList-from_slice c.args.rows.now cc) (λ x b q k. search (rules, tests))
