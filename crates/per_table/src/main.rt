@@ -13,8 +13,7 @@ mod request;
 mod task;
 
 use per_lines::output::write_line;
-use per_lines::replies::reply_to_lines;
-use reply::Table;
+use reply::{Table, run};
 use schema_file::load::load;
 use std::env::Env;
 use std::io::Input;
@@ -29,7 +28,7 @@ fn main(rt: HostRuntime) -> ExitCode {
     let mut faults = rt.stderr();
     let status = match asked(&rt) {
         Ok((octets, task)) => match load(rt.alloc(), octets.as_slice()) {
-            Ok(types) => match reply_to_lines(
+            Ok(types) => match run(
                 rt.alloc(),
                 &Table { types, task },
                 &mut rt.reader(),

@@ -8,4 +8,6 @@ mod refusals;
 #[cfg(test)]
 mod tables;
 #[cfg(test)]
+mod times;
+#[cfg(test)]
 mod versions;
