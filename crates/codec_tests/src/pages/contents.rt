@@ -1,6 +1,7 @@
 //! What components contain, as another encoder wrote it.
 
-use crate::pages::expected::{Rows, expect_octets, expect_refused, expect_rows};
+use crate::expected::expect_octets;
+use crate::pages::expected::{Rows, expect_refused, expect_rows};
 use per_contents::{EncodingOf, unwrap, wrap};
 use per_errors::count::Count;
 use per_samples_a::carrier::Carrier;

@@ -1,6 +1,7 @@
 //! What several tests expect, as rows of text. Nothing here gives an error back, since each exit of a test's own body
 //! costs its proof: where something isn't as expected, or memory is lacking, the test ends.
 
+use crate::expected::{expect_octets, expect_text};
 use rasn_below::types::Codec;
 use rasn_below::{Decode, Encode};
 use rasn_per::uper::{DecodeError, EncodeError};
@@ -16,16 +17,6 @@ pub(crate) type Rows = &'static [(&'static str, &'static str, &'static str)];
 /// The octets that a text of hexadecimal spells.
 pub(crate) fn octets_of(rt: &impl Abort, alloc: Global, digits: &str) -> Vec<u8> {
     hex::decode(alloc, digits.as_bytes()).expect(rt, "hexadecimal")
-}
-
-/// Octets are these.
-pub(crate) fn expect_octets(rt: &impl Abort, found: &[u8], expected: &[u8]) {
-    assert_eq!(rt; found, expected);
-}
-
-/// A text is this one.
-pub(crate) fn expect_text(rt: &impl Abort, found: &str, expected: &str) {
-    assert_eq!(rt; found, expected);
 }
 
 /// The octets of a value, in the variant of a codec.
