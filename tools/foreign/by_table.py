@@ -14,7 +14,7 @@ from schema import Schema
 from table_values import ObjectSets, TableChooser, heights_of, tied
 from terms import values_of
 
-# What the loader doesn't take yet, as what X.680 has it for (47 and 46): a time is a VisibleString under another tag.
+# A time is a VisibleString under another tag (X.680 46, 47), and is judged as one: asn1ct takes any text as a time.
 TIMES = re.compile("^(utc_time|generalized_time)$", re.M)
 AS_STRING = "visible_string 0 - - -"
 

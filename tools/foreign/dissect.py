@@ -11,6 +11,7 @@ from repository import Failure
 # The dissector of each type of a message; of RRC for each protocol too, since both have types of one name.
 DISSECTORS = {
     **dict.fromkeys(("CAM", "DENM", "SPATEM", "MAPEM"), "its"), "NGAP-PDU": "ngap", "S1AP-PDU": "s1ap", "IFPPacket": "t38_udp",
+    "RANAP-PDU": "ranap", "RUA-PDU": "rua", "HNBAP-PDU": "hnbap",
     "BCCH-BCH-Message": "lte_rrc.bcch_bch", "PCCH-Message": "lte_rrc.pcch", "SystemInformationBlockType1": "lte_rrc.bcch_dl_sch",
     "RRCConnectionSetupComplete": "lte_rrc.ul_dcch", "lte-rrc UL-CCCH-Message": "lte_rrc.ul_ccch",
     "nr-rrc UL-CCCH-Message": "nr-rrc.ul.ccch", "RRCSetupComplete": "nr-rrc.ul.dcch",
@@ -88,7 +89,9 @@ class Node:
         self.told = shown.split(":", 1)[-1]
 
     def is_value(self, value):
-        """Tells whether this is what is shown of a leaf's value."""
+        """Tells whether this is what is shown of a leaf's value, or of one of several that it may be."""
+        if isinstance(value, tuple):
+            return any(self.is_value(it) for it in value)
         if isinstance(value, Bits):
             return self.is_binary(value)
         if isinstance(value, Atom):
@@ -127,12 +130,12 @@ def unused(value, name, nodes, used):
     return None
 
 
-def compared(value, tree):
-    """Returns how many leaves a value has, how many are shown by value alone, and those that aren't shown. The value of an
+def compared(found, tree):
+    """Returns how many leaves there are, how many are shown by value alone, and those that aren't shown. The value of an
     open type, and an item of a list, stand under their types' names. No two leaves have one node; numbers come last, since
     an item is shown with its number too."""
-    nodes, used = [Node(field) for field in tree.findall("proto")[-1].iter("field")], set()
-    lacking = sorted(leaves(value), key=lambda leaf: isinstance(leaf[1], int))
+    nodes, used = [Node(field) for proto in tree.findall("proto") for field in proto.iter("field")], set()
+    lacking = sorted(found, key=lambda leaf: isinstance(leaf[1], int))
     count = len(lacking)
     for is_named in (True, False):
         rest = []
@@ -147,5 +150,5 @@ def compared(value, tree):
 def judged(folder, messages):
     """Gives of each message how many leaves were compared, how many of them are shown by value alone, and what differs."""
     for message, tree in zip(messages, dissections(folder, messages) if messages else []):
-        leaves_here, by_value, lacking = compared(message.value, tree)
+        leaves_here, by_value, lacking = compared(leaves(message.value), tree)
         yield leaves_here, by_value, [*faults(tree), *(f"{name} {value} isn't shown" for name, value in lacking)]
