@@ -22,7 +22,7 @@ use std::alloc::{AllocError, AllocFailed, Global};
 use thiserror::Error;
 
 /// How many levels of values, and of open types in them, are looked through.
-const MOST_LEVELS: usize = 255;
+const MOST_LEVELS: usize = 128;
 
 /// Why the open types of a value aren't taken.
 #[derive(Clone, Copy, Debug, PartialEq, Error)]
@@ -55,7 +55,7 @@ pub fn read_open_types(
     place: usize,
     value: &Value,
 ) -> Result<Value, OpenTypeError>
-    ensures read { IfOk result (Takes (record { codec = codec; reads = true }) types.now.kinds.items 255 place
+    ensures read { IfOk result (Takes (record { codec = codec; reads = true }) types.now.kinds.items 128 place
         value.now) }
     ensures memory { IfErr result (λ e. e ≡ OutOfMemory) }
 {
@@ -74,7 +74,7 @@ pub fn write_open_types(
     place: usize,
     value: &Value,
 ) -> Result<Value, OpenTypeError>
-    ensures written { IfOk result (Takes (record { codec = codec; reads = false }) types.now.kinds.items 255 place
+    ensures written { IfOk result (Takes (record { codec = codec; reads = false }) types.now.kinds.items 128 place
         value.now) }
     ensures refused { IfErr result (IsUntaken (record { codec = codec; reads = false }) types.now.kinds.items) }
 {

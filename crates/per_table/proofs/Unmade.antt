@@ -29,7 +29,7 @@ unclosed types codec place text v (Open.Encode kind) r told h q =
 unclosed types codec place text v Open.OutOfMemory r told h q = inr q
 
 pub unwritten : (types : Types) (codec : Codec) (place : ℕ) (text : List ℕ) (v w : Value) (kind : EncodeErrorKind) (r : Refusal)
-    → IsTextOf types.kinds.items place text v → Takes (record { codec = codec; reads = false }) types.kinds.items 255 place v w
+    → IsTextOf types.kinds.items place text v → Takes (record { codec = codec; reads = false }) types.kinds.items 128 place v w
     → (kind ≢ Encoding.OutOfMemory → HasNoBytes (variant_of codec) (type_at types place) (levels_of w) (value_of w))
     → (kind ≢ Encoding.OutOfMemory → AtDepths (type_at types place) (levels_of w) (λ s. IsInValue kind s (normal s (value_of w))))
     → r ≡ Encode kind → IsUnmade types codec place text r ⊎ (r ≡ OutOfMemory)

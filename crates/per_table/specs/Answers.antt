@@ -56,7 +56,7 @@ pub record AreShown (types : Types) (codec : Codec) (place : ℕ) (octets answer
   pub value : Value
   pub opened : Value
   pub is_read : AreReadBy (basically (variant_of codec)) (type_at types place) (value_of value) octets
-  pub is_opened : Takes (record { codec = codec; reads = true }) types.kinds.items 255 place value opened
+  pub is_opened : Takes (record { codec = codec; reads = true }) types.kinds.items 128 place value opened
   pub is_json : IsJsonOf types place value opened answer
 
 -- the octets of digits are shown
@@ -71,7 +71,7 @@ pub record IsMade (types : Types) (codec : Codec) (place : ℕ) (text answer : L
   pub canonical : List ℕ
   pub told : IsTextOf types.kinds.items place text value
   pub closed : Value
-  pub is_closed : Takes (record { codec = codec; reads = false }) types.kinds.items 255 place value closed
+  pub is_closed : Takes (record { codec = codec; reads = false }) types.kinds.items 128 place value closed
   pub is_written : AreBytes (variant_of codec) (type_at types place) (levels_of closed) (value_of closed) canonical
   pub written : answer ≡ encode_lower canonical
 
@@ -119,7 +119,7 @@ pub record IsUnwritten (types : Types) (codec : Codec) (place : ℕ) (text : Lis
   pub value : Value
   pub told : IsTextOf types.kinds.items place text value
   pub closed : Value
-  pub is_closed : Takes (record { codec = codec; reads = false }) types.kinds.items 255 place value closed
+  pub is_closed : Takes (record { codec = codec; reads = false }) types.kinds.items 128 place value closed
   pub no_bytes : HasNoBytes (variant_of codec) (type_at types place) (levels_of closed) (value_of closed)
   pub is_faulty : AtDepths (type_at types place) (levels_of closed) (λ s. IsInValue kind s (normal s (value_of closed)))
 
