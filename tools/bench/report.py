@@ -126,12 +126,13 @@ def instruction_rows(counted):
 
 
 def rows_by_table(counted):
-    """A line for each kind: what a page and a table take, and how many times as much the table. A message's is below asn1c's."""
+    """A line for each kind: what a page and a table take, how many times as much the table, and over asn1c's."""
     rows = []
     for kind, title in titles().items():
         row = [title]
         for operation, goal in zip(("new", "dec"), TIMES_BY_TABLE):
-            page, by_table, other = (sum(counted.get(f"{it} {operation} {kind}", {}).values()) for it in ("rasn", "table", "asn1c"))
+            found = [counted.get(f"{it} {operation} {kind}", {}) for it in ("rasn", "table", "asn1c")]
+            page, by_table, other = (sum(it.values()) for it in found)
             if page and by_table:
                 reached = by_table <= goal * page
                 row += [f"{page:,.0f}", f"{by_table:,.0f}", f"{by_table / page:.2f}", "reached" if reached else f"missed: {goal}"]
