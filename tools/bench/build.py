@@ -1,17 +1,22 @@
 """Builds the programs of the benchmark in a folder, and holds each to the encodings of inputs.py."""
+import glob
 import os
 import re
 import shutil
 import subprocess
 
-from inputs import MESSAGES, lines, octets_line
+from inputs import MESSAGES, SCHEMAS, TYPES, lines, octets_line
 from program import built_program
 from repository import FURTHER, TOP, Failure, below, put_crate, read_crates
 
 HERE = os.path.dirname(os.path.realpath(__file__))
 VARIANTS = ("uper", "aper")
-# The libraries that the program in Rattle names.
-LIBRARIES = ["rasn_below", "per_enc", "per_de", "rasn_per", "per_samples_a", "per_samples_b", "its_container", "cam", "ngap_setup"]
+# The programs in Rattle, by pages and by tables: the libraries that each names, and its files in this folder.
+LIBRARIES = {
+    "rasn": ["rasn_below", "per_enc", "per_de", "rasn_per", "per_samples_a", "per_samples_b", "its_container", "cam", "ngap_setup"],
+    "table": ["schema_file", "rasn_types", "rasn_dynamic", "per_enc", "per_dynamic"],
+}
+FILES = {"rasn": ["rattle/*"], "table": ["table/*", "rattle/input"]}
 # The modules of ASN.1 of the messages, each in a file of its name.
 MODULES = {
     "uper": {"ITS-Container": "its/ITS-Container", "CAM-PDU-Descriptions": "its/CAM"},
@@ -76,8 +81,14 @@ class Folder:
         return self.running[variant].answer(operation, kind, count, self.input(variant, kind))
 
     def program(self, name, variant, operation, kind, count):
-        """Returns the command of a program, which reads the line of the kind."""
+        """Returns the command of a program, which reads the line of the kind. By a table it is told the type and its file."""
+        if name == "table":
+            return [f"{self.path}/bin/table", variant, operation, TYPES[kind], str(count), self.schema(kind)]
         return [f"{self.path}/bin/{name}", variant, operation, kind, str(count)]
+
+    def schema(self, kind):
+        """Returns the schema file that has a kind's type."""
+        return f"{TOP}/schemas/{SCHEMAS[kind]}.schema" if kind in SCHEMAS else f"{self.path}/Bench.schema"
 
     def input(self, variant, kind):
         return f"{self.path}/inputs/{variant}.{kind}"
@@ -96,25 +107,32 @@ def write_inputs(folder):
 
 
 def build_this_project(folder):
-    """Proves and builds the program in Rattle, in a copy of the libraries below it, which are there as they are proved."""
+    """Proves and builds the programs in Rattle, in a copy of the libraries below, which are there as they are proved."""
     crates, copy = {**read_crates(), **read_crates(f"{FURTHER}/CRATES")}, f"{folder.path}/copy"
-    found = below(LIBRARIES, crates)
+    found = below(sum(LIBRARIES.values(), []), crates)
     for name in found:
         shutil.rmtree(f"{copy}/crates/{name}", ignore_errors=True)
         put_crate(name, f"{copy}/crates/{name}", copy_function=copied)
     lines = [f"{name}: {' '.join(crates[name])}\n" for name in found]
-    folder.written("copy/crates.txt", "".join(lines) + f"bench_rasn: {' '.join(LIBRARIES)} anyhow hex\n")
+    lines += [f"bench_{name}: {' '.join(it)} anyhow hex\n" for name, it in LIBRARIES.items()]
+    folder.written("copy/crates.txt", "".join(lines))
     shutil.copy(f"{TOP}/HANDLES", f"{copy}/HANDLES")
-    crate = f"{copy}/crates/bench_rasn"
+    ran([f"{TOP}/tools/asn1/compile", "--schema", f"{folder.path}/Bench.schema", "--all", f"{HERE}/Bench.asn1"], folder.path)
+    for name in LIBRARIES:
+        build_program(folder, name, f"{copy}/crates/bench_{name}")
+
+
+def build_program(folder, name, crate):
+    """Proves and builds a program in Rattle in the folder of its crate."""
     for part, ending in (("src", ".rt"), ("specs", ".antt")):
         shutil.rmtree(f"{crate}/{part}", ignore_errors=True)
         os.makedirs(f"{crate}/{part}")
-        for name in os.listdir(f"{HERE}/rattle"):
-            if name.endswith(f"{ending}.txt"):
-                shutil.copy(f"{HERE}/rattle/{name}", f"{crate}/{part}/{name.removesuffix('.txt')}")
+        for file in [file for it in FILES[name] for file in glob.glob(f"{HERE}/{it}{ending}.txt")]:
+            shutil.copy(file, f"{crate}/{part}/{os.path.basename(file).removesuffix('.txt')}")
+    words = folder.program(name, "uper", "check", "four", 1)
     with open(folder.input("uper", "four"), encoding="utf-8") as line:
-        ran(["rt", "run", "--", "uper", "check", "four", "1"], crate, stdin=line)
-    shutil.copy(f"{crate}/out/bench_rasn", f"{folder.path}/bin/rasn")
+        ran(["rt", "run", "--", *words[1:]], crate, stdin=line)
+    shutil.copy(f"{crate}/out/bench_{name}", f"{folder.path}/bin/{name}")
 
 
 def fetch_modules(folder):
@@ -174,7 +192,7 @@ def check(folder):
 
 def programs():
     """Returns each program with each variant that it knows."""
-    return [(name, it) for name in ("rasn", "asn1c", "erlang", "c") for it in VARIANTS if (name, it) != ("asn1c", "aper")]
+    return [(name, it) for name in ("rasn", "table", "asn1c", "erlang", "c") for it in VARIANTS if (name, it) != ("asn1c", "aper")]
 
 
 def knows(name, kind):

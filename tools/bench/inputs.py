@@ -174,6 +174,24 @@ MESSAGES = {
     "areas": ("SupportedTAList (NGAP)", "aper", element(message("ngap", "ng_setup_request"), 102)),
 }
 
+# The types of the kinds, as schema files name them, and the file of schemas/ of one that isn't of Bench.asn1.
+TYPES = {
+    "four": "Bench.Four",
+    "integer": "Bench.Whole",
+    "octets1k": "Bench.Octets",
+    "octets1m": "Bench.Octets",
+    "behind1k": "Bench.Behind",
+    "behind1m": "Bench.Behind",
+    "visible1k": "Bench.Visible",
+    "optional": "Bench.Report",
+    "list": "Bench.Fours",
+    "group": "Bench.Outer",
+    "choice": "Bench.Alt",
+    "cam": "CAM-PDU-Descriptions.CAM",
+    "areas": "NGAP-IEs.SupportedTAList",
+}
+SCHEMAS = {"cam": "its", "areas": "ngap"}
+
 
 def titles():
     """Returns what each kind is."""

@@ -9,7 +9,7 @@ import subprocess
 
 from build import SIZES, VARIANTS, knows, programs
 from inputs import lines
-from repository import Failure
+from repository import TOP, Failure
 
 REPEATS = int(os.environ.get("REPEATS", "3"))
 SECONDS = float(os.environ.get("SECONDS", "0.1"))
@@ -122,7 +122,7 @@ def count_cell(folder, name, operation, kind):
 
 def count_instructions(folder):
     """Counts the instructions of an operation in UPER. They don't depend on other work, so the runs go side by side."""
-    names = ("rasn", "asn1c", "c")
+    names = ("rasn", "table", "asn1c", "c")
     cells = [(name, it, kind) for kind in lines("uper") for it in IN_APER for name in names if knows(name, kind)]
     with concurrent.futures.ThreadPoolExecutor(WORKERS) as pool:
         found = list(pool.map(lambda cell: count_cell(folder, *cell), cells))
@@ -145,32 +145,36 @@ def grow(folder):
     folder.written("growth.json", json.dumps(grown))
 
 
-# `Nest ::= SEQUENCE { inner Nest OPTIONAL }` of so many levels.
+# `Nest ::= SEQUENCE { inner Nest OPTIONAL }` of so many levels, by the programs that read and write it.
 LEVELS = (1, 128)
+NESTS = {
+    "per_check": ["uper", "nest"],
+    "table": ["uper", "check", "Types.T-nest", "1", f"{TOP}/schemas/types.schema"],
+}
 PAGE = 4096
 
 
-def runs_within(folder, octets, levels):
-    """Returns whether `per_check` answers for a value of so many levels with a stack of so many octets."""
+def runs_within(folder, name, octets, levels):
+    """Returns whether a program answers for a value of so many levels with a stack of so many octets."""
     bits = "1" * (levels - 1) + "0"
     line = f"{int(bits.ljust(-len(bits) % 8 + len(bits), '0'), 2):0{-(-len(bits) // 8) * 2}x}\n"
 
     def limited():
         resource.setrlimit(resource.RLIMIT_STACK, (octets, octets))
 
-    words = [f"{folder.path}/bin/per_check", "uper", "nest"]
+    words = [f"{folder.path}/bin/{name}", *NESTS[name]]
     done = subprocess.run(words, input=line, capture_output=True, text=True, preexec_fn=limited)
     return done.returncode == 0 and done.stdout == line
 
 
-def least_stack(folder, levels):
-    """Returns the least stack in octets, whole pages, with which `per_check` reads and writes so many levels."""
+def least_stack(folder, name, levels):
+    """Returns the least stack in octets, whole pages, with which a program reads and writes so many levels."""
     few, enough = 0, 1 << 11
-    if not runs_within(folder, enough * PAGE, levels):
+    if not runs_within(folder, name, enough * PAGE, levels):
         raise Failure(f"{levels} levels take more than {enough * PAGE} octets of stack")
     while enough - few > 1:
         middle = (few + enough) // 2
-        few, enough = (few, middle) if runs_within(folder, middle * PAGE, levels) else (middle, enough)
+        few, enough = (few, middle) if runs_within(folder, name, middle * PAGE, levels) else (middle, enough)
     return enough * PAGE
 
 
@@ -181,5 +185,6 @@ def take_sizes(folder):
         done = subprocess.run(words, stdin=line, capture_output=True, text=True, check=True)
     encoder, encoded, decoder, decoded = map(int, done.stdout.split())
     found = {"Encoder": encoder, "Result<(), EncodeError>": encoded, "Decoder": decoder, "Result<bool, DecodeError>": decoded}
-    found |= {f"stack of `per_check` at {it} level{'s' * (it > 1)}": least_stack(folder, it) for it in LEVELS}
+    for name in NESTS:
+        found |= {f"stack of `{name}` at {it} level{'s' * (it > 1)}": least_stack(folder, name, it) for it in LEVELS}
     folder.written("sizes.json", json.dumps(found))

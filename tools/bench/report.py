@@ -9,7 +9,7 @@ from inputs import titles
 from repository import TOP
 
 SIDES = {"enc": "encode_buf", "new": "encode", "dec": "decode"}
-OTHERS = {"asn1c": "asn1c", "erlang": "Erlang", "c": "C"}
+OTHERS = {"table": "the table", "asn1c": "asn1c", "erlang": "Erlang", "c": "C"}
 MOST = 3
 # The instructions that an encoding and a decoding of a kind are to take at most.
 GOALS = {
@@ -21,6 +21,8 @@ GOALS = {
     "choice": (600, 550),
     "visible1k": (8000, 9000),
 }
+# How many times a page's instructions an encoding and a decoding by a table are to take at most.
+TIMES_BY_TABLE = (1.3, 1.8)
 
 
 def first_line(*words):
@@ -123,6 +125,22 @@ def instruction_rows(counted):
     return rows, most
 
 
+def rows_by_table(counted):
+    """A line for each kind: what a page and a table take, how many times as much the table, and over asn1c's."""
+    rows = []
+    for kind, title in titles().items():
+        row = [title]
+        for operation, goal in zip(("new", "dec"), TIMES_BY_TABLE):
+            found = [counted.get(f"{it} {operation} {kind}", {}) for it in ("rasn", "table", "asn1c")]
+            page, by_table, other = (sum(it.values()) for it in found)
+            if page and by_table:
+                reached = by_table <= goal * page
+                row += [f"{page:,.0f}", f"{by_table:,.0f}", f"{by_table / page:.2f}", "reached" if reached else f"missed: {goal}"]
+                row += [f"{by_table / other:.2f}" if other else ""]
+        rows += [row] if row[1:] else []
+    return rows
+
+
 def growth_rows(grown):
     """A line for each length; the last column leaves out what the program takes for the shortest."""
     least, _, own = grown[0]
@@ -156,6 +174,10 @@ def report(folder):
         for side in ("encode", "decode"):
             head += [side, "goal", "times the goal", "asn1c", "C"]
         text += f"\n{table(head, rows)}\n{table(['Most instructions', 'of this project, by function'], most)}"
+        head = ["Instructions by table, UPER"]
+        for side in ("encode", "decode"):
+            head += [f"{side} by page", "by table", "times the page's", "goal", "/ asn1c"]
+        text += f"\n{table(head, rows_by_table(counted))}"
     if grown:
         text += "\n" + table(["Octets of value", "seconds", "KiB resident", "more octets for each octet more"], growth_rows(grown))
     if sizes:
