@@ -1,7 +1,10 @@
 """What the tools run of the programs, and the encodings of vectors/ that they give to it."""
+import importlib.machinery
+import importlib.util
 import os
 import re
 import subprocess
+import sys
 
 from repository import TOP, Failure, folder_of
 
@@ -40,3 +43,12 @@ def built_program(built, name="per_check"):
     if not os.path.isfile(program):
         raise Failure(f"there is no program {os.path.relpath(program, TOP)}")
     return program
+
+
+def tables():
+    """Returns the tool tools/tables as a module: its messages, and its tables of types."""
+    loader = importlib.machinery.SourceFileLoader("tables", f"{TOP}/tools/tables")
+    module = importlib.util.module_from_spec(importlib.util.spec_from_loader("tables", loader))
+    sys.modules["tables"] = module
+    loader.exec_module(module)
+    return module
