@@ -1,14 +1,17 @@
-//! Where octets are refused, of types that `per_show` doesn't take; `rows/shown/places.tsv` has the others.
+//! Where values are refused, and octets of types that `per_show` doesn't take; `rows/shown/places.tsv` has the others.
 
 use crate::expected::expect_text;
 use its_header::header::ItsPduHeader;
-use per_located::{Refusal, aper, uper};
+use per_located::{aper, uper};
 use per_samples_a::carrier::Carrier;
+use per_samples_b::beside::BesideSeveral;
+use per_samples_b::several::Several;
 use std::alloc::Global;
+use std::fmt::Display;
 use std::process::Abort;
 
 /// A refusal has this text.
-fn expect_told(rt: &impl Abort, alloc: Global, refusal: Option<Refusal>, text: &str) {
+fn expect_told<R: Display + Drop>(rt: &impl Abort, alloc: Global, refusal: Option<R>, text: &str) {
     let refusal = refusal.expect(rt, "a refusal");
     let told = format!(in alloc; "{refusal}").expect(rt, "memory");
     expect_text(rt, told.as_str(), text);
@@ -45,4 +48,19 @@ fn a_component_is_named_by_its_identifier(rt: HostRuntime) {
     expect_told(&rt, rt.alloc(), aligned, text);
     let unaligned = uper::decode::<ItsPduHeader>(rt.alloc(), octets).err();
     expect_told(&rt, rt.alloc(), unaligned, text);
+}
+
+/// Alternatives beside a `lane` of 8, and the texts of the refusals.
+const BESIDE: &[(Several, &str)] = &[
+    (Several::Nothing, "8 is not in 0..7 at lane"),
+    (Several::Small(9), "9 is not in 0..7 at choice.small"),
+];
+
+#[test]
+fn a_refused_value_stands_at_its_component(rt: HostRuntime) {
+    for (choice, text) in BESIDE {
+        let (choice, lane) = (*choice, 8);
+        let refusal = uper::encode(rt.alloc(), &BesideSeveral { choice, lane }).err();
+        expect_told(&rt, rt.alloc(), refusal, text);
+    }
 }

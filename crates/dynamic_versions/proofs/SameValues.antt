@@ -11,7 +11,7 @@ use Rattle.rasn_dynamic.specs.declared.types.DefaultValue.{DefaultValue}
 use Rattle.rasn_dynamic.specs.declared.types.DefaultValue.TheVariants
 use Rattle.rasn_dynamic.specs.declared.types.Items.{Items}
 use Rattle.rasn_dynamic.specs.declared.types.Kind.{Kind}
-use Rattle.rasn_dynamic.specs.declared.types.Kind.TheVariants.{Simple as SimpleKind, List as ListKind, SetOf, Record as RecordKind, Choice as ChoiceKind, Containing, Open as OpenKind}
+use Rattle.rasn_dynamic.specs.declared.types.Kind.TheVariants.{Simple as SimpleKind, Date, List as ListKind, SetOf, Record as RecordKind, Choice as ChoiceKind, Containing, Open as OpenKind}
 use Rattle.rasn_dynamic.specs.declared.types.Simple.{Simple}
 use Rattle.rasn_dynamic.specs.declared.types.Simple.TheVariants.{Enumerated}
 use Rattle.rasn_dynamic.specs.Types.{at_place, default_value, kind_in, plain_in, schema_at, simple_schema}
@@ -51,6 +51,7 @@ module _ (ts : List Kind) (s : ℕ → Schema) where
   place_stays n d None e = absurd cc
   place_stays n d (Some (Containing i)) e = within_stays n d (slice_get ts i) e
   place_stays n d (Some (SimpleKind k)) e = plain_stays n d (SimpleKind k) e
+  place_stays n d (Some Date) e = plain_stays n d Date e
   place_stays n d (Some (ListKind i c)) e = plain_stays n d (ListKind i c) e
   place_stays n d (Some (SetOf i c)) e = plain_stays n d (SetOf i c) e
   place_stays n d (Some (RecordKind r)) e = plain_stays n d (RecordKind r) e

@@ -91,6 +91,7 @@ fn compare_plain(
 {
     match (newer, older) {
         (Kind::Simple(newer), Kind::Simple(older)) => compare_simple(newer, older),
+        (Kind::Date, Kind::Date) => Ok(()),
         (Kind::List(newer, size), Kind::List(older, old_size)) => {
             compare_elements(pairs, *newer, size, *older, old_size)
         }

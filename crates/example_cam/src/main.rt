@@ -54,16 +54,12 @@ fn message() -> Cam {
     }
 }
 
-/// A refusal is looked at, or passed on by its name for an `io::Result`; an `anyhow::Result` takes it by `?` alone.
+/// A refusal is looked at, or passed on by `?`: an `io::Result` has its name, an `anyhow::Result` the refusal itself.
 fn main(rt: HostRuntime) -> io::Result<()> {
-    let octets = uper::encode(rt.alloc(), &message()).map_err(|error| io::Error::other(
-        error.kind.name(),
-    ))?;
+    let octets = uper::encode(rt.alloc(), &message())?;
     let digits = hex::encode(rt.alloc(), octets.as_slice())?;
     println!(rt; "{digits}")?;
-    let read = uper::decode::<Cam>(rt.alloc(), octets.as_slice()).map_err(|error| io::Error::other(
-        error.kind.name(),
-    ))?;
+    let read = uper::decode::<Cam>(rt.alloc(), octets.as_slice())?;
     println!(rt; "{:?}", read.header)?;
     if let Some((_, cut)) = octets.split_last() {
         match uper::decode::<Cam>(rt.alloc(), cut) {

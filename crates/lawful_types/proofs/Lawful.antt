@@ -16,7 +16,7 @@ use Rattle.rasn_dynamic.specs.declared.types.Component.{Component}
 use Rattle.rasn_dynamic.specs.declared.types.DefaultValue.{DefaultValue}
 use Rattle.rasn_dynamic.specs.declared.types.DefaultValue.TheVariants
 use Rattle.rasn_dynamic.specs.declared.types.Kind.{Kind}
-use Rattle.rasn_dynamic.specs.declared.types.Kind.TheVariants.{Simple as SimpleKind, List as ListKind, SetOf, Record as RecordKind, Choice as ChoiceKind, Containing, Open as OpenKind}
+use Rattle.rasn_dynamic.specs.declared.types.Kind.TheVariants.{Simple as SimpleKind, Date, List as ListKind, SetOf, Record as RecordKind, Choice as ChoiceKind, Containing, Open as OpenKind}
 use Rattle.rasn_dynamic.specs.declared.types.Presence.{Presence}
 use Rattle.rasn_dynamic.specs.declared.types.Presence.TheVariants.{Default, Group, Optional, Required}
 use Rattle.rasn_dynamic.specs.declared.types.Simple.{Simple}
@@ -51,6 +51,10 @@ module _ (ts : List Kind) (s : ℕ → Schema) where
   plain_value : (n : ℕ) (d : DefaultValue) (k : Kind) → meets_cut (plain_in ts s n k) (default_value d) ≡ false → is_right (plain_in ts s n k) d ≡ is_default_of_plain d k
   unfolding meets_cut is_value if_bag normal over_bag
   plain_value n d (SimpleKind k) e = simple_value d k
+  plain_value zero d Date e = absurd cc
+  plain_value (suc zero) d Date e = absurd cc
+  plain_value (suc (suc n)) TheVariants.Null Date e = refl
+  plain_value (suc (suc n)) _ Date e = refl
   plain_value zero d (ListKind i c) e = absurd cc
   plain_value (suc n) TheVariants.NoElements (ListKind i c) e = same_self (default_value TheVariants.NoElements)
   plain_value (suc n) _ (ListKind i c) e = refl
@@ -66,10 +70,12 @@ module _ (ts : List Kind) (s : ℕ → Schema) where
   plain_value n d (Containing i) e = refl
   plain_value n d (OpenKind o) e = simple_value d Simples.Open
 
-  plain_uncut : (n : ℕ) (d : DefaultValue) (k : Kind) → meets_cut (plain_in ts s (suc n) k) (default_value d) ≡ false
+  plain_uncut : (n : ℕ) (d : DefaultValue) (k : Kind) → meets_cut (plain_in ts s (suc (suc n)) k) (default_value d) ≡ false
   unfolding meets_cut
   plain_uncut n d (SimpleKind Boolean) = refl
   plain_uncut n d (SimpleKind _) = refl
+  plain_uncut n TheVariants.Null Date = refl
+  plain_uncut n _ Date = refl
   plain_uncut n TheVariants.Null (ListKind i c) = refl
   plain_uncut n _ (ListKind i c) = refl
   plain_uncut n TheVariants.Null (SetOf i c) = refl
@@ -86,7 +92,7 @@ module _ (ts : List Kind) (s : ℕ → Schema) where
   within_value n d None e = refl
   within_value n d (Some k) e = plain_value n d k e
 
-  within_uncut : (n : ℕ) (d : DefaultValue) (o : Option Kind) → meets_cut (at_place (plain_in ts s (suc n)) o) (default_value d) ≡ false
+  within_uncut : (n : ℕ) (d : DefaultValue) (o : Option Kind) → meets_cut (at_place (plain_in ts s (suc (suc n))) o) (default_value d) ≡ false
   unfolding meets_cut
   within_uncut n d None = refl
   within_uncut n d (Some k) = plain_uncut n d k
@@ -96,17 +102,19 @@ module _ (ts : List Kind) (s : ℕ → Schema) where
   place_value n d None e = refl
   place_value n d (Some (Containing i)) e = within_value n d (slice_get ts i) e
   place_value n d (Some (SimpleKind k)) e = plain_value n d (SimpleKind k) e
+  place_value n d (Some Date) e = plain_value n d Date e
   place_value n d (Some (ListKind i c)) e = plain_value n d (ListKind i c) e
   place_value n d (Some (SetOf i c)) e = plain_value n d (SetOf i c) e
   place_value n d (Some (RecordKind r)) e = plain_value n d (RecordKind r) e
   place_value n d (Some (ChoiceKind c)) e = plain_value n d (ChoiceKind c) e
   place_value n d (Some (OpenKind o)) e = plain_value n d (OpenKind o) e
 
-  place_uncut : (n : ℕ) (d : DefaultValue) (o : Option Kind) → meets_cut (at_place (kind_in ts s (suc n)) o) (default_value d) ≡ false
+  place_uncut : (n : ℕ) (d : DefaultValue) (o : Option Kind) → meets_cut (at_place (kind_in ts s (suc (suc n))) o) (default_value d) ≡ false
   unfolding meets_cut
   place_uncut n d None = refl
   place_uncut n d (Some (Containing i)) = within_uncut n d (slice_get ts i)
   place_uncut n d (Some (SimpleKind k)) = plain_uncut n d (SimpleKind k)
+  place_uncut n d (Some Date) = plain_uncut n d Date
   place_uncut n d (Some (ListKind i c)) = plain_uncut n d (ListKind i c)
   place_uncut n d (Some (SetOf i c)) = plain_uncut n d (SetOf i c)
   place_uncut n d (Some (RecordKind r)) = plain_uncut n d (RecordKind r)
@@ -129,23 +137,24 @@ module _ (ts : List Kind) (s : ℕ → Schema) where
     lawful_form : meets_cut (at_place (kind_in ts s n) o) (default_value d) ≡ false → IsLawfulDefault (at_place (kind_in ts s n) o) (default_value d) → is_default_of ts d o ≡ true
     lawful_form u x = sym (place_value n d o u) ∙ and_true of_kind in_form (x.is_of_kind u) (ap (λ v. same v (default_value d)) (x.is_normal u) ∙ same_self (default_value d))
 
-  lawful_place : (n : ℕ) (d : DefaultValue) (o : Option Kind) → IsLawfulDefault (at_place (kind_in ts s (suc n)) o) (default_value d) → is_default_of ts d o ≡ true
-  lawful_place n d o x = lawful_form (suc n) d o (place_uncut n d o) x
+  lawful_place : (n : ℕ) (d : DefaultValue) (o : Option Kind) → IsLawfulDefault (at_place (kind_in ts s (suc (suc n))) o) (default_value d) → is_default_of ts d o ≡ true
+  lawful_place n d o x = lawful_form (suc (suc n)) d o (place_uncut n d o) x
 
 default_lawful : (ts : List Kind) (n i : ℕ) (d : DefaultValue) → is_default_of ts d (slice_get ts i) ≡ true → IsLawfulDefault (schema_at ts i n) (default_value d)
 unfolding schema_at
 default_lawful ts zero i d h = place_lawful ts (λ j. Schemas.cut) zero d (slice_get ts i) h
 default_lawful ts (suc n) i d h = place_lawful ts (λ j. schema_at ts j n) (suc n) d (slice_get ts i) h
 
-lawful_default : (ts : List Kind) (n i : ℕ) (d : DefaultValue) → IsLawfulDefault (schema_at ts i (suc n)) (default_value d) → is_default_of ts d (slice_get ts i) ≡ true
+lawful_default : (ts : List Kind) (n i : ℕ) (d : DefaultValue) → IsLawfulDefault (schema_at ts i (suc (suc n))) (default_value d) → is_default_of ts d (slice_get ts i) ≡ true
 unfolding schema_at
-lawful_default ts n i d x = lawful_place ts (λ j. schema_at ts j n) n d (slice_get ts i) x
+lawful_default ts n i d x = lawful_place ts (λ j. schema_at ts j (suc n)) n d (slice_get ts i) x
 
 -- ---- groups: their types are SEQUENCEs
 
 group_in : (ts : List Kind) (s : ℕ → Schema) (n : ℕ) (o : Option Kind) → is_some (required_in o) ≡ true → is_group_schema (at_place (kind_in ts s n) o) ≡ true
 group_in ts s n None e = absurd cc
 group_in ts s n (Some (SimpleKind k)) e = absurd cc
+group_in ts s n (Some Date) e = absurd cc
 group_in ts s n (Some (ListKind i c)) e = absurd cc
 group_in ts s n (Some (SetOf i c)) e = absurd cc
 group_in ts s zero (Some (RecordKind r)) e = refl
@@ -252,6 +261,9 @@ module _ (ts : List Kind) (s : ℕ → Schema) (lawful : (j : ℕ) → IsLawful 
     plain_lawful : (n : ℕ) (k : Kind) → is_lawful_kind ts k ≡ true → IsLawful (plain_in ts s n k)
     unfolding IsLawful
     plain_lawful n (SimpleKind k) h = simple_lawful k (kept ts (SimpleKind k) h Reasons.Bounds) (kept ts (SimpleKind k) h Reasons.Size)
+    plain_lawful zero Date h = tt
+    plain_lawful (suc zero) Date h = tt
+    plain_lawful (suc (suc n)) Date h = tt
     plain_lawful zero (ListKind i c) h = tt
     plain_lawful (suc n) (ListKind i c) h = (kept ts (ListKind i c) h Reasons.Size, lawful i)
     plain_lawful zero (SetOf i c) h = tt
@@ -282,6 +294,7 @@ module _ (ts : List Kind) (s : ℕ → Schema) (lawful : (j : ℕ) → IsLawful 
       unfolding IsLawful
       kind_lawful n (Containing i) h = within_lawful n i (slice_get ts i) refl
       kind_lawful n (SimpleKind k) h = plain_lawful n (SimpleKind k) h
+      kind_lawful n Date h = plain_lawful n Date h
       kind_lawful n (ListKind i c) h = plain_lawful n (ListKind i c) h
       kind_lawful n (SetOf i c) h = plain_lawful n (SetOf i c) h
       kind_lawful n (RecordKind r) h = plain_lawful n (RecordKind r) h
@@ -313,16 +326,16 @@ types_lawful ts h i = record {
   lawful = λ n. schema_lawful ts (passes_at (is_lawful_kind ts) ts h) n i;
 }
 
--- ---- a kind that is lawful to two levels keeps each rule
+-- ---- a kind that is lawful to three levels keeps each rule
 
 module _ (ts : List Kind) where
-  kept_bounds : (k : Kind) → IsLawful (kind_in ts (λ j. schema_at ts j 1) 2 k) → keeps_bounds k ≡ true
+  kept_bounds : (k : Kind) → IsLawful (kind_in ts (λ j. schema_at ts j 2) 3 k) → keeps_bounds k ≡ true
   unfolding IsLawful
   kept_bounds (SimpleKind (Integer c)) x = x
   kept_bounds (SimpleKind _) x = refl
   kept_bounds _ x = refl
 
-  kept_size : (k : Kind) → IsLawful (kind_in ts (λ j. schema_at ts j 1) 2 k) → keeps_size k ≡ true
+  kept_size : (k : Kind) → IsLawful (kind_in ts (λ j. schema_at ts j 2) 3 k) → keeps_size k ≡ true
   unfolding IsLawful
   kept_size (SimpleKind (OctetString c)) x = x
   kept_size (SimpleKind (BitString c)) x = x
@@ -333,51 +346,51 @@ module _ (ts : List Kind) where
   kept_size (SetOf i c) x = x.0
   kept_size _ x = refl
 
-  kept_bits : (k : Kind) → IsLawful (kind_in ts (λ j. schema_at ts j 1) 2 k) → keeps_presence_bits k ≡ true
+  kept_bits : (k : Kind) → IsLawful (kind_in ts (λ j. schema_at ts j 2) 3 k) → keeps_presence_bits k ≡ true
   unfolding IsLawful
-  kept_bits (RecordKind r) x = sym (ap (λ b. nat_lt b 65536) (bits_in in_root (λ j. schema_at ts j 1) r.root.items)) ∙ x.0.few_bits
+  kept_bits (RecordKind r) x = sym (ap (λ b. nat_lt b 65536) (bits_in in_root (λ j. schema_at ts j 2) r.root.items)) ∙ x.0.few_bits
   kept_bits _ x = refl
 
-  kept_tags : (k : Kind) → IsLawful (kind_in ts (λ j. schema_at ts j 1) 2 k) → keeps_tags k ≡ true
+  kept_tags : (k : Kind) → IsLawful (kind_in ts (λ j. schema_at ts j 2) 3 k) → keeps_tags k ≡ true
   unfolding IsLawful
-  kept_tags (ChoiceKind c) x = sym (distinct_in (λ j. schema_at ts j 1) c.roots.items (behind c.addeds)) ∙ x.0.distinct_tags
+  kept_tags (ChoiceKind c) x = sym (distinct_in (λ j. schema_at ts j 2) c.roots.items (behind c.addeds)) ∙ x.0.distinct_tags
   kept_tags _ x = refl
 
-  kept_default : (g : Bool) (c : Component) → IsLawfulPresence (schema_at ts c.of 1) (presence_of g c.presence) → has_lawful_default ts c ≡ true
+  kept_default : (g : Bool) (c : Component) → IsLawfulPresence (schema_at ts c.of 2) (presence_of g c.presence) → has_lawful_default ts c ≡ true
   kept_default g c x = go g c.presence x
     where
-      go : (g : Bool) (p : Presence) → IsLawfulPresence (schema_at ts c.of 1) (presence_of g p) → has_lawful_default ts (record { name = c.name; tag = c.tag; presence = p; of = c.of }) ≡ true
+      go : (g : Bool) (p : Presence) → IsLawfulPresence (schema_at ts c.of 2) (presence_of g p) → has_lawful_default ts (record { name = c.name; tag = c.tag; presence = p; of = c.of }) ≡ true
       go g Required x = refl
       go g Optional x = refl
       go g Group x = refl
       go g (Default d) x = lawful_default ts 0 c.of d x
 
-  kept_parts : (g : Component → Bool) (cs : List Component) → AreLawful (parts_in g (λ j. schema_at ts j 1) cs) → all_pass (has_lawful_default ts) cs ≡ true
+  kept_parts : (g : Component → Bool) (cs : List Component) → AreLawful (parts_in g (λ j. schema_at ts j 2) cs) → all_pass (has_lawful_default ts) cs ≡ true
   unfolding IsLawful
   kept_parts g [] x = refl
   kept_parts g (c ∷ cs) x = ap₂ (λ a b. a && b) (kept_default (g c) c x.0) (kept_parts g cs x.2)
 
-  kept_defaults : (k : Kind) → IsLawful (kind_in ts (λ j. schema_at ts j 1) 2 k) → keeps_defaults ts k ≡ true
+  kept_defaults : (k : Kind) → IsLawful (kind_in ts (λ j. schema_at ts j 2) 3 k) → keeps_defaults ts k ≡ true
   unfolding IsLawful
   kept_defaults (RecordKind r) x = ap₂ (λ a b. a && b) (kept_parts in_root r.root.items x.1) (kept_parts (grouped ts) (behind r.additions) x.2)
   kept_defaults _ x = refl
 
-  each_kept : (r : Reason) (k : Kind) → IsLawful (kind_in ts (λ j. schema_at ts j 1) 2 k) → keeps r ts k ≡ true
+  each_kept : (r : Reason) (k : Kind) → IsLawful (kind_in ts (λ j. schema_at ts j 2) 3 k) → keeps r ts k ≡ true
   each_kept Reasons.Bounds k x = kept_bounds k x
   each_kept Reasons.Size k x = kept_size k x
   each_kept Reasons.PresenceBits k x = kept_bits k x
   each_kept Reasons.Tags k x = kept_tags k x
   each_kept Reasons.Default k x = kept_defaults k x
 
-  lawful_keeps : (i : ℕ) (r : Reason) (k : Kind) → slice_get ts i ≡ Some k → IsLawful (schema_at ts i 2) → keeps r ts k ≡ true
+  lawful_keeps : (i : ℕ) (r : Reason) (k : Kind) → slice_get ts i ≡ Some k → IsLawful (schema_at ts i 3) → keeps r ts k ≡ true
   unfolding schema_at
   lawful_keeps i r k e x = each_kept r k (go (slice_get ts i) e x)
     where
-      go : (o : Option Kind) → o ≡ Some k → IsLawful (at_place (kind_in ts (λ j. schema_at ts j 1) 2) o) → IsLawful (kind_in ts (λ j. schema_at ts j 1) 2 k)
+      go : (o : Option Kind) → o ≡ Some k → IsLawful (at_place (kind_in ts (λ j. schema_at ts j 2) 3) o) → IsLawful (kind_in ts (λ j. schema_at ts j 2) 3 k)
       go o f y = rw f at y
 
 -- a type that breaks a rule isn't
-pub unlawful : (ts : List Kind) (i : ℕ) (r : Reason) (k : Kind) → slice_get ts i ≡ Some k → keeps r ts k ≡ false → IsLawful (schema_at ts i 2) → ⊥
+pub unlawful : (ts : List Kind) (i : ℕ) (r : Reason) (k : Kind) → slice_get ts i ≡ Some k → keeps r ts k ≡ false → IsLawful (schema_at ts i 3) → ⊥
 unlawful ts i r k e f x = true≢false (sym (lawful_keeps ts i r k e x) ∙ f)
 
 -- what is told of a table's types

@@ -2,7 +2,7 @@
 use Rattle.std.specs.Prelude.{ℕ, ◌≡◌, Bool, true, false, ◌&&◌, nat_lt, length, List, slice_get, Some}
 use Rattle.rasn_schema.specs.Lawful.{all_pass}
 use Rattle.rasn_dynamic.specs.declared.types.Kind.{Kind}
-use Rattle.rasn_dynamic.specs.declared.types.Kind.TheVariants.{Simple as SimpleKind, List as ListKind, SetOf}
+use Rattle.rasn_dynamic.specs.declared.types.Kind.TheVariants.{Simple as SimpleKind, Date, List as ListKind, SetOf}
 use Rattle.rasn_dynamic.specs.declared.types.Kind.TheVariants.{Record as RecordKind, Choice as ChoiceKind, Containing}
 use Rattle.rasn_dynamic.specs.declared.types.Kind.TheVariants.{Open as OpenKind}
 use Rattle.rasn_dynamic.specs.declared.types.Name.{Name}
@@ -13,6 +13,7 @@ use Rattle.lawful_types.specs.declared.places.PastTable.TheVariants.{OfType, OfN
 -- whether each place that a type names is below a number of types
 abbrev pub is_inside : ℕ → Kind → Bool
 is_inside n (SimpleKind k) = true
+is_inside n Date = true
 is_inside n (ListKind i c) = nat_lt i n
 is_inside n (SetOf i c) = nat_lt i n
 is_inside n (RecordKind r) =

@@ -127,9 +127,10 @@ abbrev pub is_lawful_kind : List Kind → Kind → Bool
 is_lawful_kind ts k =
     keeps_bounds k && (keeps_size k && (keeps_presence_bits k && (keeps_tags k && keeps_defaults ts k)))
 
--- a type of a table breaks the rule that a fault names, so that its schema to two levels isn't lawful
+-- a type of a table breaks the rule that a fault names, so that its schema to three levels isn't lawful (a DATE within
+-- a record is one from then on)
 pub record IsFaultOf (ts : List Kind) (f : Fault) : Type 0 where
   pub kind : Kind
   pub stands : slice_get ts f.place ≡ Some kind
   pub breaks : keeps f.reason ts kind ≡ false
-  pub unlawful : IsLawful (schema_at ts f.place 2) → ⊥
+  pub unlawful : IsLawful (schema_at ts f.place 3) → ⊥

@@ -67,7 +67,7 @@ fn is_inside(types: usize, kind: &Kind) -> bool
     ensures { result ≡ is_inside types kind.now }
 {
     match kind {
-        Kind::Simple(_) => true,
+        Kind::Simple(_) | Kind::Date => true,
         Kind::List(of, _) => *of < types,
         Kind::SetOf(of, _) => *of < types,
         Kind::Containing(of) => *of < types,

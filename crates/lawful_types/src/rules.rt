@@ -47,7 +47,8 @@ fn size_stated(kind: &Kind) -> Option<SizeBounds>
     match kind {
         Kind::Simple(simple) => size_stated_by(simple),
         Kind::List(_, size) | Kind::SetOf(_, size) => Some(*size),
-        Kind::Record(_) | Kind::Choice(_) | Kind::Containing(_) | Kind::Open(_) => None,
+        Kind::Date | Kind::Record(_) | Kind::Choice(_) => None,
+        Kind::Containing(_) | Kind::Open(_) => None,
     }
 }
 

@@ -3,8 +3,8 @@ use Rattle.std.specs.Prelude.{ℕ, ◌≡◌, ◌≢◌, ◌<◌, ◌≤◌, tak
 use Rattle.per_core.specs.Rows.{Codec}
 use Rattle.named_types.specs.declared.types.NamedType.{NamedType}
 use Rattle.per_lines.specs.declared.arguments.Padding.{Padding}
-use Rattle.per_lines.specs.declared.fault.Fault.{Fault}
-use Rattle.per_lines.specs.declared.fault.Fault.TheVariants as Faults
+use Rattle.line_replies.specs.declared.fault.Fault.{Fault}
+use Rattle.line_replies.specs.declared.fault.Fault.TheVariants as Faults
 use Rattle.named_types.specs.Types.{schema_of, types}
 use Rattle.per_lines.specs.Showing.{AreShown, HasNoText}
 use Rattle.per_lines.specs.Recoding.{Recodes, IsRefusal, reader_of}

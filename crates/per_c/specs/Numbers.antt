@@ -3,8 +3,8 @@ use Rattle.std.specs.Prelude.{ℕ, ◌-◌, List, ◌++◌, length, replicate, c
 use Rattle.per_core.specs.Rows.{Codec, Aper, Uper}
 use Rattle.per_lines.specs.declared.arguments.Padding.{Padding}
 use Rattle.per_lines.specs.declared.arguments.Padding.TheVariants as Paddings
-use Rattle.per_lines.specs.declared.fault.Fault.{Fault}
-use Rattle.per_lines.specs.declared.fault.Fault.TheVariants as Faults
+use Rattle.line_replies.specs.declared.fault.Fault.{Fault}
+use Rattle.line_replies.specs.declared.fault.Fault.TheVariants as Faults
 use Rattle.per_read.specs.Names.{name_of as decode_name}
 use Rattle.per_read.specs.declared.error.DecodeErrorKind.{DecodeErrorKind}
 use Rattle.per_read.specs.declared.error.DecodeErrorKind.TheVariants as Decoding

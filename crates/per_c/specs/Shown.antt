@@ -3,7 +3,7 @@ use Rattle.std.specs.Prelude.{ℕ, List}
 use Rattle.per_core.specs.Spellings.{Settings}
 use Rattle.per_lines.specs.Recoding.{IsRefusal}
 use Rattle.per_lines.specs.Showing.{HasNoText}
-use Rattle.per_lines.specs.declared.fault.Fault.TheVariants as Faults
+use Rattle.line_replies.specs.declared.fault.Fault.TheVariants as Faults
 use Rattle.rasn_below.specs.Types.{Schema}
 use Rattle.per_c.specs.declared.refusal.Refusal.{Refusal}
 use Rattle.per_c.specs.declared.refusal.Refusal.TheVariants.{Decode, Json}

@@ -8,10 +8,10 @@ ghost use Rattle.per_c.specs.declared.refusal.Refusal.TheVariants.{Json as json_
 ghost use Rattle.per_read.specs.declared.error.DecodeErrorKind.{DecodeErrorKind as a_decode_kind};
 ghost use Rattle.per_write.specs.declared.error.EncodeErrorKind.{EncodeErrorKind as an_encode_kind};
 
+use line_replies::fault::Fault;
 use per_errors::bounds::OutOfBounds;
 use per_errors::count::Count;
 use per_errors::sizes::OutOfSize;
-use per_lines::fault::Fault;
 use rasn_below::types::Tag;
 use rasn_jer::EncodeError as JsonError;
 use rasn_per::uper::{DecodeError, DecodeErrorKind, EncodeErrorKind, ParserFailCause};

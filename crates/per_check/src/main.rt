@@ -7,9 +7,9 @@
 #![tactic(auto)]
 
 ghost use Rattle.std.specs.Prelude.{◌≡◌, ◌⊎◌, IfErr};
-ghost use Rattle.per_lines.specs.declared.fault.Fault.TheVariants.{OutOfMemory, WrongArguments};
+ghost use Rattle.line_replies.specs.declared.fault.Fault.TheVariants.{OutOfMemory, WrongArguments};
 
-use per_lines::fault::Fault;
+use line_replies::fault::Fault;
 use per_lines::run::run;
 use std::alloc::AllocError;
 use std::env;

@@ -152,6 +152,7 @@ fn taken_parts(
         Kind::Record(record) => taken_record(alloc, types, way, levels, record, value),
         Kind::Choice(choice) => taken_choice(alloc, types, way, levels, choice, value),
         Kind::Simple(_) => left(alloc, value),
+        Kind::Date => left(alloc, value),
         Kind::Containing(_) => left(alloc, value),
         Kind::Open(_) => left(alloc, value),
     }

@@ -3,12 +3,12 @@ use Rattle.std.proofs.Common.{◌≡◌, inr, sym, subst, ℕ, List, Option, Res
 use Rattle.per_lines.specs.declared.arguments.Form.{Form}
 use Rattle.per_lines.specs.declared.arguments.Form.TheVariants.{OneLine, Lines, Zero, As}
 use Rattle.per_lines.specs.declared.arguments.Arguments.{Arguments}
-use Rattle.per_lines.specs.declared.fault.Fault.{Fault}
-use Rattle.per_lines.specs.declared.fault.Fault.TheVariants.{WrongArguments, CannotRead, BadHexadecimal, Decode, Encode, CannotWrite, OutOfMemory}
+use Rattle.line_replies.specs.declared.fault.Fault.{Fault}
+use Rattle.line_replies.specs.declared.fault.Fault.TheVariants.{WrongArguments, CannotRead, BadHexadecimal, Decode, Encode, CannotWrite, OutOfMemory}
 use Rattle.per_lines.specs.Words.{words_of}
 use Rattle.per_lines.specs.Answers.{Prints, PrintsIn, Ends, EndsAnswer, EndsIn, IsAnswer}
-use Rattle.per_lines.specs.Faults.{io_fault}
-use Rattle.per_lines.specs.Printing.{BreaksAnswer}
+use Rattle.line_replies.specs.Faults.{io_fault}
+use Rattle.line_replies.specs.Printing.{BreaksAnswer}
 use Rattle.std.specs.declared.io.ErrorKind.{ErrorKind}
 use Rattle.std.specs.declared.io.ErrorKind.TheVariants as Kinds
 use Rattle.per_lines.proofs.WordLaws.{asks}

@@ -9,7 +9,8 @@ use Rattle.per_lines.specs.declared.arguments.TypeName.TheVariants.{Boolean, Nul
 use Rattle.per_lines.specs.declared.arguments.Form.{Form}
 use Rattle.per_lines.specs.declared.arguments.Form.TheVariants.{OneLine, Lines, Zero, As}
 use Rattle.per_lines.specs.declared.arguments.Arguments.{Arguments}
-use Rattle.per_lines.specs.Words.{codec_word, type_word, form_words, words_of}
+use Rattle.line_replies.specs.Codecs.{codec_word}
+use Rattle.per_lines.specs.Words.{type_word, form_words, words_of}
 use Rattle.per_lines.specs.Answers.{AskFor}
 
 -- the types that the program knows

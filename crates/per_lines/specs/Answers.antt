@@ -6,13 +6,13 @@ use Rattle.hex.specs.Hex.{decode_of, encode_lower}
 use Rattle.per_lines.specs.declared.arguments.Form.{Form}
 use Rattle.per_lines.specs.declared.arguments.Form.TheVariants.{OneLine, Lines, Zero, As}
 use Rattle.per_lines.specs.declared.arguments.Arguments.{Arguments}
-use Rattle.per_lines.specs.declared.fault.Fault.{Fault}
-use Rattle.per_lines.specs.declared.fault.Fault.TheVariants.{WrongArguments, CannotRead, BadHexadecimal, Decode, Encode}
-use Rattle.per_lines.specs.declared.fault.Fault.TheVariants.{CannotWrite, OutOfMemory}
+use Rattle.line_replies.specs.declared.fault.Fault.{Fault}
+use Rattle.line_replies.specs.declared.fault.Fault.TheVariants.{WrongArguments, CannotRead, BadHexadecimal, Decode}
+use Rattle.line_replies.specs.declared.fault.Fault.TheVariants.{Encode, CannotWrite, OutOfMemory}
 use Rattle.per_lines.specs.Words.{words_of}
-use Rattle.per_lines.specs.Faults.{text_of}
-use Rattle.per_lines.specs.Lines.{IsLineOf}
-use Rattle.per_lines.specs.Printing.{BreaksAnswer, PrintsAnswer, PrintsReplies, EndsReplies}
+use Rattle.line_replies.specs.Faults.{text_of}
+use Rattle.line_replies.specs.Lines.{IsLineOf}
+use Rattle.line_replies.specs.Printing.{BreaksAnswer, PrintsAnswer, PrintsReplies, EndsReplies}
 use Rattle.per_lines.specs.Recoding.{Converts, IsUnconverted}
 
 -- the words ask for nothing that the program can do

@@ -56,8 +56,8 @@ use Rattle.per_lines.specs.declared.arguments.Form.{Form}
 use Rattle.per_lines.specs.declared.arguments.Form.TheVariants.{OneLine, Lines, Zero, As}
 use Rattle.per_lines.specs.declared.arguments.Padding.{Padding}
 use Rattle.per_lines.specs.declared.arguments.Padding.TheVariants as Paddings
-use Rattle.per_lines.specs.declared.fault.Fault.{Fault}
-use Rattle.per_lines.specs.declared.fault.Fault.TheVariants as Faults
+use Rattle.line_replies.specs.declared.fault.Fault.{Fault}
+use Rattle.line_replies.specs.declared.fault.Fault.TheVariants as Faults
 
 -- X.680 51.5: from 1 to u characters or elements
 abbrev pub one_to : ℕ → Size

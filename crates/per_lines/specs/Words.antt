@@ -1,6 +1,6 @@
 -- The words after the program's name.
 use Rattle.std.specs.Prelude.{ℕ, List, [], ◌∷◌, String, codes, map, string_bytes}
-use Rattle.per_core.specs.Rows.{Codec, Aper, Uper}
+use Rattle.line_replies.specs.Codecs.{codec_word}
 use Rattle.per_lines.specs.declared.arguments.TypeName.{TypeName}
 use Rattle.per_lines.specs.declared.arguments.TypeName.TheVariants.{Boolean, Null, Integer, UpTo65535, FromMinusOne}
 use Rattle.per_lines.specs.declared.arguments.TypeName.TheVariants.{Natural, ZeroTo65536, OneToTenExtensible, Four}
@@ -21,10 +21,6 @@ use Rattle.per_lines.specs.declared.arguments.Arguments.{Arguments}
 -- words by their octets
 abbrev pub words : {Z : Type 0} → List (String Z) → List (List ℕ)
 words arguments = map string_bytes arguments
-
-abbrev pub codec_word : Codec → List ℕ
-codec_word Aper = codes "aper"
-codec_word Uper = codes "uper"
 
 abbrev pub type_word : TypeName → List ℕ
 type_word Boolean = codes "boolean"

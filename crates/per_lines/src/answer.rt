@@ -2,12 +2,12 @@
 
 ghost use Rattle.std.specs.Prelude.{◌≡◌, ◌⊎◌, IfOk, IfErr, string_bytes};
 ghost use Rattle.per_lines.specs.Answers.{IsAnswer, IsUnanswered, IsReply, refusal_of};
-ghost use Rattle.per_lines.specs.declared.fault.Fault.TheVariants.{OutOfMemory};
+ghost use Rattle.line_replies.specs.declared.fault.Fault.TheVariants.{OutOfMemory};
 
 use crate::arguments::Arguments;
-use crate::fault::Fault;
 use crate::recode::converted;
-use crate::replies::Replies;
+use line_replies::fault::Fault;
+use line_replies::replies::Replies;
 use std::alloc::{AllocError, Global};
 
 /// The canonical encoding that a line of hexadecimal is converted to, in lower case and with a line feed.

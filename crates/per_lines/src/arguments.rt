@@ -2,12 +2,14 @@
 
 ghost use Rattle.std.specs.Prelude.{◌≡◌, ◌≢◌, [], ◌∷◌, IfSome, IfNone, map, string_bytes};
 ghost use Rattle.per_core.specs.Rows.{Codec as a_codec};
-ghost use Rattle.per_lines.specs.Words.{codec_word, type_word, form_words, words_of};
+ghost use Rattle.line_replies.specs.Codecs.{codec_word};
+ghost use Rattle.per_lines.specs.Words.{type_word, form_words, words_of};
 ghost use Rattle.per_lines.specs.Recoding.{padding_of};
 ghost use Rattle.per_lines.specs.declared.arguments.TypeName.{TypeName as a_name};
 ghost use Rattle.per_lines.specs.declared.arguments.Form.{Form as a_form};
 ghost use Rattle.per_lines.specs.declared.arguments.Arguments.{Arguments as the_arguments};
 
+use line_replies::codecs::codec_of_word;
 use rasn_below::types::Codec;
 
 /// A type that the program knows.
@@ -170,18 +172,6 @@ pub struct Arguments {
     pub type_name: TypeName,
     /// How much is read, and what is printed.
     pub form: Form,
-}
-
-/// The codec that a word names.
-pub fn codec_of_word(word: &str) -> Option<Codec>
-    ensures named { IfSome result (λ c. word.now ≡ codec_word c) }
-    ensures unknown { IfNone result ((c : a_codec) → word.now ≢ codec_word c) }
-{
-    match word {
-        "aper" => Some(Codec::Aper),
-        "uper" => Some(Codec::Uper),
-        _ => None,
-    }
 }
 
 impl TypeName {

@@ -3,11 +3,7 @@
 
 pub mod answer;
 pub mod arguments;
-pub mod fault;
-pub mod line;
 pub mod named;
-pub mod output;
 pub mod recode;
-pub mod replies;
 pub mod run;
 pub mod type_names;

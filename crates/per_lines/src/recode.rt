@@ -7,8 +7,8 @@ ghost use Rattle.per_lines.specs.Recoding.{Recodes, IsRefusal, Converts, IsUncon
 ghost use Rattle.per_lines.specs.Recoding.{schema_of, is_strict, reader_of};
 
 use crate::arguments::{Arguments, Form, Padding, TypeName};
-use crate::fault::Fault;
 use crate::named::{Work, done};
+use line_replies::fault::Fault;
 use rasn_below::codec::{Decode, Encode};
 use rasn_below::types::Codec;
 use rasn_per::uper::{DecodeError, EncodeError};

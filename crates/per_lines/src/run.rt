@@ -3,18 +3,18 @@
 ghost use Rattle.std.specs.Prelude.{◌≡◌, ◌≢◌, ◌≤◌, ◌++◌, ◌∷◌, [], IfErr, OnOk};
 ghost use Rattle.std.specs.Io.KnownBytes.{Keeps};
 ghost use Rattle.per_lines.specs.Answers.{Prints, IsAnswer, Ends, EndsAnswer, AreUnknown};
-ghost use Rattle.per_lines.specs.Printing.{PrintsAnswer};
-ghost use Rattle.per_lines.specs.Faults.{status_of, text_of, AppendsFront, IsWritten};
+ghost use Rattle.line_replies.specs.Printing.{PrintsAnswer};
+ghost use Rattle.line_replies.specs.Faults.{status_of, text_of, AppendsFront, IsWritten};
 ghost use Rattle.per_lines.specs.Words.{words};
-ghost use Rattle.per_lines.specs.declared.fault.Fault.{Fault as the_fault};
-ghost use Rattle.per_lines.specs.declared.fault.Fault.TheVariants.{WrongArguments};
+ghost use Rattle.line_replies.specs.declared.fault.Fault.{Fault as the_fault};
+ghost use Rattle.line_replies.specs.declared.fault.Fault.TheVariants.{WrongArguments};
 
 use crate::answer::answer;
 use crate::arguments::{Arguments, Form};
-use crate::fault::Fault;
-use crate::line::read_line;
-use crate::output::write;
-use crate::replies::reply_to_lines;
+use line_replies::fault::Fault;
+use line_replies::line::read_line;
+use line_replies::output::write;
+use line_replies::replies::reply_to_lines;
 use std::alloc::Global;
 use std::io;
 use std::io::{BufRead, Write};

@@ -1,13 +1,17 @@
 //! A decoder that knows where it stood when it refused.
 
+mod counted;
+
 ghost use Rattle.std.specs.Prelude.{◌≡◌};
 
 pub use crate::extents::OpenAhead;
-use crate::path::Path;
-use crate::trail::{Frame, ListFrame, RecordFrame, Trail};
+use crate::path::{Path, Step};
+use crate::trail::{Frame, RecordFrame, Trail};
+use crate::turns::{Elements, counts_of, place_among, step_to};
 use rasn_schema::choices::Choice;
 use rasn_schema::enumerated::Enumerated;
 use rasn_schema::fields::Constructed;
+use rasn_schema::items::{ItemCounts, Place};
 use rasn_schema::schema::{Constraints, IntegerType};
 use rasn_strings::strings::StaticPermittedAlphabet;
 use rasn_times::civil::{CivilDate, GeneralizedMoment, UtcMoment};
@@ -33,8 +37,9 @@ pub trait Positioned: Decoder + Drop {
     /// (X.691 19.7 to 19.9).
     fn addition_ahead(&self, bitmap: bool) -> OpenAhead;
 
-    /// The open type of an alternative behind the extension marker, behind the index of its CHOICE (X.691 23.8).
-    fn alternative_ahead<C: Choice>(&self) -> OpenAhead;
+    /// The open type of an alternative behind the extension marker, behind the index of its CHOICE, which has so many
+    /// alternatives (X.691 23.8).
+    fn alternative_ahead(&self, alternatives: ItemCounts) -> OpenAhead;
 }
 
 /// A decoder that knows where it stood when it refused. Each call is that of the decoder that it holds.
@@ -82,19 +87,25 @@ impl<D: Positioned> Located<D> {
     }
 
     /// Enters a record of which the preamble was read, unless it was refused.
-    fn enter_record<C: Constructed>(
-        &mut self,
-        opened: &Result<D::Scope, D::Error>,
-        in_tag_order: bool,
-        extended: bool,
-    )
+    fn enter_record(&mut self, opened: &Result<D::Scope, D::Error>, record: RecordFrame)
         ensures { self.new ≡ self.old }
     {
         if opened.is_ok() {
             let left = self.inner.left();
-            let frame = RecordFrame::new::<C>(in_tag_order, extended);
-            self.trail.enter(Frame::Record(frame), left);
+            self.trail.enter(Frame::Record(record), left);
         }
+    }
+
+    /// Enters an alternative at a place among so many, of which the index was read.
+    fn enter_alternative(&mut self, step: Step, place: Option<Place>, open: OpenAhead)
+        ensures { self.new ≡ self.old }
+    {
+        let left = self.inner.left();
+        let open = match place {
+            Some(Place::Added(_)) => Some(open),
+            _ => None,
+        };
+        self.trail.enter_alternative(step, open, left);
     }
 }
 
@@ -313,7 +324,7 @@ impl<D: Positioned> Decoder for Located<D> {
         self.trail.begin();
         let extended = C::IS_EXTENSIBLE && self.inner.is_extended();
         let answer = self.inner.open_sequence::<C>(tag);
-        self.enter_record::<C>(&answer, false, extended);
+        self.enter_record(&answer, RecordFrame::new::<C>(false, extended));
         self.seen(answer)
     }
 
@@ -330,18 +341,22 @@ impl<D: Positioned> Decoder for Located<D> {
         self.trail.begin();
         let extended = C::IS_EXTENSIBLE && self.inner.is_extended();
         let answer = self.inner.open_set::<C>(tag);
-        self.enter_record::<C>(&answer, true, extended);
+        self.enter_record(&answer, RecordFrame::new::<C>(true, extended));
         self.seen(answer)
     }
 
     fn open_choice<C: Choice>(&mut self) -> Result<(Tag, D::Alternative), D::Error> {
         self.trail.begin();
-        let open = self.inner.alternative_ahead::<C>();
+        let alternatives = counts_of::<C>();
+        let open = self.inner.alternative_ahead(alternatives);
         let answer = self.inner.open_choice::<C>();
         if let Ok(opened) = &answer {
             let place = C::VARIANTS.place_of(&C::EXTENDED_VARIANTS, opened.0);
-            let left = self.inner.left();
-            self.trail.enter_alternative::<C>(&place, open, left);
+            let among = match place {
+                Some(place) => Some(place_among(alternatives, place)),
+                None => None,
+            };
+            self.enter_alternative(step_to::<C>(among), place, open);
         }
         self.seen(answer)
     }
@@ -409,7 +424,7 @@ impl<D: Positioned> Decoder for Located<D> {
         let answer = self.inner.open_list(tag, constraints);
         if answer.is_ok() {
             let left = self.inner.left();
-            self.trail.enter(Frame::List(ListFrame::new()), left);
+            self.trail.enter(Frame::List(Elements::new()), left);
         }
         self.seen(answer)
     }

@@ -7,7 +7,7 @@ use per_read::bitmaps::take_bitmap;
 use per_read::open_types::{Contents, take_open};
 use per_read::{Reader, ReaderOptions};
 use per_read_types::choices::take_choice_index;
-use rasn_schema::choices::Choice;
+use rasn_schema::items::ItemCounts;
 use rasn_traits::decoder;
 
 impl<'input> Positioned for Decoder<'input> {
@@ -32,19 +32,10 @@ impl<'input> Positioned for Decoder<'input> {
         open_ahead(reader)
     }
 
-    fn alternative_ahead<C: Choice>(&self) -> OpenAhead {
-        let variants = C::VARIANTS;
+    fn alternative_ahead(&self, alternatives: ItemCounts) -> OpenAhead {
         let mut reader = reader_of(self);
-        let _ = take_choice_index(&mut reader, variants.len(), added_count::<C>());
+        let _ = take_choice_index(&mut reader, alternatives.roots, alternatives.addeds);
         open_ahead(reader)
-    }
-}
-
-/// How many alternatives a choice has behind its extension marker, where it has one.
-fn added_count<C: Choice>() -> Option<usize> {
-    match C::EXTENDED_VARIANTS {
-        Some(variants) => Some(variants.len()),
-        None => None,
     }
 }
 

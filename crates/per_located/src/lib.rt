@@ -1,24 +1,28 @@
-//! Where a message was refused: the component at which its reader stood, and the bit.
+//! Where a message was refused: the component at which its reader or writer stood, and the bit of what was read.
 //!
-//! `uper::decode` and `aper::decode` answer as those of `rasn_per` do. A refusal holds the path of identifiers and
-//! numbers from the whole message to the component (X.680 15), and how many bits stand in front of what was refused.
+//! `uper` and `aper` have an `encode` and a `decode` that answer as those of `rasn_per` do. A refusal holds the path of
+//! identifiers and numbers from the whole message to the component (X.680 15); that of octets also says how many bits
+//! stand in front of what was refused.
 //!
-//! A message is read again where it was refused, by a decoder that keeps a path beside it (`Located`): so one that is
-//! read costs what it costs `rasn_per`.
+//! A message is read or written again where it was refused, by a decoder or an encoder that keeps a path beside it
+//! (`Located`): so one that isn't refused costs what it costs `rasn_per`.
 //!
-//! **Proved**: what the calls answer, and the kind of a refusal, as for `rasn_per`; a decoder behind `Located` answers
-//! each call of the trait by the clauses that it meets alone. **Only tested**: the path and the bit.
+//! **Proved**: what the calls answer, and the kind of a refusal, as for `rasn_per`; a decoder or an encoder behind
+//! `Located` answers each call of the trait by the clauses that it meets alone. **Only tested**: the path and the bit.
 #![tactic(auto)]
 
 pub mod aper;
 pub mod decoder;
+pub mod encoder;
 mod extents;
 mod input;
 pub mod path;
 pub mod refusal;
 mod tracing;
 mod trail;
+mod turns;
 pub mod uper;
+mod write_trail;
 
 pub use crate::path::{Path, Step};
-pub use crate::refusal::Refusal;
+pub use crate::refusal::{EncodeRefusal, Refusal};

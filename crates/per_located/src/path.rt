@@ -10,6 +10,9 @@ pub enum Step {
     Named(&'static str),
     /// To the element of a SEQUENCE OF or a SET OF, by its number from 1 on.
     Element(usize),
+    /// To the component or the alternative of a type that is data, whose names aren't known here: by its place from 0
+    /// on, those behind the extension marker last. Components of a SET stand in ascending order of their smallest tags.
+    Placed(usize),
 }
 
 impl fmt::Display for Step {
@@ -17,6 +20,7 @@ impl fmt::Display for Step {
         match self {
             Step::Named(name) => f.write_str(name),
             Step::Element(number) => write!(f, "{number}"),
+            Step::Placed(place) => write!(f, "#{place}"),
         }
     }
 }
@@ -28,7 +32,7 @@ pub struct Path {
     pub steps: Vec<Step>,
 }
 
-/// Prints the steps with a full stop between two of them (X.680 15), such as `protocolIEs.3.value`.
+/// Prints the steps with a full stop between two of them (X.680 15), such as `protocolIEs.3.value`; a place as `#0`.
 impl fmt::Display for Path {
     fn fmt<W: fmt::Write>(&self, f: &mut fmt::Formatter<W>) -> fmt::Result {
         let mut is_first = true;

@@ -1,7 +1,8 @@
-//! What is told of octets that are refused.
+//! What is told of octets and of values that are refused.
 
 use crate::path::Path;
 use per_read::error::DecodeErrorKind;
+use per_write::error::EncodeErrorKind;
 use std::fmt;
 
 /// Why octets were refused, and where. Where memory for the path ran out, path and bit are those where that happened.
@@ -29,5 +30,25 @@ impl fmt::Display for Refusal {
             write!(f, "{}, ", self.path)?;
         }
         write!(f, "bit {bit} of {bits}")
+    }
+}
+
+/// Why a value was refused, and where. Where memory for the path ran out, it is that to where that happened.
+#[derive(Debug, Drop, PartialEq)]
+pub struct EncodeRefusal {
+    /// What was wrong.
+    pub kind: EncodeErrorKind,
+    /// The component that was refused: the innermost one that had begun.
+    pub path: Path,
+}
+
+/// Prints what was wrong and the path, such as `17 is not in 0..16 at lane`.
+impl fmt::Display for EncodeRefusal {
+    fn fmt<W: fmt::Write>(&self, f: &mut fmt::Formatter<W>) -> fmt::Result {
+        write!(f, "{}", self.kind)?;
+        if !self.path.steps.is_empty() {
+            write!(f, " at {}", self.path)?;
+        }
+        Ok(())
     }
 }

@@ -3,11 +3,13 @@
 ghost use Rattle.std.specs.Prelude.{◌≡◌, ◌≤◌, ◌*◌, length};
 
 use crate::decoder::Located;
-use crate::refusal::Refusal;
+use crate::encoder;
+use crate::refusal::{EncodeRefusal, Refusal};
 use per_bits::BitReader;
 use per_de::{Decoder, DecoderOptions};
+use per_enc::{EncodeErrorKind, Encoder, EncoderOptions};
 use per_read::error::DecodeErrorKind;
-use rasn_codec::codec::Decode;
+use rasn_codec::codec::{Decode, Encode};
 use std::alloc::Global;
 
 /// The refusal of octets for what was wrong with them, with the place where a decoder stands when it refuses them.
@@ -32,4 +34,20 @@ pub(crate) fn refusal<T: Decode>(
         bit: bit.min(bits),
         bits,
     }
+}
+
+/// The refusal of a value for what was wrong with it, with the component at which an encoder refuses it.
+pub(crate) fn encode_refusal<T: Encode>(
+    alloc: Global,
+    options: EncoderOptions,
+    value: &T,
+    kind: EncodeErrorKind,
+) -> EncodeRefusal
+    ensures { result.kind ≡ kind }
+{
+    let inner = Encoder::new(alloc, options);
+    let mut encoder = encoder::Located::new(alloc, inner);
+    let _ = value.encode(&mut encoder);
+    let path = encoder.into_path(alloc);
+    EncodeRefusal { kind, path }
 }

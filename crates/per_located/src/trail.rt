@@ -2,65 +2,18 @@
 
 use crate::extents::{Extent, OpenAhead};
 use crate::path::{Path, Step};
-use rasn_schema::choices::Choice;
-use rasn_schema::fields::{Constructed, Field};
-use rasn_schema::items::Place;
+use crate::turns::{Components, Elements};
+use rasn_schema::fields::Constructed;
 use std::alloc::Global;
-
-/// Components that are read in turn.
-#[derive(Clone, Copy)]
-struct Components {
-    list: &'static [Field],
-    /// Whether they stand in ascending order of their smallest tags (X.691 21.1), and not as they are listed.
-    in_tag_order: bool,
-    /// How many of them were read, or are absent.
-    read: usize,
-}
-
-impl Components {
-    /// Components of which none was read.
-    fn new(list: &'static [Field], in_tag_order: bool) -> Self {
-        Components {
-            list,
-            in_tag_order,
-            read: 0,
-        }
-    }
-
-    /// The identifier of the next one, which is then no longer the next.
-    fn take(&mut self) -> Option<&'static str> {
-        let field = if self.in_tag_order {
-            field_in_tag_order(self.list, self.read)
-        } else {
-            self.list.get(self.read)
-        };
-        self.read = self.read.saturating_add(1);
-        match field {
-            Some(field) => Some(field.name),
-            None => None,
-        }
-    }
-}
-
-/// The field at a place among the fields in ascending order of their smallest tags; those of one tag stay as they are
-/// listed. It takes no memory.
-fn field_in_tag_order(list: &'static [Field], place: usize) -> Option<&'static Field> {
-    list.iter().find(|field| {
-        let before = list
-            .iter()
-            .filter(|other| (other.tag, other.index) < (field.tag, field.index))
-            .count();
-        before == place
-    })
-}
 
 /// A SEQUENCE or a SET that is read.
 #[derive(Clone, Copy)]
 pub(crate) struct RecordFrame {
     root: Components,
-    added: Components,
-    /// The component that is read, or was read last.
-    current: Option<&'static str>,
+    /// The additions, where they don't go on behind the root.
+    added: Option<Components>,
+    /// The step to the component that is read, or was read last.
+    current: Option<Step>,
     /// Whether the bitmap of the additions is still ahead (X.691 19.7).
     bitmap: bool,
     /// Where the bits outside end, while an addition is read.
@@ -70,36 +23,23 @@ pub(crate) struct RecordFrame {
 impl RecordFrame {
     /// A record of which nothing was read but its preamble (X.691 19.1), which says whether it has additions.
     pub(crate) fn new<C: Constructed>(in_tag_order: bool, extended: bool) -> Self {
-        let root = C::FIELDS;
-        let added: &'static [Field] = match C::EXTENDED_FIELDS {
-            Some(fields) => fields.list,
-            None => &[],
-        };
         RecordFrame {
-            root: Components::new(root.list, in_tag_order),
-            added: Components::new(added, false),
+            root: Components::of_root::<C>(in_tag_order),
+            added: Some(Components::of_additions::<C>()),
             current: None,
             bitmap: extended,
             outside: None,
         }
     }
-}
 
-/// A SEQUENCE OF or a SET OF that is read.
-#[derive(Clone, Copy)]
-pub(crate) struct ListFrame {
-    /// How many elements have begun.
-    begun: usize,
-    /// Whether the last of them is read.
-    is_inside: bool,
-}
-
-impl ListFrame {
-    /// A list of which no element has begun.
-    pub(crate) fn new() -> Self {
-        ListFrame {
-            begun: 0,
-            is_inside: false,
+    /// A record of a type that is data, of which nothing was read but its preamble.
+    pub(crate) fn counted(extended: bool) -> Self {
+        RecordFrame {
+            root: Components::counted(),
+            added: None,
+            current: None,
+            bitmap: extended,
+            outside: None,
         }
     }
 }
@@ -108,38 +48,20 @@ impl ListFrame {
 #[derive(Clone, Copy)]
 pub(crate) enum Frame {
     Record(RecordFrame),
-    List(ListFrame),
-    /// The alternative of a CHOICE: its identifier, and where the bits outside its open type end, if it has one.
-    Alternative(&'static str, Option<Extent>),
+    List(Elements),
+    /// The alternative of a CHOICE: the step to it, and where the bits outside its open type end, if it has one.
+    Alternative(Step, Option<Extent>),
     /// The value that octets contain, which is reached without a step: where the bits outside end.
     Contents(Extent),
 }
 
 impl Frame {
-    /// The alternative at a place of a choice.
-    pub(crate) fn of_alternative<C: Choice>(place: &Option<Place>, outside: Extent) -> Frame {
-        let variants = C::VARIANTS;
-        let (index, outside) = match place {
-            Some(Place::Root(index)) => (*index, None),
-            Some(Place::Added(index)) => (variants.len().saturating_add(*index), Some(outside)),
-            None => return Frame::Alternative("", None),
-        };
-        match C::IDENTIFIERS.get(index) {
-            Some(name) => Frame::Alternative(*name, outside),
-            None => Frame::Alternative("", outside),
-        }
-    }
-
     /// The step from what stands around to the value that is read, if one is.
     fn step(&self) -> Option<Step> {
         match self {
-            Frame::Record(record) => match record.current {
-                Some(name) => Some(Step::Named(name)),
-                None => None,
-            },
-            Frame::List(list) if list.is_inside => Some(Step::Element(list.begun)),
-            Frame::List(_) => None,
-            Frame::Alternative(name, _) => Some(Step::Named(*name)),
+            Frame::Record(record) => record.current,
+            Frame::List(elements) => elements.step(),
+            Frame::Alternative(step, _) => Some(*step),
             Frame::Contents(_) => None,
         }
     }
@@ -223,7 +145,7 @@ impl Trail {
     pub(crate) fn pause(&mut self) {
         match self.frame() {
             Some(Frame::Record(record)) => record.current = None,
-            Some(Frame::List(list)) => list.is_inside = false,
+            Some(Frame::List(elements)) => elements.pause(),
             _ => {}
         }
     }
@@ -237,9 +159,8 @@ impl Trail {
 
     /// The next element of a list begins.
     pub(crate) fn begin_element(&mut self) {
-        if let Some(Frame::List(list)) = self.frame() {
-            list.begun = list.begun.saturating_add(1);
-            list.is_inside = true;
+        if let Some(Frame::List(elements)) = self.frame() {
+            elements.begin();
         }
     }
 
@@ -254,7 +175,10 @@ impl Trail {
     /// The next addition of a record is asked for.
     pub(crate) fn begin_addition(&mut self) {
         if let Some(record) = self.record() {
-            record.current = record.added.take();
+            record.current = match &mut record.added {
+                Some(added) => added.take(),
+                None => record.root.take(),
+            };
             record.bitmap = false;
         }
     }
@@ -278,20 +202,15 @@ impl Trail {
         }
     }
 
-    /// Enters the alternative at a place of a choice, where the last `left` bits are left, and the open type of one
-    /// behind the extension marker.
-    pub(crate) fn enter_alternative<C: Choice>(
-        &mut self,
-        place: &Option<Place>,
-        open: OpenAhead,
-        left: u128,
-    ) {
+    /// Enters an alternative, where the last `left` bits are left, and the open type of one behind the extension marker.
+    pub(crate) fn enter_alternative(&mut self, step: Step, open: Option<OpenAhead>, left: u128) {
+        let Some(open) = open else {
+            return self.enter(Frame::Alternative(step, None), left);
+        };
         let outside = self.extent;
-        self.enter(Frame::of_alternative::<C>(place, outside), left);
+        self.enter(Frame::Alternative(step, Some(outside)), left);
         if self.stopped.is_none() {
-            if let Some(Place::Added(_)) = place {
-                self.extent = outside.of_contents(self.bits, open);
-            }
+            self.extent = outside.of_contents(self.bits, open);
         }
     }
 

@@ -1,6 +1,8 @@
 //! Why a decoder refuses.
 
 ghost use Rattle.std.specs.Prelude.{◌≡◌};
+ghost use Rattle.std.specs.IoError.{error_kind};
+ghost use Rattle.std.specs.declared.io.ErrorKind.TheVariants.{Other};
 ghost use Rattle.per_errors.specs.Counts.{count_of};
 ghost use Rattle.per_read.specs.Lacking.{NamesLacking};
 ghost use Rattle.per_read.specs.Names.{name_of};
@@ -12,6 +14,7 @@ use per_errors::sizes::OutOfSize;
 use rasn_traits::de;
 use rasn_types::types::{Codec, Tag};
 use std::alloc::{AllocError, AllocFailed};
+use std::io;
 use thiserror::Error;
 
 /// Why a value was not decoded, and under which variant. It holds numbers and no text, so making one takes no memory.
@@ -32,6 +35,15 @@ impl de::Error for DecodeError {
             kind: DecodeErrorKind::RequiredExtensionNotPresent(tag),
             codec,
         }
+    }
+}
+
+/// What an `io::Result` says of a refusal: its kind's name.
+impl From<DecodeError> for io::Error {
+    ghost from_gives = { λ _ e. error_kind e ≡ Other };
+
+    fn from(error: DecodeError) -> io::Error {
+        io::Error::other(error.kind.name())
     }
 }
 

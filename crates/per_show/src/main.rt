@@ -5,7 +5,7 @@
 //! `per_show --help` names the types.
 #![tactic(auto)]
 
-use per_lines::fault;
+use line_replies::fault;
 use show_lines::fault::Fault;
 use show_lines::run::run;
 use std::alloc::AllocError;

@@ -4,7 +4,7 @@ use Rattle.std.specs.Prelude.{codes}
 use Rattle.std.specs.Str.{IsUtf8}
 use Rattle.std.proofs.lemmas.Str.Pattern.{IsSplitOnceResult, split_after, split_parts}
 use Rattle.per_core.specs.Rows.{Codec, Aper, Uper}
-use Rattle.per_lines.specs.Words.{codec_word}
+use Rattle.line_replies.specs.Codecs.{codec_word}
 use Rattle.per_table.specs.Requests.{IsWord, IsRequest}
 
 empty_word : IsWord []

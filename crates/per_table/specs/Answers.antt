@@ -23,7 +23,7 @@ use Rattle.per_write.specs.Faults.{IsInValue}
 use Rattle.per_write.specs.declared.error.EncodeErrorKind.{EncodeErrorKind}
 use Rattle.per_write.specs.declared.error.EncodeErrorKind.TheVariants as Encoding
 use Rattle.per_lines.specs.Recoding.{Recodes, IsRefusal}
-use Rattle.per_lines.specs.declared.fault.Fault.TheVariants as Faults
+use Rattle.line_replies.specs.declared.fault.Fault.TheVariants as Faults
 use Rattle.per_table.specs.Refusals.{refusal_of}
 use Rattle.per_table.specs.Requests.{IsRequest, IsRequestOf}
 use Rattle.per_table.specs.declared.refusal.Refusal.{Refusal}

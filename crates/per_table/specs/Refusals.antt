@@ -28,6 +28,7 @@ json_name Told.BadNumber = codes "BadNumber"
 json_name Told.BadHexadecimal = codes "BadHexadecimal"
 json_name Told.BadCharacter = codes "BadCharacter"
 json_name Told.BadTime = codes "BadTime"
+json_name Told.BadIdentifier = codes "BadIdentifier"
 json_name Told.NoType = codes "NoType"
 
 -- what is said of a refusal

@@ -4,7 +4,7 @@ use Rattle.std.specs.Str.{IsUtf8}
 use Rattle.per_core.specs.Rows.{Codec}
 use Rattle.rasn_dynamic.specs.Names.{place_of}
 use Rattle.rasn_dynamic.specs.declared.types.Types.{Types}
-use Rattle.per_lines.specs.Words.{codec_word}
+use Rattle.line_replies.specs.Codecs.{codec_word}
 
 -- no blank is in a word
 abbrev pub IsWord : List ℕ → Type 0

@@ -12,7 +12,7 @@ mod reply;
 mod request;
 mod task;
 
-use per_lines::output::write_line;
+use line_replies::output::write_line;
 use reply::{Table, run};
 use schema_file::load::load;
 use std::env::Env;

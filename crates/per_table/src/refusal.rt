@@ -73,6 +73,7 @@ fn json_name(error: FromJsonError) -> &'static str
         FromJsonError::BadHexadecimal => "BadHexadecimal",
         FromJsonError::BadCharacter => "BadCharacter",
         FromJsonError::BadTime => "BadTime",
+        FromJsonError::BadIdentifier => "BadIdentifier",
         FromJsonError::NoType => "NoType",
     }
 }

@@ -4,7 +4,7 @@ ghost use Rattle.std.specs.Prelude.{List, ℕ, IfSome, IfNone};
 ghost use Rattle.per_core.specs.Rows.{Codec as a_codec};
 ghost use Rattle.per_table.specs.Requests.{IsRequest};
 
-use per_lines::arguments::codec_of_word;
+use line_replies::codecs::codec_of_word;
 use rasn_types::types::Codec;
 
 /// What a line asks for.

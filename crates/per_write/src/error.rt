@@ -1,12 +1,14 @@
 //! Why a value was not encoded.
 
 ghost use Rattle.std.specs.Prelude.{◌≡◌};
+ghost use Rattle.std.specs.IoError.{error_kind};
+ghost use Rattle.std.specs.declared.io.ErrorKind.TheVariants.{Other};
 ghost use Rattle.per_write.specs.Names.{name_of};
 
 use per_errors::bounds::OutOfBounds;
 use per_errors::sizes::OutOfSize;
 use rasn_types::types::Codec;
-use std::fmt;
+use std::{fmt, io};
 use thiserror::Error;
 
 /// Why a value was not encoded, and under which variant. It holds numbers and no text, so making one takes no memory.
@@ -17,6 +19,15 @@ pub struct EncodeError {
     pub kind: EncodeErrorKind,
     /// The variant in use.
     pub codec: Codec,
+}
+
+/// What an `io::Result` says of a refusal: its kind's name.
+impl From<EncodeError> for io::Error {
+    ghost from_gives = { λ _ e. error_kind e ≡ Other };
+
+    fn from(error: EncodeError) -> io::Error {
+        io::Error::other(error.kind.name())
+    }
 }
 
 /// What was wrong with a value, or with the encoder.

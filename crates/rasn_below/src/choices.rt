@@ -2,7 +2,8 @@
 //!
 //! The list is a macro of the author's file, which hands itself on. It has a line for each alternative, at most 32:
 //! its context-specific tag, its name, its variant and the type of the value in it, and its constraints in brackets. A
-//! variant without a value, which has no type, is NULL.
+//! variant without a value, which has no type, is NULL. Those before the extension marker stand in ascending order of
+//! their tags (X.691 23.5).
 //!
 //! ```text
 //! macro_rules! alternatives {
@@ -121,6 +122,7 @@ macro_rules! alternative_bounds_in_turn {
 #[macro_export]
 macro_rules! encode_alternative {
     ([$of:ident $encoder:ident] $($list:tt)*) => {{
+        $crate::own_tags::stand_in_order::<Self>();
         let limits = BOUNDS;
         $crate::with_places!(alternatives_to_write write [$of $encoder limits]; $($list)*)
     }};
@@ -152,6 +154,9 @@ macro_rules! alternatives_to_write {
     };
     ($places:tt $write:ident $done:tt; ...; $($rest:tt)*) => {
         $crate::with_places!(alternatives_to_write write_behind $done; $($rest)*)
+    };
+    ([32 $($places:tt)*] $write:ident $done:tt; $($rest:tt)+) => {
+        compile_error!("a list has at most 32 alternatives on either side of its marker")
     };
     ([$place:literal $($places:tt)*] $write:ident [$of:ident $encoder:ident $limits:ident $($done:tt)*];
         $tag:literal $name:literal $variant:ident; $($rest:tt)*

@@ -74,6 +74,9 @@ macro_rules! placed_items {
     ($places:tt $side:ident $done:tt; ...; $($rest:tt)*) => {
         $crate::with_places!(placed_items Added $done; $($rest)*)
     };
+    ([] $side:ident $done:tt; $($rest:tt)+) => {
+        compile_error!("a list has at most 256 items on either side of its marker")
+    };
     ([$a:literal $b:literal $c:literal $d:literal $($places:tt)*] $side:ident [$($done:tt)*];
         $first_name:literal $first:ident; $second_name:literal $second:ident;
         $third_name:literal $third:ident; $fourth_name:literal $fourth:ident; $($rest:tt)*

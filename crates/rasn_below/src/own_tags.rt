@@ -162,6 +162,9 @@ macro_rules! own_alternatives_to_write {
     ($places:tt $write:ident $done:tt; ...; $($rest:tt)*) => {
         $crate::with_places!(own_alternatives_to_write write_behind $done; $($rest)*)
     };
+    ([32 $($places:tt)*] $write:ident $done:tt; $($rest:tt)+) => {
+        compile_error!("a list has at most 32 alternatives on either side of its marker")
+    };
     ([$place:literal $($places:tt)*] $write:ident [$of:ident $encoder:ident $limits:ident $($done:tt)*];
         $tag:tt $(of $tree:ident)? $name:literal $variant:ident; $($rest:tt)*
     ) => {

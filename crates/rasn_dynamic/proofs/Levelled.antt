@@ -1,12 +1,13 @@
 -- The schemas of each place of a table are each the next one to its number of levels.
-use Rattle.std.proofs.Common.{◌≡◌, refl, ℕ, zero, suc, Bool, List, [], ◌∷◌, Option, Some, None}
+use Rattle.std.proofs.Common.{◌≡◌, refl, ℕ, zero, suc, Bool, List, [], ◌∷◌, Option, Some, None, arith}
 use Rattle.std.specs.Prelude.{slice_get}
-use Rattle.rasn_schema.specs.Levels.{no_level, PartsToLevels, to_choice, to_containing, to_leaf, to_list, to_no_parts, to_part, to_sequence, to_set_of, ToLevels}
+use Rattle.rasn_schema.specs.Levels.{no_date, no_level, PartsToLevels, still_cut, to_choice, to_containing, to_date, to_leaf, to_list, to_no_parts, to_part, to_sequence, to_set_of, ToLevels}
 use Rattle.rasn_schema.specs.Schemas.{Schema}
+use Rattle.rasn_traits.specs.Moments.{date_at}
 use Rattle.rasn_dynamic.specs.declared.types.Alternative.{Alternative}
 use Rattle.rasn_dynamic.specs.declared.types.Component.{Component}
 use Rattle.rasn_dynamic.specs.declared.types.Kind.{Kind}
-use Rattle.rasn_dynamic.specs.declared.types.Kind.TheVariants.{Simple as SimpleKind, List as ListKind, SetOf, Record as RecordKind, Choice as ChoiceKind, Containing, Open as OpenKind}
+use Rattle.rasn_dynamic.specs.declared.types.Kind.TheVariants.{Simple as SimpleKind, Date, List as ListKind, SetOf, Record as RecordKind, Choice as ChoiceKind, Containing, Open as OpenKind}
 use Rattle.rasn_dynamic.specs.declared.types.Simple.{Simple}
 use Rattle.rasn_dynamic.specs.declared.types.Simple.TheVariants.{BitString, Boolean, Characters, Enumerated, GeneralizedTime, Integer, NamedBits, Null, ObjectIdentifier, OctetString, Open, Text, UtcTime, Utf8}
 use Rattle.rasn_dynamic.specs.Types.{alternatives_in, at_place, behind, grouped, in_root, parts_in, plain_at, schema_at, simple_schema}
@@ -36,9 +37,15 @@ simple_levels UtcTime n = to_leaf tt
 simple_levels GeneralizedTime n = to_leaf tt
 simple_levels Open n = to_leaf tt
 
+date_levels : (n : ℕ) → ToLevels n (date_at n) (date_at (suc n))
+date_levels zero = still_cut (omega arith)
+date_levels (suc zero) = no_date (omega arith)
+date_levels (suc (suc n)) = to_date
+
 -- with no level, and with one
 plain_cut : (ts : List Kind) (k : Kind) → ToLevels zero (plain_at ts k zero) (plain_at ts k (suc zero))
 plain_cut ts (SimpleKind k) = simple_levels k zero
+plain_cut ts Date = date_levels zero
 plain_cut ts (ListKind i c) = no_level tt
 plain_cut ts (SetOf i c) = no_level tt
 plain_cut ts (RecordKind r) = no_level tt
@@ -52,6 +59,7 @@ contained_cut ts (Some k) = plain_cut ts k
 
 kind_cut : (ts : List Kind) (k : Kind) → ToLevels zero (kind_at ts k zero) (kind_at ts k (suc zero))
 kind_cut ts (SimpleKind k) = simple_levels k zero
+kind_cut ts Date = date_levels zero
 kind_cut ts (ListKind i c) = no_level tt
 kind_cut ts (SetOf i c) = no_level tt
 kind_cut ts (RecordKind r) = no_level tt
@@ -63,6 +71,7 @@ kind_cut ts (OpenKind o) = to_leaf tt
 module _ (ts : List Kind) (n : ℕ) (h : (j : ℕ) → ToLevels n (schema_at ts j n) (schema_at ts j (suc n))) where
   plain_levels : (k : Kind) → ToLevels (suc n) (plain_at ts k (suc n)) (plain_at ts k (suc (suc n)))
   plain_levels (SimpleKind k) = simple_levels k (suc n)
+  plain_levels Date = date_levels (suc n)
   plain_levels (ListKind i c) = to_list (h i)
   plain_levels (SetOf i c) = to_set_of (h i)
   plain_levels (RecordKind r) =
@@ -78,6 +87,7 @@ module _ (ts : List Kind) (n : ℕ) (h : (j : ℕ) → ToLevels n (schema_at ts 
 
   kind_levels : (k : Kind) → ToLevels (suc n) (kind_at ts k (suc n)) (kind_at ts k (suc (suc n)))
   kind_levels (SimpleKind k) = plain_levels (SimpleKind k)
+  kind_levels Date = date_levels (suc n)
   kind_levels (ListKind i c) = plain_levels (ListKind i c)
   kind_levels (SetOf i c) = plain_levels (SetOf i c)
   kind_levels (RecordKind r) = plain_levels (RecordKind r)

@@ -16,12 +16,13 @@ use Rattle.rasn_schema.specs.Normal.{normal, normal_bits, over_bits}
 use Rattle.rasn_dynamic.specs.declared.types.DefaultValue.{DefaultValue}
 use Rattle.rasn_dynamic.specs.declared.types.DefaultValue.TheVariants as Defaults
 use Rattle.rasn_dynamic.specs.declared.types.Kind.{Kind}
-use Rattle.rasn_dynamic.specs.declared.types.Kind.TheVariants.{Simple as SimpleKind, List as ListKind, SetOf, Record as RecordKind, Choice as ChoiceKind, Containing}
+use Rattle.rasn_dynamic.specs.declared.types.Kind.TheVariants.{Simple as SimpleKind, Date, List as ListKind, SetOf, Record as RecordKind, Choice as ChoiceKind, Containing}
 use Rattle.rasn_dynamic.specs.declared.types.Simple.{Simple}
 use Rattle.rasn_dynamic.specs.declared.types.Simple.TheVariants as Simples
 use Rattle.rasn_dynamic.specs.Types.{contained_at, default_value, named_size, of_size, plain_at, schema_at, simple_schema, within}
 use Rattle.rasn_dynamic.specs.Values.{NotBits}
-use Rattle.rasn_dynamic.proofs.Places.{contained_none, contained_there, containing_there, none_there, plain_there, simple_plain}
+use Rattle.rasn_traits.specs.Moments.{date_at}
+use Rattle.rasn_dynamic.proofs.Places.{contained_none, contained_there, containing_there, date_plain, none_there, plain_there, simple_plain}
 use Rattle.rasn_dynamic.proofs.SameDefaults.{differs, is_named, same_bits}
 
 -- a bit of zero bits, and of bits with zero bits behind them
@@ -108,8 +109,14 @@ unnamed_simple : (k : Simple) → named_size (Some (SimpleKind k)) ≡ None → 
 unnamed_simple (Simples.NamedBits c) e = absurd cc
 unnamed_simple k e = refl
 
+unnamed_date : (n : ℕ) → is_named (date_at n) ≡ false
+unnamed_date zero = refl
+unnamed_date (suc zero) = refl
+unnamed_date (suc (suc n)) = refl
+
 unnamed_plain : (ts : List Kind) (k : Kind) (n : ℕ) → named_size (Some k) ≡ None → is_named (plain_at ts k n) ≡ false
 unnamed_plain ts (SimpleKind k) n e = ap is_named (simple_plain ts k n) ∙ unnamed_simple k e
+unnamed_plain ts Date n e = ap is_named (date_plain ts n) ∙ unnamed_date n
 unnamed_plain ts k zero e = refl
 unnamed_plain ts k (suc n) e = refl
 

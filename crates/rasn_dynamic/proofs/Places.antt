@@ -14,6 +14,7 @@ use Rattle.rasn_schema.specs.Records.{record_at}
 use Rattle.rasn_schema.specs.Normal.{normal, over_bag}
 use Rattle.rasn_schema.specs.Schemas
 use Rattle.rasn_schema.specs.Schemas.{listed, Parts, Schema}
+use Rattle.rasn_traits.specs.Moments.{date_at}
 use Rattle.rasn_traits.specs.Calls.{Encodes, EncoderRules, without_memory, Written}
 use Rattle.rasn_schema.specs.Enumerations.{items_of}
 use Rattle.rasn_schema.specs.declared.items.ItemCounts.{ItemCounts}
@@ -22,7 +23,7 @@ use Rattle.rasn_schema.specs.declared.items.Place.TheVariants.{Root, Added}
 use Rattle.rasn_traits.specs.Counted.{all_may_be, is_of_kind, item_at, stands_in, WritesNothing, WritesOther}
 use Rattle.rasn_dynamic.specs.declared.types.Choice.{Choice}
 use Rattle.rasn_dynamic.specs.declared.types.Kind.{Kind}
-use Rattle.rasn_dynamic.specs.declared.types.Kind.TheVariants.{Simple as SimpleKind, List as ListKind, SetOf, Record as RecordKind, Choice as ChoiceKind, Containing, Open as OpenKind}
+use Rattle.rasn_dynamic.specs.declared.types.Kind.TheVariants.{Simple as SimpleKind, Date, List as ListKind, SetOf, Record as RecordKind, Choice as ChoiceKind, Containing, Open as OpenKind}
 use Rattle.rasn_dynamic.specs.declared.types.ObjectSet.{ObjectSet}
 use Rattle.rasn_dynamic.specs.declared.types.Record.{Record}
 use Rattle.rasn_dynamic.specs.declared.types.Simple.{Simple}
@@ -46,6 +47,8 @@ place_there ts i k e (suc n) = ap (at_place (kind_in ts (λ j. schema_at ts j n)
 kind_plain : (ts : List Kind) (k : Kind) → ((j : ℕ) → k ≡ Containing j → ⊥) → (n : ℕ) → kind_at ts k n ≡ plain_at ts k n
 kind_plain ts (SimpleKind k) h zero = refl
 kind_plain ts (SimpleKind k) h (suc n) = refl
+kind_plain ts Date h zero = refl
+kind_plain ts Date h (suc n) = refl
 kind_plain ts (ListKind i c) h zero = refl
 kind_plain ts (ListKind i c) h (suc n) = refl
 kind_plain ts (SetOf i c) h zero = refl
@@ -77,6 +80,10 @@ contained_none ts i e n = ap (at_place (λ k. plain_at ts k n)) e
 pub simple_plain : (ts : List Kind) (k : Simple) (n : ℕ) → plain_at ts (SimpleKind k) n ≡ always (simple_schema k) n
 simple_plain ts k zero = refl
 simple_plain ts k (suc n) = refl
+
+pub date_plain : (ts : List Kind) (n : ℕ) → plain_at ts Date n ≡ date_at n
+date_plain ts zero = refl
+date_plain ts (suc n) = refl
 
 pub list_plain : (ts : List Kind) (j : ℕ) (c : Extensible (Bounded ℕ)) (n : ℕ) → plain_at ts (ListKind j c) n ≡ list_at (schema_at ts j) (size_of (of_size c)) (is_size_marked (of_size c)) n
 list_plain ts j c zero = refl
@@ -151,6 +158,13 @@ pub no_item : (c : ItemCounts) (p : Place) → stands_in c p ≡ false → is_of
 no_item c (Root i) e = e
 no_item c (Added i) e = e
 
+-- values that are no day, and that aren't cut off
+pub no_date : (v : Content) → is_of_kind Schemas.date v ≡ false → is_of_kind Schemas.cut v ≡ false → (n : ℕ) → is_of_kind (date_at n) (normal (date_at n) v) ≡ false
+unfolding normal
+no_date v e f zero = f
+no_date v e f (suc zero) = f
+no_date v e f (suc (suc n)) = e
+
 -- values that aren't of a list
 pub no_list : (F : ℕ → Schema) (z : Size) (m : Bool) (v : Value) → NotElements (value_of v) → (n : ℕ) → levels_of v ≤ n → is_of_kind (list_at F z m n) (normal (list_at F z m n) (value_of v)) ≡ false
 unfolding normal
@@ -181,7 +195,7 @@ fitting [] = refl
 fitting (None ∷ os) = fitting os
 fitting (Some v ∷ os) = fitting os
 
-no_fields : (rs xs : Values.Slots) (m : Bool) → ((ps qs : Parts) → is_of_kind (Schemas.sequence listed ps m qs) (Values.fields rs xs) ≡ false) → ⊥
+pub no_fields : (rs xs : Values.Slots) (m : Bool) → ((ps qs : Parts) → is_of_kind (Schemas.sequence listed ps m qs) (Values.fields rs xs) ≡ false) → ⊥
 no_fields rs xs m f =
     let e : true ≡ false = sym (ap₂ (λ a b. a && b) (fitting (slots rs)) (fitting (slots xs))) ∙ f (parts_for (slots rs)) (parts_for (slots xs)) in
     absurd (cc)

@@ -7,14 +7,14 @@ use Rattle.rasn_schema.specs.Records.{record_value}
 use Rattle.rasn_schema.specs.Schemas
 use Rattle.rasn_traits.specs.Counted.{index_in, is_of_kind, side_of}
 use Rattle.rasn_dynamic.specs.declared.values.Value.{Value}
-use Rattle.rasn_dynamic.specs.declared.values.Value.TheOpen.{Value-F, Absent, Boolean, Null, Integer, Item, Octets, Bits, Characters, Elements, Bag, Fields, Alternative}
+use Rattle.rasn_dynamic.specs.declared.values.Value.TheOpen.{Value-F, Absent, Boolean, Null, Integer, Item, Octets, Bits, Characters, Date, Elements, Bag, Fields, Alternative}
 use Rattle.rasn_dynamic.specs.declared.values.Value.TheViews
 use Rattle.rasn_dynamic.specs.declared.values.Value.TheViews.{roll-Value}
 use Rattle.rasn_dynamic.specs.declared.values.Value.TheVariants
-use Rattle.rasn_dynamic.specs.declared.values.Value.TheVariants.{rolls-Boolean, rolls-Null, rolls-Integer, rolls-Item, rolls-Octets, rolls-Bits, rolls-Characters, rolls-Elements, rolls-Bag, rolls-Fields, rolls-Alternative, rolls-Absent}
+use Rattle.rasn_dynamic.specs.declared.values.Value.TheVariants.{rolls-Boolean, rolls-Null, rolls-Integer, rolls-Item, rolls-Octets, rolls-Bits, rolls-Characters, rolls-Date, rolls-Elements, rolls-Bag, rolls-Fields, rolls-Alternative, rolls-Absent}
 use Rattle.rasn_dynamic.specs.declared.values.Value.TheFolds.{fold-roll-Value, map-Value, ind-Value}
 use Rattle.rasn_dynamic.specs.Values.{levels_of, levels_step, slot_of, slot_step, there, value_of}
-use Rattle.rasn_dynamic.specs.Values.{NotTruth, NotNull, NotWhole, NotItem, NotOctets, NotBits, NotCharacters, NotElements, NotBag, NotFields, NotAlternative}
+use Rattle.rasn_dynamic.specs.Values.{NotTruth, NotNull, NotWhole, NotItem, NotOctets, NotBits, NotCharacters, NotDate, NotElements, NotBag, NotFields, NotAlternative}
 
 roll_slot : (x : Value-F Value) → slot_of (roll-Value x) ≡ slot_step (map-Value Value (Option Content) slot_of x)
 roll_slot x = fold-roll-Value (Option Content) slot_step x
@@ -99,6 +99,17 @@ uncharacters_roll x h = subst NotCharacters (sym (ap there (roll_slot x))) (reco
 
 pub not_characters : (v : Value) → Uncharacters v
 not_characters = ind-Value Uncharacters (λ x y is. uncharacters_roll x)
+
+abbrev Undate : Value → Type 0
+Undate v = ((y : _) → v ≡ TheVariants.Date y → ⊥) → NotDate (value_of v)
+
+undate_roll : (x : Value-F Value) → Undate (roll-Value x)
+unfolding bag_of
+undate_roll (Date y) h = absurd (h y (rolls-Date y))
+undate_roll x h = subst NotDate (sym (ap there (roll_slot x))) refl
+
+pub not_date : (v : Value) → Undate v
+not_date = ind-Value Undate (λ x y is. undate_roll x)
 
 abbrev Unelements : Value → Type 0
 Unelements v = ((y : _) → v ≡ TheViews.Elements y → ⊥) → NotElements (value_of v)

@@ -8,6 +8,7 @@ use Rattle.rasn_schema.specs.declared.items.Place.TheVariants.{Root, Added}
 use Rattle.rasn_dynamic.specs.declared.types.Component.{Component}
 use Rattle.rasn_dynamic.specs.declared.types.Items.{Items}
 use Rattle.rasn_dynamic.specs.declared.types.Name.{Name}
+use Rattle.rasn_dynamic.specs.declared.types.Record.{Record}
 use Rattle.rasn_dynamic.specs.Types.{behind}
 
 -- the place of the first type with a name, where one has it
@@ -21,6 +22,15 @@ slot_named [] ss name = None
 slot_named (c ∷ cs) [] name = None
 slot_named (c ∷ cs) (s ∷ ss) name =
     if pointwise nat_eq (string_bytes c.name) name then Some s else slot_named cs ss name
+
+-- the one that is there, or else the other
+abbrev pub or_else : {A : Type 0} → Option A → Option A → Option A
+or_else None y = y
+or_else (Some x) y = Some x
+
+-- what stands for the first component with a name, or else for the first addition with it
+abbrev pub part_named : Record → List (Option Value) → List (Option Value) → List ℕ → Option (Option Value)
+part_named r vs ws name = or_else (slot_named r.root.items vs name) (slot_named (behind r.additions) ws name)
 
 -- the name of the item at a place, where one stands there
 abbrev pub name_at : Items → Place → Option (List ℕ)

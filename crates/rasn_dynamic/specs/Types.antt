@@ -20,6 +20,7 @@ use Rattle.rasn_schema.specs.Records.{record_at}
 use Rattle.rasn_schema.specs.Schemas
 use Rattle.rasn_schema.specs.Schemas.{Schema, Parts, no_parts, part, leaf, listed}
 use Rattle.rasn_traits.specs.Counted.{item_at}
+use Rattle.rasn_traits.specs.Moments.{date_at}
 use Rattle.rasn_schema.specs.declared.items.ItemCounts.{ItemCounts}
 use Rattle.rasn_schema.specs.declared.items.Place.{Place}
 use Rattle.rasn_schema.specs.declared.items.Place.TheVariants.{Root, Added}
@@ -43,8 +44,8 @@ use Rattle.rasn_dynamic.specs.declared.types.Simple.TheVariants.{GeneralizedTime
 use Rattle.rasn_dynamic.specs.declared.types.Simple.TheVariants.{Null, ObjectIdentifier, OctetString, Open, Text, Utf8}
 use Rattle.rasn_dynamic.specs.declared.types.Kind.{Kind}
 use Rattle.rasn_dynamic.specs.declared.types.Kind.TheVariants.{Simple as SimpleKind, List as ListKind, SetOf}
-use Rattle.rasn_dynamic.specs.declared.types.Kind.TheVariants.{Record as RecordKind, Choice as ChoiceKind, Containing}
-use Rattle.rasn_dynamic.specs.declared.types.Kind.TheVariants.{Open as OpenKind}
+use Rattle.rasn_dynamic.specs.declared.types.Kind.TheVariants.{Date, Record as RecordKind, Choice as ChoiceKind}
+use Rattle.rasn_dynamic.specs.declared.types.Kind.TheVariants.{Containing, Open as OpenKind}
 
 -- how many items there are before the extension marker, and behind it
 abbrev pub counts_of : Items → ItemCounts
@@ -78,7 +79,7 @@ of_characters s = record {
 abbrev pub string_schema : CharacterString → Schema
 string_schema s = character_schema (characters_of s.of) (of_characters s)
 
--- a type in which no other stands
+-- a type in which no other stands, and which takes no level
 abbrev pub simple_schema : Simple → Schema
 simple_schema Boolean = Schemas.boolean
 simple_schema Null = Schemas.null
@@ -195,6 +196,7 @@ one_level (suc n) s = s
 -- what a type is to n levels, by the schemas of places with one level less; octets that contain a value are told apart
 abbrev pub plain_in : List Kind → (ℕ → Schema) → ℕ → Kind → Schema
 plain_in ts s n (SimpleKind k) = simple_schema k
+plain_in ts s n Date = date_at n
 plain_in ts s n (ListKind i c) = one_level n (Schemas.list (s i) (size_of (of_size c)) (is_size_marked (of_size c)))
 plain_in ts s n (SetOf i c) = one_level n (Schemas.set_of (s i) (size_of (of_size c)) (is_size_marked (of_size c)))
 plain_in ts s n (RecordKind r) = one_level n (Schemas.sequence listed (parts_in in_root s r.root.items)

@@ -9,10 +9,11 @@ use Rattle.rasn_schema.specs.Lists.{deepest, list_value}
 use Rattle.rasn_schema.specs.Records.{record_value}
 use Rattle.rasn_schema.specs.Schemas
 use Rattle.rasn_schema.specs.Schemas.{Schema, Parts}
+use Rattle.rasn_times.specs.Values.{date_value}
 use Rattle.rasn_traits.specs.Counted.{index_in, is_of_kind, item_at, side_of}
 use Rattle.rasn_dynamic.specs.declared.values.Value.{Value}
 use Rattle.rasn_dynamic.specs.declared.values.Value.TheOpen.{Value-F, Absent, Boolean, Null, Integer, Item, Octets}
-use Rattle.rasn_dynamic.specs.declared.values.Value.TheOpen.{Bits, Characters, Elements, Bag, Fields, Alternative}
+use Rattle.rasn_dynamic.specs.declared.values.Value.TheOpen.{Bits, Characters, Date, Elements, Bag, Fields, Alternative}
 use Rattle.rasn_dynamic.specs.declared.values.Value.TheFolds.{fold-Value}
 
 -- what stands for an absent value where one is asked for
@@ -30,6 +31,7 @@ slot_step (Item p) = Some (item_at p)
 slot_step (Octets os) = Some (octets os)
 slot_step (Bits bs) = Some (bits bs)
 slot_step (Characters cs) = Some (characters cs)
+slot_step (Date d) = Some (date_value d)
 slot_step (Elements v) = Some (list_value (map there v.items))
 slot_step (Bag v) = Some (bag_of (map there v.items))
 slot_step (Fields v w) = Some (record_value v.items w.items)
@@ -45,6 +47,7 @@ value_of v = there (slot_of v)
 
 -- one level of a value, which has how many levels its parts take in their place
 abbrev pub levels_step : Value-F ℕ → ℕ
+levels_step (Date d) = 2
 levels_step (Elements v) = suc (deepest (λ n. n) v.items)
 levels_step (Bag v) = suc (deepest (λ n. n) v.items)
 levels_step (Fields v w) = suc (max (deepest (λ n. n) v.items) (deepest (λ n. n) w.items))
@@ -82,6 +85,9 @@ pub record NotOctets (v : Values.Value) : Type 0 where
 pub record NotCharacters (v : Values.Value) : Type 0 where
   pub no_string : (own : List ℕ) (size : Size) (mark : Bool) → is_of_kind (Schemas.char_string own size mark) v ≡ false
   pub no_time : (kind : TimeKind) → is_of_kind (Schemas.time kind) v ≡ false
+
+abbrev pub NotDate : Values.Value → Type 0
+NotDate v = is_of_kind Schemas.date v ≡ false
 
 abbrev pub NotElements : Values.Value → Type 0
 NotElements v = (s : Schema) (size : Size) (mark : Bool) → is_of_kind (Schemas.list s size mark) v ≡ false

@@ -20,6 +20,7 @@ pub fn copy_of(value: &Value, alloc: Global) -> Result<Value, AllocError>
         Value::Octets(octets) => Ok(Value::Octets(octets.clone()?)),
         Value::Bits(bits) => Ok(Value::Bits(bits.clone()?)),
         Value::Characters(characters) => Ok(Value::Characters(characters.clone()?)),
+        Value::Date(day) => Ok(Value::Date(*day)),
         Value::Elements(values) => Ok(Value::Elements(copies_of(values, alloc)?)),
         Value::Bag(values) => Ok(Value::Bag(copies_of(values, alloc)?)),
         Value::Fields(root, additions) => {

@@ -1,8 +1,9 @@
 //! The canonical texts of UTCTime and GeneralizedTime, as values have them.
 
-ghost use Rattle.std.specs.Prelude.{◌≡◌, ◌≤◌, false, is_some, length, take, IfOk, IfSome, IfNone};
+ghost use Rattle.std.specs.Prelude.{◌≡◌, ◌↔◌, ◌≤◌, Err, false, is_some, length, take, IfOk, IfSome, IfNone};
 ghost use Rattle.rasn_types.specs.Contents.{generalized, is_time, utc, TimeKind};
-ghost use Rattle.rasn_times.specs.Moments.{generalized_text, utc_text};
+ghost use Rattle.rasn_times.specs.Moments.{generalized_text, is_generalized_moment, is_utc_moment, utc_text};
+ghost use Rattle.rasn_times.specs.declared.error.TimeError.TheVariants.{Unrepresentable};
 
 use jiff::civil::DateTime;
 use rasn_strings::strings::{BmpString, StaticPermittedAlphabet};
@@ -44,7 +45,8 @@ pub fn generalized_moment(text: &BmpString) -> Option<DateTime>
 /// The canonical text of a UTCTime (X.690 11.8). Refused is a moment that it can't hold: of another year than 1950 to
 /// 2049, or not of a whole second.
 pub fn utc_characters(alloc: Global, moment: DateTime) -> Result<BmpString, TimeError>
-    ensures { IfOk result (λ text. text ≡ utc_text moment) }
+    ensures written { IfOk result (λ text. text ≡ utc_text moment) }
+    ensures refused { (result ≡ Err Unrepresentable) ↔ (is_utc_moment moment ≡ false) }
 {
     let octets = datetime_to_canonical_utc_time_bytes(alloc, moment)?;
     Ok(characters_of(alloc, &octets)?)
@@ -52,7 +54,8 @@ pub fn utc_characters(alloc: Global, moment: DateTime) -> Result<BmpString, Time
 
 /// The canonical text of a GeneralizedTime (X.690 11.7). Refused is a moment of a year before 0.
 pub fn generalized_characters(alloc: Global, moment: DateTime) -> Result<BmpString, TimeError>
-    ensures { IfOk result (λ text. text ≡ generalized_text moment) }
+    ensures written { IfOk result (λ text. text ≡ generalized_text moment) }
+    ensures refused { (result ≡ Err Unrepresentable) ↔ (is_generalized_moment moment ≡ false) }
 {
     let octets = datetime_to_canonical_generalized_time_bytes(alloc, moment)?;
     Ok(characters_of(alloc, &octets)?)

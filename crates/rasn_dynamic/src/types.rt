@@ -18,7 +18,7 @@ pub type NumberBounds = Extensible<Bounded<i128>>;
 /// The bounds of a count, and whether they have an extension marker (X.680 51.5, 52).
 pub type SizeBounds = Extensible<Bounded<usize>>;
 
-/// A type in which no other type stands.
+/// A type in which no other type stands, and which takes no level.
 #[derive(Drop)]
 pub enum Simple {
     /// BOOLEAN (X.691 12).
@@ -159,8 +159,10 @@ pub struct Choice {
 /// What a type is.
 #[derive(Drop)]
 pub enum Kind {
-    /// A type in which no other type stands.
+    /// A type in which no other type stands, and which takes no level.
     Simple(Simple),
+    /// DATE (X.680 38.4), which takes two levels (X.691 32).
+    Date,
     /// SEQUENCE OF (X.691 20): the place of its elements' type, and its size.
     List(usize, SizeBounds),
     /// SET OF (X.691 22): the place of its members' type, and its size.

@@ -5,8 +5,8 @@ ghost use Rattle.rasn_dynamic.specs.Names.{slot_named};
 ghost use Rattle.rasn_dynamic.specs.Values.{slot_of};
 
 use crate::times::{generalized_characters, generalized_moment, utc_characters, utc_moment};
-use crate::types::Component;
-use jiff::civil::DateTime;
+use crate::types::{Component, Record};
+use jiff::civil::{Date, DateTime};
 use rasn_schema::items::Place;
 use rasn_strings::strings::BmpString;
 use rasn_times::error::TimeError;
@@ -15,8 +15,9 @@ use rasn_types::bit_string::BitString;
 use rasn_types::types::{Any, Integer};
 use std::alloc::Global;
 
-/// A value of any type, or none.
-#[derive(Drop)]
+/// A value of any type, or none. Two values are equal where their parts are, in their order: two of a SET OF may be equal
+/// bags and aren't equal here.
+#[derive(PartialEq, Eq, Drop)]
 pub enum Value {
     /// No value: a component that is absent.
     Absent,
@@ -36,6 +37,8 @@ pub enum Value {
     /// Of a character string, whichever its type, and of UTCTime and GeneralizedTime: their canonical text (X.690 11.7
     /// and 11.8).
     Characters(BmpString),
+    /// Of DATE.
+    Date(Date),
     /// Of SEQUENCE OF.
     Elements(Vec<Value>),
     /// Of SET OF.
@@ -48,8 +51,8 @@ pub enum Value {
 }
 
 impl Value {
-    ghost use Rattle.std.specs.Prelude.{◌≡◌, true, false, is_some, map, slice_get, IfSome, MatchOption};
-    ghost use Rattle.std.specs.Prelude.{List, Option, Some, IfOk};
+    ghost use Rattle.std.specs.Prelude.{◌≡◌, ◌↔◌, true, false, is_some, map, slice_get, IfSome, MatchOption};
+    ghost use Rattle.std.specs.Prelude.{Err, List, Option, Some, IfOk};
     ghost use Rattle.rasn_types.specs.Contents.{generalized, utc};
     ghost use Rattle.rasn_types.specs.Values;
     ghost use Rattle.rasn_types.specs.Values.{alternative, bits, characters, nothing, octets, truth, whole};
@@ -58,9 +61,13 @@ impl Value {
     ghost use Rattle.rasn_schema.specs.Schemas.{Schema};
     ghost use Rattle.rasn_traits.specs.Counted.{index_in, is_of_kind, item_at, side_of};
     ghost use Rattle.rasn_traits.specs.Moments.{identifier_value};
-    ghost use Rattle.rasn_times.specs.Values.{generalized_value, utc_value};
-    ghost use Rattle.rasn_dynamic.specs.Values.{NotAlternative, NotBits, NotCharacters, NotElements, NotFields};
-    ghost use Rattle.rasn_dynamic.specs.Values.{NotItem, NotNull, NotOctets, NotTruth, NotWhole, slot_of, value_of};
+    ghost use Rattle.rasn_times.specs.Moments.{is_generalized_moment, is_utc_moment};
+    ghost use Rattle.rasn_times.specs.Values.{date_value, generalized_value, utc_value};
+    ghost use Rattle.rasn_times.specs.declared.error.TimeError.TheVariants.{Unrepresentable};
+    ghost use Rattle.rasn_dynamic.specs.Names.{part_named};
+    ghost use Rattle.rasn_dynamic.specs.Values.{NotAlternative, NotBits, NotCharacters, NotDate, NotElements};
+    ghost use Rattle.rasn_dynamic.specs.Values.{NotFields, NotItem, NotNull, NotOctets, NotTruth, NotWhole};
+    ghost use Rattle.rasn_dynamic.specs.Values.{slot_of, value_of};
 
     /// Whether there is a value.
     pub fn is_there(&self) -> bool
@@ -149,7 +156,8 @@ impl Value {
     /// The value of a UTCTime by its moment in UTC (X.690 11.8). Refused is a moment that it can't hold: of another
     /// year than 1950 to 2049, or not of a whole second.
     pub fn from_utc_time(alloc: Global, moment: DateTime) -> Result<Value, TimeError>
-        ensures { IfOk result (λ v. slot_of v ≡ Some (utc_value moment)) }
+        ensures written { IfOk result (λ v. slot_of v ≡ Some (utc_value moment)) }
+        ensures refused { (result ≡ Err Unrepresentable) ↔ (is_utc_moment moment ≡ false) }
     {
         Ok(Value::Characters(utc_characters(alloc, moment)?))
     }
@@ -164,7 +172,8 @@ impl Value {
 
     /// The value of a GeneralizedTime by its moment in UTC (X.690 11.7). Refused is a moment of a year before 0.
     pub fn from_generalized_time(alloc: Global, moment: DateTime) -> Result<Value, TimeError>
-        ensures { IfOk result (λ v. slot_of v ≡ Some (generalized_value moment)) }
+        ensures written { IfOk result (λ v. slot_of v ≡ Some (generalized_value moment)) }
+        ensures refused { (result ≡ Err Unrepresentable) ↔ (is_generalized_moment moment ≡ false) }
     {
         Ok(Value::Characters(generalized_characters(alloc, moment)?))
     }
@@ -193,6 +202,16 @@ impl Value {
     {
         match self {
             Value::Characters(characters) => Some(characters),
+            _ => None,
+        }
+    }
+
+    /// The day of a DATE.
+    pub fn as_date(&self) -> Option<Date>
+        ensures { MatchOption result (NotDate (value_of self.now)) (λ day. value_of self.now ≡ date_value day) }
+    {
+        match self {
+            Value::Date(day) => Some(*day),
             _ => None,
         }
     }
@@ -254,6 +273,19 @@ impl Value {
             × (slice_get vs index ≡ Some (slot_of v.now))) }
     {
         self.as_fields()?.0.get(index)
+    }
+
+    /// The first component of a SEQUENCE or SET with a name, or else the first addition with it, absent or there. The
+    /// type of the value is such a record.
+    pub fn get(&self, record: &Record, name: &str) -> Option<&Value>
+        ensures { IfSome result (λ v. (vs ws : List (Option Values.Value)) × (value_of self.now ≡ record_value vs ws)
+            × (part_named record.now vs ws name.now ≡ Some (slot_of v.now))) }
+    {
+        let (root, additions) = self.as_fields()?;
+        match value_named(record.root(), root, name) {
+            Some(value) => Some(value),
+            None => value_named(record.behind(), additions, name),
+        }
     }
 
     /// The addition of a SEQUENCE at an index, absent or there.

@@ -9,3 +9,4 @@ pub mod Members
 pub mod Presences
 pub mod Reading
 pub mod Unfit
+pub mod NoDate

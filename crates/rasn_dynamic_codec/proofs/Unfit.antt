@@ -20,7 +20,7 @@ use Rattle.rasn_dynamic_codec.specs.OneAddition.{normal_addition}
 use Rattle.rasn_dynamic_codec.proofs.OneAddition.{addition_normal}
 use Rattle.rasn_dynamic.specs.declared.types.Component.{Component}
 use Rattle.rasn_dynamic.specs.declared.types.Kind.{Kind}
-use Rattle.rasn_dynamic.specs.declared.types.Kind.TheVariants.{Simple as SimpleKind, List as ListKind, SetOf, Record as RecordKind, Choice as ChoiceKind, Containing, Open as OpenKind}
+use Rattle.rasn_dynamic.specs.declared.types.Kind.TheVariants.{Simple as SimpleKind, Date, List as ListKind, SetOf, Record as RecordKind, Choice as ChoiceKind, Containing, Open as OpenKind}
 use Rattle.rasn_dynamic.proofs.Places.{record_there}
 use Rattle.rasn_dynamic.specs.declared.types.Presence.{Presence}
 use Rattle.rasn_dynamic.specs.declared.types.Presence.TheVariants.{Default, Group, Optional, Required}
@@ -114,6 +114,7 @@ sequence_group ts i b e n = go (slice_get ts i) refl e
     go None q f = absurd cc
     go (Some (RecordKind r)) q f = let h : has_required r ≡ b = cc in rw (← h, record_there ts i r q n) (group_at ts r n)
     go (Some (SimpleKind k)) q f = absurd cc
+    go (Some Date) q f = absurd cc
     go (Some (ListKind j c)) q f = absurd cc
     go (Some (SetOf j c)) q f = absurd cc
     go (Some (ChoiceKind c)) q f = absurd cc

@@ -17,7 +17,7 @@ ghost use Rattle.rasn_dynamic.specs.Types.{choice_of, contained_at, default_valu
 ghost use Rattle.rasn_dynamic.specs.Types.{parts_at, plain_at, presence_of, record_schema, schema_at, standing};
 ghost use Rattle.rasn_dynamic.specs.Values.{slot_of, value_of};
 
-use crate::read_simple::{decode_any, decode_nothing, decode_simple};
+use crate::read_simple::{decode_any, decode_date, decode_leaf, decode_nothing, decode_simple};
 use rasn_constraints::constraints::{Constraint, Constraints};
 use rasn_dynamic::types::{
     Choice, Component, DefaultValue, Kind, Presence, Record, SizeBounds, kind_at,
@@ -30,6 +30,7 @@ use rasn_types::types::Tag;
 
 /// Reads a value of the type at a place of a table. Where nothing stands there it refuses.
 #[cycle(reading)]
+#[inline(always)]
 pub fn decode_value<D: CountedDecoder>(
     decoder: &mut D,
     kinds: &[Kind],
@@ -46,6 +47,7 @@ pub fn decode_value<D: CountedDecoder>(
 
 /// Reads a value of what stands at a place of a table.
 #[cycle(reading)]
+#[inline(always)]
 fn decode_kind<D: CountedDecoder>(
     decoder: &mut D,
     kinds: &[Kind],
@@ -57,6 +59,7 @@ fn decode_kind<D: CountedDecoder>(
         decoder.old result decoder.new }
 {
     match kind {
+        Kind::Simple(simple) => decode_leaf(decoder, simple),
         Kind::Containing(of) => decode_containing(decoder, kinds, *of),
         _ => decode_plain(decoder, kinds, kind),
     }
@@ -64,6 +67,7 @@ fn decode_kind<D: CountedDecoder>(
 
 /// Reads octets that contain a value: that value, by itself.
 #[cycle(reading)]
+#[inline(never)]
 fn decode_containing<D: CountedDecoder>(
     decoder: &mut D,
     kinds: &[Kind],
@@ -96,6 +100,7 @@ fn decode_contained<D: CountedDecoder>(
 
 /// Reads a value of a type that isn't octets which contain one.
 #[cycle(reading)]
+#[inline(never)]
 fn decode_plain<D: CountedDecoder>(
     decoder: &mut D,
     kinds: &[Kind],
@@ -106,6 +111,7 @@ fn decode_plain<D: CountedDecoder>(
 {
     match kind {
         Kind::Simple(simple) => decode_simple(decoder, simple),
+        Kind::Date => decode_date(decoder),
         Kind::List(of, size) => decode_list(decoder, kinds, *of, size),
         Kind::SetOf(of, size) => decode_set_of(decoder, kinds, *of, size),
         Kind::Record(record) => decode_record(decoder, kinds, record),
@@ -117,6 +123,7 @@ fn decode_plain<D: CountedDecoder>(
 
 /// Reads a SEQUENCE OF.
 #[cycle(reading)]
+#[inline(never)]
 fn decode_list<D: CountedDecoder>(
     decoder: &mut D,
     kinds: &[Kind],
@@ -133,6 +140,7 @@ fn decode_list<D: CountedDecoder>(
 
 /// Reads a SET OF: its members in whatever order (X.691 22).
 #[cycle(reading)]
+#[inline(never)]
 fn decode_set_of<D: CountedDecoder>(
     decoder: &mut D,
     kinds: &[Kind],
@@ -173,6 +181,7 @@ fn decode_elements<D: CountedDecoder>(
 
 /// Reads a SEQUENCE.
 #[cycle(reading)]
+#[inline(always)]
 fn decode_record<D: CountedDecoder>(
     decoder: &mut D,
     kinds: &[Kind],
@@ -194,6 +203,7 @@ fn decode_record<D: CountedDecoder>(
 
 /// Reads the root components of a SEQUENCE in turn.
 #[cycle(reading)]
+#[inline(always)]
 fn decode_components<D: CountedDecoder>(
     decoder: &mut D,
     kinds: &[Kind],
@@ -213,6 +223,7 @@ fn decode_components<D: CountedDecoder>(
 
 /// Reads a root component: one that may be absent by its presence bit, and its value behind a bit 1.
 #[cycle(reading)]
+#[inline(always)]
 fn decode_component<D: CountedDecoder>(
     decoder: &mut D,
     kinds: &[Kind],
@@ -231,6 +242,7 @@ fn decode_component<D: CountedDecoder>(
 
 /// Reads a component that may be absent.
 #[cycle(reading)]
+#[inline(always)]
 fn decode_optional<D: CountedDecoder>(
     decoder: &mut D,
     kinds: &[Kind],
@@ -247,6 +259,7 @@ fn decode_optional<D: CountedDecoder>(
 
 /// Reads a component with a default, which it is where it isn't there.
 #[cycle(reading)]
+#[inline(never)]
 fn decode_default<D: CountedDecoder>(
     decoder: &mut D,
     kinds: &[Kind],
@@ -275,6 +288,7 @@ fn made<D: CountedDecoder>(decoder: &mut D, otherwise: &DefaultValue) -> Result<
 
 /// Reads a CHOICE.
 #[cycle(reading)]
+#[inline(never)]
 fn decode_choice<D: CountedDecoder>(
     decoder: &mut D,
     kinds: &[Kind],
@@ -333,6 +347,7 @@ fn boxed<D: CountedDecoder>(decoder: &mut D, value: Value) -> Result<Box<Value>,
 
 /// Reads the additions of a SEQUENCE in turn.
 #[cycle(reading)]
+#[inline(never)]
 fn decode_additions<D: CountedDecoder>(
     decoder: &mut D,
     kinds: &[Kind],
@@ -407,6 +422,7 @@ fn open_octets<D: CountedDecoder>(decoder: &mut D) -> Result<D::Contents, D::Err
 }
 
 /// Puts a value behind others, where there is memory for it.
+#[inline(always)]
 fn push_value(values: &mut Vec<Value>, value: Value) -> bool
     ensures { result ≡ true → values.new.items ≡ values.old.items ++ value ∷ [] }
 {

@@ -9,6 +9,7 @@ ghost use Rattle.rasn_schema.specs.Forms.{bit_schema, character_schema, named_bi
 ghost use Rattle.rasn_schema.specs.Forms.{number_schema, octet_schema};
 ghost use Rattle.rasn_schema.specs.Schemas.{Schema};
 ghost use Rattle.rasn_traits.specs.Calls.{Reads};
+ghost use Rattle.rasn_traits.specs.Moments.{date_at};
 ghost use Rattle.rasn_dynamic_codec.specs.Reads.{ReadsValue};
 ghost use Rattle.rasn_dynamic.specs.Types.{counts_of, of_characters, of_size, of_value, simple_schema, string_schema};
 
@@ -25,10 +26,28 @@ use rasn_traits::counted::CountedDecoder;
 use rasn_traits::de::Octets;
 use rasn_types::ber::object_identifier_as_bytes;
 use rasn_types::types::{Any, Integer, Tag};
+use rasn_useful::date::Date;
 use rasn_useful::generalized_time::GeneralizedTime;
 use rasn_useful::utc_time::UtcTime;
 
+/// Reads a value of a type in which no other stands: the commonest in place, the others by a call.
+#[inline(always)]
+pub(crate) fn decode_leaf<D: CountedDecoder>(
+    decoder: &mut D,
+    simple: &Simple,
+) -> Result<Value, D::Error>
+    ensures { ReadsValue D.rules (simple_schema simple.now) decoder.old result decoder.new }
+{
+    match simple {
+        Simple::Boolean => decode_boolean(decoder),
+        Simple::Integer(bounds) => decode_integer(decoder, bounds),
+        Simple::Enumerated(items) => decode_enumerated(decoder, items),
+        _ => decode_simple(decoder, simple),
+    }
+}
+
 /// Reads a value of a type in which no other stands.
+#[inline(never)]
 pub(crate) fn decode_simple<D: CountedDecoder>(
     decoder: &mut D,
     simple: &Simple,
@@ -62,6 +81,7 @@ pub(crate) fn decode_nothing<D: CountedDecoder>(decoder: &mut D) -> Result<Value
 }
 
 /// Reads a BOOLEAN.
+#[inline(always)]
 fn decode_boolean<D: CountedDecoder>(decoder: &mut D) -> Result<Value, D::Error>
     ensures { ReadsValue D.rules Schema.boolean decoder.old result decoder.new }
 {
@@ -78,6 +98,7 @@ fn decode_null<D: CountedDecoder>(decoder: &mut D) -> Result<Value, D::Error>
 }
 
 /// Reads an INTEGER within bounds.
+#[inline(always)]
 fn decode_integer<D: CountedDecoder>(
     decoder: &mut D,
     bounds: &NumberBounds,
@@ -90,6 +111,7 @@ fn decode_integer<D: CountedDecoder>(
 }
 
 /// Reads an item of an ENUMERATED.
+#[inline(always)]
 fn decode_enumerated<D: CountedDecoder>(decoder: &mut D, items: &Items) -> Result<Value, D::Error>
     ensures { ReadsValue D.rules (items_of (counts_of items.now)) decoder.old result decoder.new }
 {
@@ -237,6 +259,14 @@ fn decode_generalized_time<D: CountedDecoder>(decoder: &mut D) -> Result<Value, 
         Ok(value) => Ok(value),
         Err(_) => Err(decoder.out_of_memory()),
     }
+}
+
+/// Reads a DATE.
+pub(crate) fn decode_date<D: CountedDecoder>(decoder: &mut D) -> Result<Value, D::Error>
+    ensures { ReadsValue D.rules (date_at (D.rules.levels decoder.old)) decoder.old result decoder.new }
+{
+    let date: Date = decoder.decode_date(Tag::DATE)?;
+    Ok(Value::Date(date.to_civil_date()))
 }
 
 /// Reads the octets of an open type.

@@ -18,7 +18,7 @@ ghost use Rattle.rasn_dynamic.specs.Types.{parts_at, plain_at, presence_of, reco
 ghost use Rattle.rasn_dynamic.specs.Values.{levels_of, slot_of, value_of};
 ghost use Rattle.rasn_dynamic_codec.specs.Writes.{fit, may_stand, GivesOpen, GivesSettled, OpensChosen, WritesOne};
 
-use crate::write_simple::{encode_any, encode_simple};
+use crate::write_simple::{encode_any, encode_date, encode_leaf, encode_simple};
 use rasn_constraints::constraints::{Constraint, Constraints};
 use rasn_dynamic::types::{
     Choice, Component, DefaultValue, Kind, Presence, Record, SizeBounds, kind_at,
@@ -33,6 +33,7 @@ use rasn_types::types::{Identifier, Tag};
 /// the default, which isn't written. One that is absent has no encoding, and is refused as for want of memory, since
 /// `CountedEncoder` has no other refusal for it.
 #[cycle(writing)]
+#[inline(always)]
 pub fn encode_value<E: CountedEncoder>(
     encoder: &mut E,
     kinds: &[Kind],
@@ -50,6 +51,7 @@ pub fn encode_value<E: CountedEncoder>(
 
 /// Writes a value of what stands at a place of a table.
 #[cycle(writing)]
+#[inline(always)]
 fn encode_kind<E: CountedEncoder>(
     encoder: &mut E,
     kinds: &[Kind],
@@ -62,6 +64,7 @@ fn encode_kind<E: CountedEncoder>(
         encoder.old result encoder.new }
 {
     match kind {
+        Kind::Simple(simple) => encode_leaf(encoder, simple, value),
         Kind::Containing(of) => encode_containing(encoder, kinds, *of, value),
         _ => encode_plain(encoder, kinds, kind, value),
     }
@@ -69,6 +72,7 @@ fn encode_kind<E: CountedEncoder>(
 
 /// Writes octets that contain a value: that value, by itself.
 #[cycle(writing)]
+#[inline(never)]
 fn encode_containing<E: CountedEncoder>(
     encoder: &mut E,
     kinds: &[Kind],
@@ -102,6 +106,7 @@ fn encode_contained<E: CountedEncoder>(
 
 /// Writes a value of a type that isn't octets which contain one.
 #[cycle(writing)]
+#[inline(never)]
 fn encode_plain<E: CountedEncoder>(
     encoder: &mut E,
     kinds: &[Kind],
@@ -113,6 +118,7 @@ fn encode_plain<E: CountedEncoder>(
 {
     match kind {
         Kind::Simple(simple) => encode_simple(encoder, simple, value),
+        Kind::Date => encode_date(encoder, value),
         Kind::List(of, size) => encode_list(encoder, kinds, *of, size, value),
         Kind::SetOf(of, size) => encode_set_of(encoder, kinds, *of, size, value),
         Kind::Record(record) => encode_record(encoder, kinds, record, value),
@@ -124,6 +130,7 @@ fn encode_plain<E: CountedEncoder>(
 
 /// Writes a SEQUENCE OF.
 #[cycle(writing)]
+#[inline(never)]
 fn encode_list<E: CountedEncoder>(
     encoder: &mut E,
     kinds: &[Kind],
@@ -166,6 +173,7 @@ fn encode_elements<E: CountedEncoder>(
 
 /// Writes a SET OF.
 #[cycle(writing)]
+#[inline(never)]
 fn encode_set_of<E: CountedEncoder>(
     encoder: &mut E,
     kinds: &[Kind],
@@ -206,8 +214,9 @@ fn encode_members<E: CountedEncoder>(
     encoder.close_set_of(bag)
 }
 
-/// Writes a SEQUENCE, where its components are as many as they have to be, and there where they have to be.
+/// Writes a SEQUENCE.
 #[cycle(writing)]
+#[inline(always)]
 fn encode_record<E: CountedEncoder>(
     encoder: &mut E,
     kinds: &[Kind],
@@ -222,21 +231,13 @@ fn encode_record<E: CountedEncoder>(
     };
     let root_values: &[Value] = root;
     let added_values: &[Value] = added;
-    let components = sequence.root();
-    let additions = sequence.behind();
-    let root_fits = fit(components, root_values, false);
-    if !root_fits {
-        return encoder.refuse_other();
-    }
-    let added_fits = fit(additions, added_values, false);
-    if !added_fits {
-        return encoder.refuse_other();
-    }
     encode_fields(encoder, kinds, sequence, root_values, added_values)
 }
 
-/// Writes a SEQUENCE by its root components and its additions. One with a default that isn't told has no encoding.
+/// Writes a SEQUENCE by its root components and its additions, where these are as many as they have to be, and there
+/// where they have to be. One with a default that isn't told has no encoding.
 #[cycle(writing)]
+#[inline(always)]
 fn encode_fields<E: CountedEncoder>(
     encoder: &mut E,
     kinds: &[Kind],
@@ -252,11 +253,11 @@ fn encode_fields<E: CountedEncoder>(
     let additions = sequence.behind();
     let root_told = fit(components, root_values, true);
     if !root_told {
-        return encoder.refuse_out_of_memory();
+        return refuse_fields(encoder, kinds, sequence, root_values, added_values);
     }
     let added_told = fit(additions, added_values, true);
     if !added_told {
-        return encoder.refuse_out_of_memory();
+        return refuse_fields(encoder, kinds, sequence, root_values, added_values);
     }
     let bits = presence_bit_count(components);
     let count = sequence.added_count();
@@ -266,8 +267,35 @@ fn encode_fields<E: CountedEncoder>(
     encoder.close_record(outside)
 }
 
+/// Refuses components that aren't those of a SEQUENCE, or of which one with a default isn't told.
+#[inline(never)]
+fn refuse_fields<E: CountedEncoder>(
+    encoder: &mut E,
+    kinds: &[Kind],
+    sequence: &Record,
+    root_values: &[Value],
+    added_values: &[Value],
+) -> Result<(), E::Error>
+    ensures { Encodes E.rules (record_schema kinds.now sequence.now)
+        (suc (max (deepest levels_of root_values.now) (deepest levels_of added_values.now)))
+        (record_value (map slot_of root_values.now) (map slot_of added_values.now)) encoder.old result encoder.new }
+{
+    let components = sequence.root();
+    let additions = sequence.behind();
+    let root_fits = fit(components, root_values, false);
+    if !root_fits {
+        return encoder.refuse_other();
+    }
+    let added_fits = fit(additions, added_values, false);
+    if !added_fits {
+        return encoder.refuse_other();
+    }
+    encoder.refuse_out_of_memory()
+}
+
 /// Writes the root components of a SEQUENCE in turn.
 #[cycle(writing)]
+#[inline(always)]
 fn encode_components<E: CountedEncoder>(
     encoder: &mut E,
     kinds: &[Kind],
@@ -286,6 +314,7 @@ fn encode_components<E: CountedEncoder>(
 
 /// Writes a root component: one that may be absent by its presence bit.
 #[cycle(writing)]
+#[inline(always)]
 fn encode_component<E: CountedEncoder>(
     encoder: &mut E,
     kinds: &[Kind],
@@ -309,6 +338,7 @@ fn encode_component<E: CountedEncoder>(
 
 /// Writes a component that may be absent: its presence bit, and its value behind a bit 1.
 #[cycle(writing)]
+#[inline(always)]
 fn encode_optional<E: CountedEncoder>(
     encoder: &mut E,
     kinds: &[Kind],
@@ -328,6 +358,7 @@ fn encode_optional<E: CountedEncoder>(
 
 /// Writes a component with a default: the presence bit 0 where it is the default, and else its value behind a bit 1.
 #[cycle(writing)]
+#[inline(never)]
 fn encode_default<E: CountedEncoder>(
     encoder: &mut E,
     kinds: &[Kind],
@@ -349,6 +380,7 @@ fn encode_default<E: CountedEncoder>(
 
 /// Writes a CHOICE.
 #[cycle(writing)]
+#[inline(never)]
 fn encode_choice<E: CountedEncoder>(
     encoder: &mut E,
     kinds: &[Kind],
@@ -402,6 +434,7 @@ fn open_chosen<E: CountedEncoder>(
 
 /// Gives the additions of a SEQUENCE in turn.
 #[cycle(writing)]
+#[inline(never)]
 fn encode_additions<E: CountedEncoder>(
     encoder: &mut E,
     kinds: &[Kind],

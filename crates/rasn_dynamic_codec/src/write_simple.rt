@@ -1,6 +1,6 @@
 //! How values are written of types in which no other type stands.
 
-ghost use Rattle.std.specs.Prelude.{◌≡◌, Err, IfOk, false};
+ghost use Rattle.std.specs.Prelude.{◌≡◌, ◌==◌, ◌&&◌, Err, IfOk, false, length};
 ghost use Rattle.rasn_types.specs.Contents.{generalized, is_identifier, other, utc, utf8};
 ghost use Rattle.rasn_types.specs.Identifiers.{contents};
 ghost use Rattle.rasn_types.specs.Values.{characters};
@@ -11,8 +11,9 @@ ghost use Rattle.rasn_schema.specs.Forms.{number_schema, octet_schema};
 ghost use Rattle.rasn_schema.specs.Schemas.{Schema};
 ghost use Rattle.rasn_traits.specs.Calls.{Encodes, Writes};
 ghost use Rattle.rasn_traits.specs.Counted.{stands_in};
+ghost use Rattle.rasn_traits.specs.Moments.{date_at};
 ghost use Rattle.rasn_dynamic.specs.Types.{counts_of, of_characters, of_size, of_value, simple_schema, string_schema};
-ghost use Rattle.rasn_dynamic.specs.Values.{levels_of, value_of};
+ghost use Rattle.rasn_dynamic.specs.Values.{levels_of, NotDate, value_of};
 ghost use Rattle.rasn_types.specs.declared.ber.BerError.TheVariants.{InvalidObjectIdentifier};
 
 use crate::characters::{StringOf, has_characters};
@@ -29,10 +30,30 @@ use rasn_traits::counted::CountedEncoder;
 use rasn_types::ber::{BerError, object_identifier_from_bytes};
 use rasn_types::octet_strings::GeneralString;
 use rasn_types::types::{Any, Identifier, Tag};
+use rasn_useful::date::Date;
 use rasn_useful::generalized_time::GeneralizedTime;
 use rasn_useful::utc_time::UtcTime;
 
+/// Writes a value of a type in which no other stands: the commonest in place, the others by a call.
+#[inline(always)]
+pub(crate) fn encode_leaf<E: CountedEncoder>(
+    encoder: &mut E,
+    simple: &Simple,
+    value: &Value,
+) -> Result<(), E::Error>
+    ensures { Encodes E.rules (always (simple_schema simple.now)) (levels_of value.now) (value_of value.now)
+        encoder.old result encoder.new }
+{
+    match simple {
+        Simple::Boolean => encode_boolean(encoder, value),
+        Simple::Integer(bounds) => encode_integer(encoder, bounds, value),
+        Simple::Enumerated(items) => encode_enumerated(encoder, items, value),
+        _ => encode_simple(encoder, simple, value),
+    }
+}
+
 /// Writes a value of a type in which no other stands.
+#[inline(never)]
 pub(crate) fn encode_simple<E: CountedEncoder>(
     encoder: &mut E,
     simple: &Simple,
@@ -60,6 +81,7 @@ pub(crate) fn encode_simple<E: CountedEncoder>(
 }
 
 /// Writes a BOOLEAN.
+#[inline(always)]
 fn encode_boolean<E: CountedEncoder>(encoder: &mut E, value: &Value) -> Result<(), E::Error>
     ensures { Encodes E.rules (always Schema.boolean) (levels_of value.now) (value_of value.now)
         encoder.old result encoder.new }
@@ -82,6 +104,7 @@ fn encode_null<E: CountedEncoder>(encoder: &mut E, value: &Value) -> Result<(), 
 }
 
 /// Writes an INTEGER within bounds.
+#[inline(always)]
 fn encode_integer<E: CountedEncoder>(
     encoder: &mut E,
     bounds: &NumberBounds,
@@ -99,6 +122,7 @@ fn encode_integer<E: CountedEncoder>(
 }
 
 /// Writes an item of an ENUMERATED.
+#[inline(always)]
 fn encode_enumerated<E: CountedEncoder>(
     encoder: &mut E,
     items: &Items,
@@ -351,6 +375,38 @@ fn encode_generalized_time<E: CountedEncoder>(
         }
         None => encoder.refuse_other(),
     }
+}
+
+/// Writes a DATE.
+pub(crate) fn encode_date<E: CountedEncoder>(encoder: &mut E, value: &Value) -> Result<(), E::Error>
+    ensures { Encodes E.rules date_at (levels_of value.now) (value_of value.now) encoder.old result encoder.new }
+{
+    match value {
+        Value::Date(day) => encoder.encode_date(Tag::DATE, &Date::new(*day), Identifier::EMPTY),
+        _ => refuse_no_day(encoder, value),
+    }
+}
+
+/// Refuses a value that is no day where a DATE is written: a record that holds nothing as for want of memory, since
+/// where a type is cut off it may stand for a group.
+fn refuse_no_day<E: CountedEncoder>(encoder: &mut E, value: &Value) -> Result<(), E::Error>
+    ensures { NotDate (value_of value.now)
+        → Encodes E.rules date_at (levels_of value.now) (value_of value.now) encoder.old result encoder.new }
+{
+    let Some((root, additions)) = value.as_fields() else {
+        return encoder.refuse_other();
+    };
+    if hold_nothing(root, additions) {
+        return encoder.refuse_out_of_memory();
+    }
+    encoder.refuse_other()
+}
+
+/// Whether a record has neither root components nor additions.
+fn hold_nothing(root: &[Value], additions: &[Value]) -> bool
+    ensures { result ≡ (length root.now == 0 && length additions.now == 0) }
+{
+    root.is_empty() && additions.is_empty()
 }
 
 /// Writes the octets of an open type.

@@ -2,11 +2,11 @@
 use Rattle.std.proofs.Common.{◌≡◌, refl, sym, ap, ap₂, ◌∙◌, subst, ℕ, zero, suc, List, [], ◌∷◌, map, Option, Some, None}
 use Rattle.rasn_types.specs.Values
 use Rattle.rasn_dynamic.specs.declared.types.Kind.{Kind}
-use Rattle.rasn_dynamic.specs.declared.types.Kind.TheVariants.{Simple as SimpleKind, List as ListKind, SetOf, Record as RecordKind, Choice as ChoiceKind, Containing}
+use Rattle.rasn_dynamic.specs.declared.types.Kind.TheVariants.{Simple as SimpleKind, Date as DateKind, List as ListKind, SetOf, Record as RecordKind, Choice as ChoiceKind, Containing}
 use Rattle.rasn_dynamic.specs.declared.types.Record.{Record}
 use Rattle.rasn_dynamic.specs.declared.types.Simple.{Simple}
 use Rattle.rasn_dynamic.specs.declared.values.Value.{Value}
-use Rattle.rasn_dynamic.specs.declared.values.Value.TheOpen.{Value-F, Absent, Boolean, Null, Integer, Item, Octets, Bits, Characters, Elements, Bag, Fields, Alternative}
+use Rattle.rasn_dynamic.specs.declared.values.Value.TheOpen.{Value-F, Absent, Boolean, Null, Integer, Item, Octets, Bits, Characters, Date, Elements, Bag, Fields, Alternative}
 use Rattle.rasn_dynamic.specs.declared.values.Value.TheViews
 use Rattle.rasn_dynamic.specs.declared.values.Value.TheViews.{roll-Value}
 use Rattle.rasn_dynamic.specs.declared.values.Value.TheVariants
@@ -19,7 +19,8 @@ use Rattle.rasn_traits.specs.Counted.{index_in, side_of}
 use Rattle.rasn_dynamic.specs.Values.{slot_of, slot_step, there}
 use Rattle.std.proofs.Common.{Result}
 use Rattle.std.specs.Prelude.{option_map}
-use Rattle.json.specs.Json.{Json, object}
+use Rattle.json.specs.Json.{Json, object, string}
+use Rattle.rasn_jer.specs.Strings.{day_text}
 use Rattle.json.specs.Written.{Written}
 use Rattle.rasn_dynamic_jer.specs.Puts.{Puts}
 use Rattle.rasn_dynamic_jer.specs.declared.error.ToJsonError.{ToJsonError}
@@ -84,6 +85,11 @@ fields_members_of ts n r v x y e = ap (λ v. (known ts v).members n r) e ∙ ap 
 pub simple_put : (ts : List Kind) (n : ℕ) (k : Simple) (v : Value) (x : Value-F Value) {old new : Written} (r : Result (Unit {0}) ToJsonError) → v ≡ roll-Value x
     → Puts (simple_json n k (map-Value Value Known (known ts) x)) n old r new → Puts (json_by ts n (Some (SimpleKind k)) v) n old r new
 simple_put ts n k v x {old} {new} r e h = subst (λ o. Puts o n old r new) (sym (ap (json_by ts n (Some (SimpleKind k))) e ∙ roll_json ts n _ x)) h
+
+-- a day
+pub date_put : (ts : List Kind) (n : ℕ) (v : Value) (d : _) {old new : Written} (r : Result (Unit {0}) ToJsonError) → v ≡ roll-Value (Date d)
+    → Puts (Some (string (day_text d.year d.month d.day))) n old r new → Puts (json_by ts n (Some DateKind) v) n old r new
+date_put ts n v d {old} {new} r e h = subst (λ o. Puts o n old r new) (sym (ap (json_by ts n (Some DateKind)) e ∙ roll_json ts n _ (Date d))) h
 
 below_none : (n : ℕ) → below {A = Json} n (λ m. None) ≡ None
 below_none zero = refl

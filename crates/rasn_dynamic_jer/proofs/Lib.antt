@@ -1,6 +1,8 @@
+pub mod DatesTold
 pub mod Digits
 pub mod Foreign
 pub mod Gathered
+pub mod Arcs
 pub mod Knowns
 pub mod Parts
 pub mod Putting

@@ -23,6 +23,7 @@ use Rattle.rasn_dynamic.specs.declared.values.Value.TheOpen.{Bits as BitsF, Char
 use Rattle.hex.specs.Hex.{encode_upper}
 use Rattle.json.specs.Json.{Json, null, boolean, number, string, object, no_members, member}
 use Rattle.rasn_jer.specs.Shown.{fixed_count}
+use Rattle.rasn_dynamic_jer.specs.Identifiers.{identifier_json}
 
 -- what takes a level of arrays and objects; with none left there is none
 abbrev pub below : {A : Type 0} → ℕ → (ℕ → Option A) → Option A
@@ -58,12 +59,13 @@ abbrev pub utf8_json : List ℕ → Option Json
 utf8_json os = if is_utf8 os then Some (string os) else None
 
 -- X.697: OCTET STRING and open types: hexadecimal digits; UTF8String; and GeneralString and its like, of which each
--- octet is the character with its number
+-- octet is the character with its number; OBJECT IDENTIFIER
 abbrev pub octets_json : Simple → List ℕ → Option Json
 octets_json (Simples.OctetString c) os = Some (hexadecimal os)
 octets_json Simples.Open os = Some (hexadecimal os)
 octets_json Simples.Utf8 os = utf8_json os
 octets_json Simples.Text os = Some (string (encode_utf8_all os))
+octets_json Simples.ObjectIdentifier os = identifier_json os
 octets_json k os = None
 
 -- bits that tell how many they are

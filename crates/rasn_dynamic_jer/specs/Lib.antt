@@ -1,3 +1,5 @@
+pub mod Days
+pub mod Identifiers
 pub mod Leaves
 pub mod Puts
 pub mod Shown

@@ -1,6 +1,6 @@
 -- The JSON of a value by a table of types (ITU-T X.697).
-use Rattle.std.specs.Prelude.{ℕ, Bool, true, false, if◌then◌else◌, ◌==◌, List, [], ◌∷◌, ◌++◌, length, map}
-use Rattle.std.specs.Prelude.{Option, Some, None, option_map, slice_get, string_bytes}
+use Rattle.std.specs.Prelude.{ℕ, Bool, true, false, if◌then◌else◌, ◌==◌, List, [], ◌∷◌, ◌++◌, length, map, Option, Some}
+use Rattle.std.specs.Prelude.{None, option_map, slice_get, string_bytes}
 use Rattle.rasn_types.specs.AllOf.{all_of}
 use Rattle.rasn_types.specs.Values
 use Rattle.rasn_types.specs.Values.{same}
@@ -10,18 +10,19 @@ use Rattle.rasn_dynamic.specs.Values.{slot_step}
 use Rattle.rasn_dynamic.specs.declared.types.Alternative.{Alternative}
 use Rattle.rasn_dynamic.specs.declared.types.Component.{Component}
 use Rattle.rasn_dynamic.specs.declared.types.Kind.{Kind}
-use Rattle.rasn_dynamic.specs.declared.types.Kind.TheVariants.{Simple, List as ListKind, SetOf, Record as RecordKind}
-use Rattle.rasn_dynamic.specs.declared.types.Kind.TheVariants.{Choice, Open}
+use Rattle.rasn_dynamic.specs.declared.types.Kind.TheVariants.{Simple, Date, List as ListKind, SetOf}
+use Rattle.rasn_dynamic.specs.declared.types.Kind.TheVariants.{Record as RecordKind, Choice, Open}
 use Rattle.rasn_dynamic.specs.declared.types.Presence.{Presence}
 use Rattle.rasn_dynamic.specs.declared.types.Presence.TheVariants.{Optional, Group, Default}
 use Rattle.rasn_dynamic.specs.declared.types.Record.{Record}
 use Rattle.rasn_dynamic.specs.declared.types.Row.{Row}
 use Rattle.rasn_dynamic.specs.declared.values.Value.{Value}
 use Rattle.rasn_dynamic.specs.declared.values.Value.TheOpen.{Value-F, Octets, Elements, Bag, Fields}
-use Rattle.rasn_dynamic.specs.declared.values.Value.TheOpen.{Alternative as AlternativeF}
+use Rattle.rasn_dynamic.specs.declared.values.Value.TheOpen.{Alternative as AlternativeF, Date as DateF}
 use Rattle.rasn_dynamic.specs.declared.values.Value.TheFolds.{fold-Value, map-Value}
-use Rattle.json.specs.Json.{Json, array, object, Members, no_members, member}
+use Rattle.json.specs.Json.{Json, array, object, Members, no_members, member, string}
 use Rattle.json.specs.Value.{items_of}
+use Rattle.rasn_jer.specs.Strings.{day_text}
 use Rattle.rasn_dynamic_jer.specs.Leaves.{below, hexadecimal, simple_json}
 
 -- a member of an object: its name and its value
@@ -131,6 +132,7 @@ array_json ts n i xs = option_map (λ js. array (items_of js)) (all_json ts n i 
 -- X.697: the JSON of a value by what its type is; none of a value of another kind
 abbrev pub kind_json : List Kind → ℕ → Option Kind → Value-F Known → Option Json
 kind_json ts n (Some (Simple k)) x = simple_json n k x
+kind_json ts n (Some Date) (DateF d) = Some (string (day_text d.year d.month d.day))
 kind_json ts n (Some (ListKind i c)) (Elements v) = below n (λ m. array_json ts m i v.items)
 kind_json ts n (Some (SetOf i c)) (Bag v) = below n (λ m. array_json ts m i v.items)
 kind_json ts n (Some (RecordKind r)) (Fields v w) =

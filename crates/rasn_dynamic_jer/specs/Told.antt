@@ -1,8 +1,7 @@
 -- The value that JSON tells by a table of types (ITU-T X.697). It is a value of the grammar.
-use Rattle.std.specs.Prelude.{◌≡◌, ◌⊎◌, ℕ, zero, suc, ◌^◌, Bool, ◌==◌, ◌&&◌, ◌||◌, if◌then◌else◌, nat_lt}
-use Rattle.std.specs.Prelude.{List, [], ◌∷◌, length, take, Option, Some, None, option_map, option_and_then}
-use Rattle.std.specs.Prelude.{string_bytes}
-use Rattle.std.specs.Prelude.{codes, map, Result, MatchResult, IsSomeAnd, is_some, position}
+use Rattle.std.specs.Prelude.{◌≡◌, ◌⊎◌, ℕ, zero, suc, ◌^◌, Bool, ◌==◌, ◌&&◌, ◌||◌, if◌then◌else◌, nat_lt, List, [], ◌∷◌}
+use Rattle.std.specs.Prelude.{length, take, Option, Some, None, option_map, option_and_then, string_bytes, codes, map}
+use Rattle.std.specs.Prelude.{Result, MatchResult, IsSomeAnd, is_some, position}
 use Rattle.std.specs.Result.{result_ok}
 use Rattle.std.specs.Char.{is_digit}
 use Rattle.std.specs.Global.{Vec}
@@ -28,7 +27,7 @@ use Rattle.rasn_dynamic.specs.declared.types.Choice.{Choice}
 use Rattle.rasn_dynamic.specs.declared.types.Component.{Component}
 use Rattle.rasn_dynamic.specs.declared.types.Items.{Items}
 use Rattle.rasn_dynamic.specs.declared.types.Kind.{Kind}
-use Rattle.rasn_dynamic.specs.declared.types.Kind.TheVariants.{Simple as SimpleKind, List as ListKind, SetOf}
+use Rattle.rasn_dynamic.specs.declared.types.Kind.TheVariants.{Simple as SimpleKind, Date, List as ListKind, SetOf}
 use Rattle.rasn_dynamic.specs.declared.types.Kind.TheVariants.{Record as RecordKind, Choice as ChoiceKind}
 use Rattle.rasn_dynamic.specs.declared.types.Kind.TheVariants.{Open as OpenKind}
 use Rattle.rasn_dynamic.specs.declared.types.ObjectSet.{ObjectSet}
@@ -45,6 +44,8 @@ use Rattle.json.specs.Json.{Json, Items as JsonItems, no_items, item, Members, n
 use Rattle.json.specs.Strict.{HasUniqueKeys, keys}
 use Rattle.json.specs.Value.{value_view}
 use Rattle.json.specs.declared.value.Value.{Value as JsonTree}
+use Rattle.rasn_dynamic_jer.specs.Days.{date_told}
+use Rattle.rasn_dynamic_jer.specs.Identifiers.{identifier_told}
 use Rattle.rasn_dynamic_jer.specs.Leaves.{fixed_by}
 use Rattle.rasn_dynamic_jer.specs.Shown.{group_in, kind_within}
 use Rattle.rasn_dynamic_jer.specs.declared.from_json_error.FromJsonError.{FromJsonError}
@@ -137,7 +138,7 @@ time_told kind s = if is_time kind (chars s) then characters_told s else None
 abbrev pub latin_told : List ℕ → Option Value
 latin_told s = if list_all (λ c. nat_lt c 256) (chars s) then Some (octets (chars s)) else None
 
--- X.697: a value of a type in which no other is; of OBJECT IDENTIFIER none (this project's choice)
+-- X.697: a value of a type in which no other is
 abbrev pub simple_told : Simple → Json → Option Value
 simple_told Simples.Boolean j = option_map truth (as_bool j)
 simple_told Simples.Null j = null_told j
@@ -149,7 +150,7 @@ simple_told (Simples.NamedBits c) j = bits_told (fixed_by c) (as_str j) j
 simple_told (Simples.Characters c) j = option_and_then characters_told (as_str j)
 simple_told Simples.Utf8 j = option_map octets (as_str j)
 simple_told Simples.Text j = option_and_then latin_told (as_str j)
-simple_told Simples.ObjectIdentifier j = None
+simple_told Simples.ObjectIdentifier j = option_and_then identifier_told (as_str j)
 simple_told Simples.UtcTime j = option_and_then (time_told utc) (as_str j)
 simple_told Simples.GeneralizedTime j = option_and_then (time_told generalized) (as_str j)
 simple_told Simples.Open j = option_map octets (option_and_then octets_in (as_str j))
@@ -288,6 +289,7 @@ values_told f j = option_and_then (items_told f) (as_array j)
 -- a type in which others may be, by what JSON tells at their places
 abbrev pub told_in : List Kind → (ℕ → Json → Option Value) → Option Kind → Json → Option Value
 told_in ts f (Some (SimpleKind s)) j = simple_told s j
+told_in ts f (Some Date) j = option_and_then date_told (as_str j)
 told_in ts f (Some (ListKind i c)) j = option_map list_value (values_told (f i) j)
 told_in ts f (Some (SetOf i c)) j = option_map bag_of (values_told (f i) j)
 told_in ts f (Some (RecordKind r)) j = record_told ts f r j
@@ -295,9 +297,10 @@ told_in ts f (Some (ChoiceKind c)) j = choice_told f c j
 told_in ts f (Some (OpenKind s)) j = open_told f s (as_str j) j
 told_in ts f k j = None
 
--- a type in which no other is; an open type by its octets
+-- a type in which no other is: DATE too; an open type by its octets
 abbrev pub told_alone : Option Kind → Json → Option Value
 told_alone (Some (SimpleKind s)) j = simple_told s j
+told_alone (Some Date) j = option_and_then date_told (as_str j)
 told_alone (Some (OpenKind s)) j = simple_told Simples.Open j
 told_alone k j = None
 

@@ -27,7 +27,7 @@ pub enum FromJsonError {
     /// The member of an object isn't an alternative of the type, and no type that an open type may be.
     #[error("the member of an object is not an alternative of its type")]
     UnknownAlternative,
-    /// The JSON is of another kind than the type asks for. No JSON is told of an OBJECT IDENTIFIER.
+    /// The JSON is of another kind than the type asks for.
     #[error("the JSON is of another kind than the type asks for")]
     WrongKind,
     /// A number has a fraction or an exponent, or is past 128 bits; or bits are not as many as are told.
@@ -39,9 +39,12 @@ pub enum FromJsonError {
     /// A string has a character that its type can't have.
     #[error("a string has a character that its type cannot have")]
     BadCharacter,
-    /// A string isn't the canonical text of a time (X.690 11.7 and 11.8).
-    #[error("a string is not the canonical text of a time")]
+    /// A string isn't the canonical text of a time (X.690 11.7 and 11.8), or of a day (X.680 38.4).
+    #[error("a string is not the canonical text of a time or a day")]
     BadTime,
+    /// A string isn't the arcs of an object, such as `1.2.840`.
+    #[error("a string is not the arcs of an object identifier")]
+    BadIdentifier,
     /// The place is past the table of types.
     #[error("no type stands at the place")]
     NoType,

@@ -10,13 +10,14 @@ ghost use Rattle.json.specs.Token.{number as number_token, string as string_toke
 ghost use Rattle.hex.specs.Hex.{encode_upper};
 ghost use Rattle.json.specs.Print.{IsPrintable};
 ghost use Rattle.json.specs.Reads.{token_of};
-ghost use Rattle.rasn_dynamic_jer.specs.Leaves.{bits_json, bits_shown, characters_json, counted};
-ghost use Rattle.rasn_dynamic_jer.specs.Leaves.{item_json, least_of, may_be_characters, null_json};
-ghost use Rattle.rasn_dynamic_jer.specs.Leaves.{number_json, octets_json, truth_json, utf8_json};
+ghost use Rattle.rasn_dynamic_jer.specs.Leaves.{bits_json, bits_shown, characters_json, counted, item_json, least_of};
+ghost use Rattle.rasn_dynamic_jer.specs.Leaves.{may_be_characters, null_json, number_json, octets_json, truth_json};
+ghost use Rattle.rasn_dynamic_jer.specs.Leaves.{utf8_json};
 ghost use Rattle.rasn_dynamic_jer.specs.Puts.{Puts, PutsToken};
 ghost use Rattle.rasn_dynamic_jer.specs.declared.error.ToJsonError.TheVariants.{NoJson, OutOfMemory};
 
 use crate::error::ToJsonError;
+use crate::identifiers::put_identifier;
 use crate::table::fixed_by;
 use json::{Token, Writer};
 use rasn_dynamic::times::{generalized_moment, utc_moment};
@@ -117,6 +118,7 @@ pub(crate) fn put_octets(
         Simple::Open => put_hexadecimal(writer, alloc, octets.as_bytes()),
         Simple::Utf8 => put_utf8(writer, octets.as_bytes()),
         Simple::Text => put_latin(writer, alloc, octets.as_bytes()),
+        Simple::ObjectIdentifier => put_identifier(writer, alloc, octets.as_bytes()),
         _ => Err(ToJsonError::NoJson),
     }
 }

@@ -11,13 +11,13 @@ ghost use Rattle.rasn_schema.specs.Lists.{list_value};
 ghost use Rattle.rasn_dynamic.specs.Values.{slot_of, value_of};
 ghost use Rattle.rasn_dynamic_jer.specs.Shown.{group_in};
 ghost use Rattle.rasn_dynamic_jer.specs.Told.{absent_told, addition_told, additions_told, alternative_place};
-ghost use Rattle.rasn_dynamic_jer.specs.Told.{component_told, components_told, group_told};
-ghost use Rattle.rasn_dynamic_jer.specs.Told.{IsNoText, IsTextOf, IsUntold, told_alone};
-ghost use Rattle.rasn_dynamic_jer.specs.Told.{TellsSlot, TellsSlots, TellsValue, TellsValues, told_at, told_by};
-ghost use Rattle.rasn_dynamic_jer.specs.Told.{alternative_told, choice_told, members_told, one_told, Parses};
-ghost use Rattle.rasn_dynamic_jer.specs.Told.{one_row_told, open_told, record_told, row_place, row_told, told_in};
-ghost use Rattle.rasn_dynamic_jer.specs.Told.{values_told};
+ghost use Rattle.rasn_dynamic_jer.specs.Told.{component_told, components_told, group_told, IsNoText, IsTextOf};
+ghost use Rattle.rasn_dynamic_jer.specs.Told.{IsUntold, told_alone, TellsSlot, TellsSlots, TellsValue, TellsValues};
+ghost use Rattle.rasn_dynamic_jer.specs.Told.{told_at, told_by, alternative_told, choice_told, members_told, one_told};
+ghost use Rattle.rasn_dynamic_jer.specs.Told.{Parses, one_row_told, open_told, record_told, row_place, row_told};
+ghost use Rattle.rasn_dynamic_jer.specs.Told.{told_in, values_told};
 
+use crate::dates::read_date;
 use crate::from_json_error::FromJsonError;
 use crate::json_parts::{items_of, members_of};
 use crate::names::{alternative_place, are_members, has_member, row_place};
@@ -117,6 +117,7 @@ fn read_alone(alloc: Global, kind: &Kind, json: &Json<'_>) -> Result<Value, From
 {
     match kind {
         Kind::Simple(simple) => read_simple(alloc, simple, json),
+        Kind::Date => read_date(alloc, json),
         Kind::Open(_) => read_octets(alloc, json),
         _ => Err(FromJsonError::WrongKind),
     }
@@ -135,6 +136,7 @@ fn read_within(
 {
     match kind {
         Kind::Simple(simple) => read_simple(alloc, simple, json),
+        Kind::Date => read_date(alloc, json),
         Kind::List(of, _) => read_list(alloc, kinds, levels, *of, json),
         Kind::SetOf(of, _) => read_set_of(alloc, kinds, levels, *of, json),
         Kind::Record(record) => read_record(alloc, kinds, levels, record, json),

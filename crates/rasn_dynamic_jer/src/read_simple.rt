@@ -18,6 +18,7 @@ ghost use Rattle.rasn_dynamic_jer.specs.Told.{whole_told};
 ghost use Rattle.rasn_dynamic_jer.specs.declared.from_json_error.FromJsonError.TheVariants.{OutOfMemory};
 
 use crate::from_json_error::FromJsonError;
+use crate::identifiers::read_identifier;
 use crate::json_parts::member_count;
 use crate::table::fixed_by;
 use hex::FromHexError;
@@ -49,7 +50,7 @@ pub(crate) fn read_simple(
         Simple::Characters(_) => read_characters(alloc, json),
         Simple::Utf8 => read_utf8(alloc, json),
         Simple::Text => read_latin(alloc, json),
-        Simple::ObjectIdentifier => Err(FromJsonError::WrongKind),
+        Simple::ObjectIdentifier => read_identifier(alloc, json),
         Simple::UtcTime => read_utc_time(alloc, json),
         Simple::GeneralizedTime => read_generalized_time(alloc, json),
         Simple::Open => read_octets(alloc, json),

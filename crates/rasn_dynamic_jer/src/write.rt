@@ -6,13 +6,14 @@ ghost use Rattle.rasn_dynamic.specs.Types.{row_at, standing};
 ghost use Rattle.rasn_dynamic.specs.Values.{value_of};
 ghost use Rattle.rasn_dynamic.specs.declared.types.Kind.TheVariants.{Choice as ChoiceKind, List as ListKind};
 ghost use Rattle.rasn_dynamic.specs.declared.types.Kind.TheVariants.{Open as OpenKind, Record as RecordKind, SetOf};
-ghost use Rattle.rasn_dynamic.specs.declared.types.Kind.TheVariants.{Simple as SimpleKind};
+ghost use Rattle.rasn_dynamic.specs.declared.types.Kind.TheVariants.{Date as DateKind, Simple as SimpleKind};
 ghost use Rattle.rasn_dynamic_jer.specs.Leaves.{below};
 ghost use Rattle.rasn_dynamic_jer.specs.Puts.{IsRefused, IsJsonText, Puts, PutsAll, PutsMembers};
 ghost use Rattle.rasn_dynamic_jer.specs.Shown.{alternative_json, array_json, json_at, json_by, known};
-ghost use Rattle.rasn_dynamic_jer.specs.Shown.{component_members, group_among, is_default, is_optional};
-ghost use Rattle.rasn_dynamic_jer.specs.Shown.{list_members, members_there, named, one_member, row_json, values_json};
+ghost use Rattle.rasn_dynamic_jer.specs.Shown.{component_members, group_among, is_default, is_optional, list_members};
+ghost use Rattle.rasn_dynamic_jer.specs.Shown.{members_there, named, one_member, row_json, values_json};
 
+use crate::dates::put_day;
 use crate::error::ToJsonError;
 use crate::leaves::{
     put_bits, put_characters, put_hexadecimal, put_item, put_null, put_number, put_octets,
@@ -79,6 +80,7 @@ fn put_kind(
 {
     match kind {
         Kind::Simple(simple) => put_simple(writer, alloc, simple, value, levels),
+        Kind::Date => put_date(writer, alloc, value),
         Kind::List(of, _) => put_list(writer, alloc, kinds, *of, value, levels),
         Kind::SetOf(of, _) => put_set_of(writer, alloc, kinds, *of, value, levels),
         Kind::Record(record) => put_record(writer, alloc, kinds, record, value, levels),
@@ -107,6 +109,16 @@ fn put_simple(
         Value::Octets(octets) => put_octets(writer, alloc, simple, octets),
         Value::Bits(bits) => put_bits(writer, alloc, simple, bits, levels),
         Value::Characters(characters) => put_characters(writer, alloc, simple, characters),
+        _ => Err(ToJsonError::NoJson),
+    }
+}
+
+/// Writes a DATE, such as `"2026-11-27"`.
+fn put_date(writer: &mut Writer, alloc: Global, value: &Value) -> Result<(), ToJsonError>
+    ensures { (ts : _) → (n : _) → Puts (json_by ts n (Some DateKind) value.now) n writer.old result writer.new }
+{
+    match value {
+        Value::Date(date) => put_day(writer, alloc, *date),
         _ => Err(ToJsonError::NoJson),
     }
 }

@@ -37,7 +37,7 @@ pub mod encoder;
 pub mod error;
 mod large;
 pub mod place;
-mod texts;
+pub mod texts;
 
 ghost use Rattle.std.specs.Prelude.{IfOk, IfErr};
 ghost use Rattle.rasn_jer.specs.Calls.{AreText, IsRefusedBy};

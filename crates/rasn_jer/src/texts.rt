@@ -282,12 +282,21 @@ pub fn generalized_time<A: Allocator + Copy, M: GeneralizedMoment>(
 pub fn identifier<A: Allocator + Copy>(alloc: A, arcs: &[u32]) -> Result<Vec<u8, A>, AllocError>
     ensures { IfOk result (λ text. text.items ≡ text_of (string (dotted arcs.now))) }
 {
+    let text = dotted(alloc, arcs)?;
+    quoted(alloc, text.as_str())
+}
+
+/// Arcs in decimal digits, with a full stop between two of them, such as `1.2.840` (X.697, OBJECT IDENTIFIER). The only
+/// error is want of memory.
+pub fn dotted<A: Allocator + Copy>(alloc: A, arcs: &[u32]) -> Result<String<A>, AllocError>
+    ensures { IfOk result (λ text. string_bytes text ≡ dotted arcs.now) }
+{
     let mut text = String::new(alloc);
     if let Some((first, others)) = arcs.split_first() {
         push_arc(&mut text, *first)?;
         push_others(&mut text, others)?;
     }
-    quoted(alloc, text.as_str())
+    Ok(text)
 }
 
 /// Appends the decimal digits of an arc.
@@ -329,8 +338,14 @@ pub fn day<A: Allocator + Copy>(
     quoted(alloc, text.as_str())
 }
 
-/// A day by its year, its month and its day of the month.
-fn day_of<A: Allocator>(alloc: A, year: i16, month: u8, day: u8) -> Result<String<A>, AllocError>
+/// A day by its year, its month and its day of the month, such as `2026-11-27` or `-0044-03-15` (X.680 38.4). The only
+/// error is want of memory.
+pub fn day_of<A: Allocator>(
+    alloc: A,
+    year: i16,
+    month: u8,
+    day: u8,
+) -> Result<String<A>, AllocError>
     ensures { IfOk result (λ text. string_bytes text ≡ day_text year month day) }
 {
     let mut text = String::new(alloc);

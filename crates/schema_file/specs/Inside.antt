@@ -9,8 +9,9 @@ use Rattle.rasn_dynamic.specs.declared.types.Record.{Record}
 use Rattle.rasn_dynamic.specs.declared.types.Types.{Types}
 use Rattle.rasn_dynamic.specs.declared.types.Name.{Name}
 use Rattle.rasn_dynamic.specs.declared.types.Kind.{Kind}
-use Rattle.rasn_dynamic.specs.declared.types.Kind.TheVariants.{Simple, List as ListKind, SetOf, Record as RecordKind}
-use Rattle.rasn_dynamic.specs.declared.types.Kind.TheVariants.{Choice as ChoiceKind, Containing, Open}
+use Rattle.rasn_dynamic.specs.declared.types.Kind.TheVariants.{Simple, Date, List as ListKind, SetOf}
+use Rattle.rasn_dynamic.specs.declared.types.Kind.TheVariants.{Record as RecordKind, Choice as ChoiceKind}
+use Rattle.rasn_dynamic.specs.declared.types.Kind.TheVariants.{Containing, Open}
 use Rattle.rasn_dynamic.specs.declared.types.Row.{Row}
 
 -- the types of components
@@ -38,6 +39,7 @@ RowsAreInside types rows = All (λ r. r.of < types) rows
 -- the types that stand in a type
 abbrev pub KindIsInside : ℕ → Kind → Type 0
 KindIsInside types (Simple _) = Unit {0}
+KindIsInside types Date = Unit {0}
 KindIsInside types (ListKind of _) = of < types
 KindIsInside types (SetOf of _) = of < types
 KindIsInside types (RecordKind components) = RecordIsInside types components

@@ -21,7 +21,7 @@ pub fn judge(alloc: Global, kinds: &[Kind], kind: &Kind, names: &mut usize) -> R
 {
     match kind {
         Kind::Simple(Simple::Enumerated(items)) => judge_items(alloc, items),
-        Kind::Simple(_) => Ok(()),
+        Kind::Simple(_) | Kind::Date => Ok(()),
         Kind::List(of, _) | Kind::SetOf(of, _) | Kind::Containing(of) => judge_place(kinds, *of),
         Kind::Record(record) => judge_record(alloc, kinds, record, names),
         Kind::Choice(choice) => judge_choice(alloc, kinds, choice),

@@ -25,6 +25,7 @@ fn kind_in(alloc: Global, words: &mut Words<'_>, types: usize) -> Result<Kind, R
         "choice" => Kind::Choice(choice(alloc, words)?),
         "sequence_of" => Kind::List(words.count()?, words.size()?),
         "set_of" => Kind::SetOf(words.count()?, words.size()?),
+        "date" => Kind::Date,
         "containing" => Kind::Containing(words.count()?),
         "open_type" => open_type(alloc, words, types)?,
         word => Kind::Simple(simple(alloc, word, words)?),
@@ -48,7 +49,7 @@ fn simple(alloc: Global, word: &str, words: &mut Words<'_>) -> Result<Simple, Re
         "object_identifier" => Simple::ObjectIdentifier,
         "utc_time" => Simple::UtcTime,
         "generalized_time" => Simple::GeneralizedTime,
-        "date" | "universal_string" => return Err(Reason::NotHeld),
+        "universal_string" => return Err(Reason::NotHeld),
         word => Simple::Characters(characters(alloc, word, words)?),
     };
     Ok(simple)

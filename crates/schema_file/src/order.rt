@@ -107,7 +107,7 @@ fn tag_kind(kind: &mut Kind, tags: &[Tag]) {
                 tag_alternatives(addeds, tags);
             }
         }
-        Kind::Simple(_) | Kind::List(_, _) | Kind::SetOf(_, _) => {}
+        Kind::Simple(_) | Kind::Date | Kind::List(_, _) | Kind::SetOf(_, _) => {}
         Kind::Containing(_) | Kind::Open(_) => {}
     }
 }

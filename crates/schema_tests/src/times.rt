@@ -23,6 +23,14 @@ fn types_of_times(rt: HostRuntime) -> Result<(), Fail> {
     Ok(())
 }
 
+#[test]
+fn type_of_days(rt: HostRuntime) -> Result<(), Fail> {
+    let text = with_line(rt.alloc(), 4, "date")?;
+    let types = load(rt.alloc(), text.as_bytes())?;
+    assert!(rt; matches!(types.kinds.get(1), Some(Kind::Date)));
+    Ok(())
+}
+
 /// A default that is 1999-12-31 23:59:59, and the same digits with a month 13.
 const DEFAULTS: [(&str, bool); 2] = [
     (

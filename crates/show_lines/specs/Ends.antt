@@ -1,9 +1,9 @@
 -- Why the program doesn't print what its words ask for, and what its output got by then.
 use Rattle.std.specs.Prelude.{ℕ, ◌≡◌, ⊤, List, Option}
 use Rattle.std.specs.Io.KnownBytes.{Keeps}
-use Rattle.per_lines.specs.Lines.{IsLineOf}
-use Rattle.per_lines.specs.Printing.{EndsReplies}
-use Rattle.per_lines.specs.declared.fault.Fault.TheVariants.{CannotRead, CannotWrite, OutOfMemory}
+use Rattle.line_replies.specs.Lines.{IsLineOf}
+use Rattle.line_replies.specs.Printing.{EndsReplies}
+use Rattle.line_replies.specs.declared.fault.Fault.TheVariants.{CannotRead, CannotWrite, OutOfMemory}
 use Rattle.show_lines.specs.Requests.{request_words}
 use Rattle.show_lines.specs.Showing.{IsReply, IsUnanswered}
 use Rattle.show_lines.specs.declared.arguments.Extent.{Extent}

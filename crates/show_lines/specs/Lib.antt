@@ -1,5 +1,4 @@
 pub mod Ends
-pub mod Layouts
 pub mod Nearest
 pub mod Printing
 pub mod Requests

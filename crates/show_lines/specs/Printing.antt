@@ -1,7 +1,7 @@
 -- What the program prints for its words and its input.
 use Rattle.std.specs.Prelude.{ℕ, ◌≡◌, List, [], Option}
 use Rattle.std.specs.Io.KnownBytes.{Appends}
-use Rattle.per_lines.specs.Printing.{PrintsAnswer, PrintsReplies}
+use Rattle.line_replies.specs.Printing.{PrintsAnswer, PrintsReplies}
 use Rattle.show_lines.specs.Requests.{request_words}
 use Rattle.show_lines.specs.Showing.{IsAnswer, IsReply}
 use Rattle.show_lines.specs.declared.arguments.Extent.{Extent}

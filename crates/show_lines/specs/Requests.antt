@@ -1,11 +1,11 @@
 -- The words after the program's name.
 use Rattle.std.specs.Prelude.{ℕ, List, [], ◌∷◌, ◌++◌, codes}
-use Rattle.per_lines.specs.Words.{codec_word}
+use Rattle.line_replies.specs.Codecs.{codec_word}
 use Rattle.named_types.specs.Types.{word_of}
 use Rattle.show_lines.specs.declared.arguments.Extent.{Extent}
 use Rattle.show_lines.specs.declared.arguments.Extent.TheVariants.{AllLines, FirstLine}
-use Rattle.show_lines.specs.declared.arguments.Layout.{Layout}
-use Rattle.show_lines.specs.declared.arguments.Layout.TheVariants.{Compact, Pretty}
+use Rattle.line_replies.specs.declared.layout.Layout.{Layout}
+use Rattle.line_replies.specs.declared.layout.Layout.TheVariants.{Compact, Pretty}
 use Rattle.show_lines.specs.declared.arguments.Request.{Request}
 use Rattle.show_lines.specs.declared.arguments.Showing.{Showing}
 use Rattle.show_lines.specs.declared.arguments.Request.TheVariants.{Help, Show}

@@ -3,14 +3,14 @@ use Rattle.std.specs.Prelude.{ℕ, ◌≡◌, ◌≢◌, ◌⊎◌, List, ◌∷
 use Rattle.hex.specs.Hex.{decode_of}
 use Rattle.named_types.specs.Types.{schema_of}
 use Rattle.per_lines.specs.Showing.{AreShown, HasNoText}
-use Rattle.per_lines.specs.declared.fault.Fault.TheVariants.{BadHexadecimal}
+use Rattle.line_replies.specs.declared.fault.Fault.TheVariants.{BadHexadecimal}
 use Rattle.per_located.specs.Placed.{IsPlaced}
 use Rattle.per_read.specs.declared.error.DecodeErrorKind.TheVariants as Decoding
 use Rattle.per_core.specs.Rows.{Codec, variant_of}
 use Rattle.rasn_per.specs.Complete.{AreUnread, basically}
 use Rattle.rasn_per.specs.Kinds.{IsInOctets}
 use Rattle.rasn_schema.specs.Schemas.{Schema}
-use Rattle.show_lines.specs.Layouts.{IsLaidOut}
+use Rattle.line_replies.specs.Layouts.{IsLaidOut}
 use Rattle.show_lines.specs.Told.{IsToldAs}
 use Rattle.show_lines.specs.declared.fault.Fault.{Fault}
 use Rattle.show_lines.specs.declared.arguments.Showing.{Showing}

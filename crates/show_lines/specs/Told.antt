@@ -1,9 +1,9 @@
 -- What the program says of a fault, and the status that it ends with.
 use Rattle.std.specs.Prelude.{ℕ, ◌≡◌, ◌⊎◌, List, [], ◌∷◌, ◌++◌, Option, codes}
-use Rattle.per_lines.specs.Faults.{AppendsFront}
-use Rattle.per_lines.specs.Faults.{status_of as lines_status, text_of as lines_text}
-use Rattle.per_lines.specs.declared.fault.Fault.{Fault as TheFault}
-use Rattle.per_lines.specs.declared.fault.Fault.TheVariants as Faults
+use Rattle.line_replies.specs.Faults.{AppendsFront}
+use Rattle.line_replies.specs.Faults.{status_of as lines_status, text_of as lines_text}
+use Rattle.line_replies.specs.declared.fault.Fault.{Fault as TheFault}
+use Rattle.line_replies.specs.declared.fault.Fault.TheVariants as Faults
 use Rattle.per_read.specs.Names.{name_of as decode_name}
 use Rattle.rasn_jer.specs.Names.{name_of as encode_name}
 use Rattle.show_lines.specs.declared.fault.Fault.{Fault}

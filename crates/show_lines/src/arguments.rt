@@ -6,8 +6,9 @@ ghost use Rattle.show_lines.specs.Requests.{extent_words, layout_words, request_
 
 use crate::fault::Fault;
 use crate::names::nearest;
+use line_replies::codecs::codec_of_word;
+use line_replies::layout::Layout;
 use named_types::types::NamedType;
-use per_lines::arguments::codec_of_word;
 use rasn_below::types::Codec;
 use std::alloc::Global;
 
@@ -18,15 +19,6 @@ pub enum Extent {
     FirstLine,
     /// All.
     AllLines,
-}
-
-/// How the JSON is laid out.
-#[derive(Clone, Copy, Debug, PartialEq, Eq)]
-pub enum Layout {
-    /// One line.
-    Compact,
-    /// A line for each item and member, two spaces deeper for each bracket.
-    Pretty,
 }
 
 /// What is shown of an input, and how.

@@ -1,15 +1,15 @@
 //! Why the program prints no JSON, and what it says then.
 
 ghost use Rattle.std.specs.Prelude.{◌≡◌, ◌≢◌, ◌≤◌, ◌++◌, IfOk, string_bytes};
-ghost use Rattle.per_lines.specs.Faults.{hexadecimal_fault};
-ghost use Rattle.per_lines.specs.declared.fault.Fault.TheVariants.{OutOfMemory};
+ghost use Rattle.line_replies.specs.Faults.{hexadecimal_fault};
+ghost use Rattle.line_replies.specs.declared.fault.Fault.TheVariants.{OutOfMemory};
 ghost use Rattle.show_lines.specs.Told.{IsToldAs, Tells, front_of, of_lines, status_of, text_of};
 ghost use Rattle.show_lines.specs.declared.fault.Fault.TheVariants.{Decode as decode_fault, Encode as encode_fault};
 ghost use Rattle.show_lines.specs.declared.fault.Fault.TheVariants.{OfLines as lines_fault};
 
 use hex::FromHexError;
-use per_lines::fault;
-use per_lines::output::write_line;
+use line_replies::fault;
+use line_replies::output::write_line;
 use per_located::Refusal;
 use rasn_jer::error::EncodeError;
 use std::alloc::{AllocError, Global};

@@ -3,7 +3,6 @@
 
 pub mod arguments;
 pub mod fault;
-mod layout;
 mod names;
 pub mod run;
 mod show;

@@ -2,7 +2,7 @@
 
 ghost use Rattle.std.specs.Prelude.{◌≡◌, ◌≢◌, ◌≤◌, IfErr, OnOk};
 ghost use Rattle.std.specs.Io.KnownBytes.{Appends, Keeps};
-ghost use Rattle.per_lines.specs.Printing.{PrintsAnswer};
+ghost use Rattle.line_replies.specs.Printing.{PrintsAnswer};
 ghost use Rattle.per_lines.specs.Words.{words};
 ghost use Rattle.show_lines.specs.Ends.{Ends, EndsAnswer, IsOfOutput};
 ghost use Rattle.show_lines.specs.Printing.{Prints};
@@ -13,11 +13,11 @@ ghost use Rattle.show_lines.specs.declared.fault.Fault.{Fault as the_fault};
 use crate::arguments::{Extent, Request, Showing};
 use crate::fault::Fault;
 use crate::show::show;
+use line_replies::fault;
+use line_replies::line::read_line;
+use line_replies::output::write;
+use line_replies::replies::reply_to_lines;
 use named_types::types::NamedType;
-use per_lines::fault;
-use per_lines::line::read_line;
-use per_lines::output::write;
-use per_lines::replies::reply_to_lines;
 use std::alloc::{AllocError, Global};
 use std::io::{BufRead, Write};
 

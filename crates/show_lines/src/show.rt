@@ -4,20 +4,19 @@ ghost use Rattle.std.specs.Prelude.{◌≡◌, ◌⊎◌, IfOk, IfErr};
 ghost use Rattle.per_lines.specs.Showing.{AreShown};
 ghost use Rattle.per_core.specs.Rows.{variant_of};
 ghost use Rattle.rasn_per.specs.Complete.{basically};
-ghost use Rattle.per_lines.specs.declared.fault.Fault.TheVariants.{OutOfMemory};
+ghost use Rattle.line_replies.specs.declared.fault.Fault.TheVariants.{OutOfMemory};
 ghost use Rattle.per_located.specs.Placed.{IsPlaced, unplaced};
 ghost use Rattle.rasn_per.specs.Calls.{Decoded};
-ghost use Rattle.show_lines.specs.Layouts.{IsLaidOut};
 ghost use Rattle.show_lines.specs.Showing.{AreTold, IsAnswer, IsRefusal, IsReply, IsUnanswered};
 ghost use Rattle.show_lines.specs.declared.fault.Fault.TheVariants.{OfLines as lines_fault};
 
-use crate::arguments::{Layout, Showing};
+use crate::arguments::Showing;
 use crate::fault::Fault;
-use crate::layout::pretty;
+use line_replies::fault;
+use line_replies::layout::laid_out;
+use line_replies::replies::Replies;
 use named_types::types::done;
-use per_lines::fault;
 use per_lines::named::Work;
-use per_lines::replies::Replies;
 use per_located::{Refusal, aper, uper};
 use rasn_below::codec::{Decode, Encode};
 use rasn_below::types::Codec;
@@ -62,19 +61,6 @@ fn refusal(alloc: Global, fault: &Fault) -> Result<Vec<u8>, AllocError>
     line.extend_from_slice(told.as_bytes())?;
     line.extend_from_slice(b"\n")?;
     Ok(line)
-}
-
-/// A JSON text in a layout.
-fn laid_out(alloc: Global, layout: Layout, text: Vec<u8>) -> Result<Vec<u8>, AllocError>
-    ensures { IfOk result (λ laid. IsLaidOut layout text.items laid.items) }
-{
-    match layout {
-        Layout::Compact => Ok(text),
-        Layout::Pretty => match str::from_utf8(text.as_slice()) {
-            Ok(characters) => pretty(alloc, characters),
-            Err(_) => Ok(text),
-        },
-    }
 }
 
 /// Octets to be shown, in the variant of a codec.

@@ -1,7 +1,10 @@
 use Rattle.dynamic_versions.proofs.Oks.{then, then_both}
 use Rattle.dynamic_versions.proofs.Parts.{list_newer, set_newer}
-use Rattle.dynamic_versions.proofs.Within.{open_newer}
+use Rattle.dynamic_versions.proofs.Within.{date_newer, open_newer}
 use Rattle.dynamic_versions.proofs.kinds.compare_plain.Goals as goal
+
+pub returns-in-Date-Date-clause-newer : goal.returns-in-Date-Date-clause-newer
+returns-in-Date-Date-clause-newer c = rw (c.in-Date-Date.is-0, c.in-Date-Date.is-1) (λ s' s n v. date_newer n)
 
 pub returns-in-List-List-clause-newer : goal.returns-in-List-List-clause-newer
 returns-in-List-List-clause-newer c =

@@ -9,11 +9,12 @@ use Rattle.rasn_traits.specs.Scopes.{FaultyPart, ReadsPart, reads_left_out}
 use Rattle.rasn_traits.proofs.Optionals.{bit_refused, value_read}
 use Rattle.rasn_traits.proofs.Reading.{addition_lacks, both_read, inside_left, record_addition_failed, record_ended, record_endless, record_root_failed}
 use Rattle.rasn_dynamic.specs.Types.{behind, contained_at, default_value, grouped, in_root, is_not_required, of_size, parts_at, record_schema, schema_at, choice_of}
+use Rattle.rasn_dynamic.specs.declared.types.Kind.TheVariants.{Simple as SimpleKind}
 use Rattle.rasn_schema.specs.Bags.{set_at}
 use Rattle.rasn_dynamic.specs.Values.{value_of}
 use Rattle.rasn_dynamic_codec.proofs.OneAddition.{addition_unread}
 use Rattle.rasn_dynamic_codec.proofs.BagsReading.{bag_answered, bag_refused}
-use Rattle.rasn_dynamic.proofs.Places.{choice_plain, contained_none, contained_there, containing_plain, containing_there, list_plain, none_there, open_plain, plain_there, record_plain, set_plain, simple_plain}
+use Rattle.rasn_dynamic.proofs.Places.{choice_plain, contained_none, contained_there, containing_plain, containing_there, date_plain, list_plain, none_there, open_plain, plain_there, record_plain, set_plain, simple_plain}
 use Rattle.rasn_dynamic_codec.proofs.Presences.{group_left}
 use Rattle.rasn_dynamic_codec.proofs.Reading.{contents_unread, default_added, default_taken, given_read, inside_unread, lacking_read, none_given, none_opened, octets_unended, octets_unopened, onward_all, onward_fails, onward_read, onward_room, open_unended, read_additions, read_components, reads_same, required_taken, slotted}
 use Rattle.rasn_dynamic.proofs.Trees.{absent_slot, bag_slot, elements_slot, fields_slot, slot_there, value_there, alternative_slot}
@@ -419,6 +420,9 @@ decode_kind-returns-in_default g t c = reads_same _ _ _ _ _ (plain_there c.args.
 pub decode_plain-returns-in-Simple : goal.decode_plain-returns-in-Simple
 decode_plain-returns-in-Simple g t c = rw c.in-Simple.is (reads_same _ _ _ _ _ (simple_plain c.args.kinds.now c.in-Simple.simple (g.D.Decoder.rules.levels c.args.decoder.now)) c.decode_simple.ensures)
 
+pub decode_plain-returns-in-Date : goal.decode_plain-returns-in-Date
+decode_plain-returns-in-Date g t c = rw c.in-Date.is (reads_same _ _ _ _ _ (date_plain c.args.kinds.now (g.D.Decoder.rules.levels c.args.decoder.now)) c.decode_date.ensures)
+
 pub decode_plain-returns-in-List : goal.decode_plain-returns-in-List
 decode_plain-returns-in-List g t c = rw c.in-List.is (reads_same _ _ _ _ _ (list_plain c.args.kinds.now c.in-List.of c.in-List.size (g.D.Decoder.rules.levels c.args.decoder.now)) c.decode_list.ensures)
 
@@ -600,3 +604,11 @@ decode_addition-returns-in-Default g t c =
       law = default_added g.met.D.Decoder.lawful (default_value c.in-Default.otherwise) _ _ x c.decode_open.new.decoder c.made.new.decoder c.made.result n h.law;
       behaves = record { again = λ q. absurd (w.behaves.again q); fails = h.fails; kept = h.kept ∙ w.behaves.kept };
     })
+
+pub decode_kind-returns-in-Simple : goal.decode_kind-returns-in-Simple
+decode_kind-returns-in-Simple g t c =
+    let ts = c.args.kinds.now in
+    let s = c.in-Simple.simple in
+    let n = g.D.Decoder.rules.levels c.args.decoder.now in
+    let there = plain_there ts c.args.place (SimpleKind s) (c.requires ∙ ap Some c.in-Simple.is) (λ j e. absurd (cc)) in
+    reads_same _ _ _ _ _ (there n ∙ simple_plain ts s n) c.decode_leaf.ensures

@@ -11,19 +11,19 @@ use Rattle.rasn_traits.proofs.Writing.{record_addition_refused, record_ended, re
 use Rattle.rasn_dynamic_codec.proofs.Given.{contents_closed, contents_refused, group_closed, group_refused, group_surplus, is_group_of, octets_refused, settled_written, value_closed, value_refused}
 use Rattle.rasn_dynamic_codec.proofs.Members.{awaits_member, bags}
 use Rattle.rasn_dynamic_codec.proofs.Elements.{awaits_element, closed, element_refused, lists, next_refused, opened, unopened}
+use Rattle.rasn_traits.specs.Moments.{date_at}
 use Rattle.rasn_dynamic.specs.declared.values.Value.TheVariants.{rolls-Bag, rolls-Elements, rolls-Fields, rolls-Alternative}
 use Rattle.rasn_dynamic.specs.Types.{behind, contained_at, grouped, in_root, is_not_required, of_size, parts_at, plain_at, record_schema, required_in, schema_at, simple_schema, alternative_counts, choice_of}
-use Rattle.rasn_dynamic.specs.declared.types.Kind.TheVariants.{Simple as SimpleKind, List as ListKind, SetOf, Record as RecordKind, Choice as ChoiceKind, Containing, Open as OpenKind}
+use Rattle.rasn_dynamic.specs.declared.types.Kind.TheVariants.{Simple as SimpleKind, Date, List as ListKind, SetOf, Record as RecordKind, Choice as ChoiceKind, Containing, Open as OpenKind}
 use Rattle.rasn_dynamic.specs.declared.types.Presence.TheVariants.{Group}
 use Rattle.rasn_schema.specs.Bags.{set_at}
 use Rattle.rasn_schema.specs.Normal.{normal}
 use Rattle.rasn_dynamic.specs.Values.{levels_of, slot_of, value_of}
-use Rattle.rasn_dynamic_codec.specs.Writes.{fit}
 use Rattle.rasn_dynamic_codec.proofs.Components.{additions, components, onward_ended, onward_index, onward_presented, onward_refused, onward_stands}
-use Rattle.rasn_dynamic.proofs.Places.{choice_plain, contained_none, contained_there, containing_plain, containing_there, encodes_same, encodes_value, list_plain, no_bag, no_list, no_place, no_record, nothing_written, open_plain, other_refused, other_refused_within, plain_there, record_plain, set_plain, simple_plain}
+use Rattle.rasn_dynamic.proofs.Places.{choice_plain, contained_none, contained_there, containing_plain, containing_there, encodes_same, encodes_value, date_plain, list_plain, no_bag, no_list, no_place, no_record, nothing_written, open_plain, other_refused, other_refused_within, plain_there, record_plain, set_plain, simple_plain}
 use Rattle.rasn_dynamic_codec.proofs.Presences.{absent_written, default_left, default_open, default_skipped, default_there, default_unmarked, no_other, open_written, required_there, skipped_written, stands_there, surplus_refused, there_written, unmarked_part}
 use Rattle.rasn_dynamic.proofs.Trees.{bag_levels, bag_value, deepest_at, elements_levels, elements_value, fields_levels, fields_value, not_bag, not_elements, not_fields, alternative_levels, alternative_value, not_alternative}
-use Rattle.rasn_dynamic_codec.proofs.Unfit.{record_counted, record_unopened, sequence_group, unfit_added, unfit_root, unmarked_none}
+use Rattle.rasn_dynamic_codec.proofs.Unfit.{record_counted, record_unopened, sequence_group, unmarked_none}
 use Rattle.rasn_schema.specs.Choices.{one_level_in}
 use Rattle.rasn_types.specs.Values.{alternative, bag_of}
 use Rattle.rasn_traits.specs.Counted.{index_in, side_of}
@@ -216,38 +216,6 @@ encode_record-returns-in_default g t c =
     other_refused_within (record_schema c.args.kinds.now r) (levels_of v) (value_of v) _ _ _ c.refuse_other.ensures
     (no_record (parts_at in_root c.args.kinds.now r.root.items) (parts_at (grouped c.args.kinds.now) c.args.kinds.now (behind r.additions)) (is_some r.additions) v (not_fields v c.in_default.not-Fields))
 
-pub encode_record-returns-then-not-root_fits : goal.encode_record-returns-then-not-root_fits
-encode_record-returns-then-not-root_fits g t c =
-    let v = c.args.value.now in
-    let ts = c.args.kinds.now in
-    let r = c.args.sequence.now in
-    let ps = parts_at in_root ts r.root.items in
-    let qs = parts_at (grouped ts) ts (behind r.additions) in
-    let vs = c.deref-root_values.result.now in
-    let ws = c.deref-added_values.result.now in
-    let e = c.in-Fields.is ∙ sym (rolls-Fields c.in-Fields.root c.in-Fields.added) in
-    let el = fields_levels v _ _ e ∙ ap₂ (λ vs ws. suc (max (deepest levels_of vs) (deepest levels_of ws))) (sym c.deref-root_values.ensures.value) (sym c.deref-added_values.ensures.value) in
-    let ev = fields_value v _ _ e ∙ ap₂ (λ vs ws. record_value (map slot_of vs) (map slot_of ws)) (sym c.deref-root_values.ensures.value) (sym c.deref-added_values.ensures.value) in
-    encodes_value (record_schema ts r) (levels_of v) _ (value_of v) (record_value (map slot_of vs) (map slot_of ws)) _ _ _ el ev
-    (other_refused_within (record_schema ts r) _ (record_value (map slot_of vs) (map slot_of ws)) _ _ _ c.refuse_other-then-not-root_fits.ensures
-    (unfit_root ts r (map slot_of vs) (map slot_of ws) (ap (λ cs. fit false cs (map slot_of vs)) (sym c.root-components.ensures) ∙ sym c.fit-root_fits.ensures ∙ c.if-not-root_fits.true) _))
-
-pub encode_record-returns-then-not-added_fits : goal.encode_record-returns-then-not-added_fits
-encode_record-returns-then-not-added_fits g t c =
-    let v = c.args.value.now in
-    let ts = c.args.kinds.now in
-    let r = c.args.sequence.now in
-    let ps = parts_at in_root ts r.root.items in
-    let qs = parts_at (grouped ts) ts (behind r.additions) in
-    let vs = c.deref-root_values.result.now in
-    let ws = c.deref-added_values.result.now in
-    let e = c.in-Fields.is ∙ sym (rolls-Fields c.in-Fields.root c.in-Fields.added) in
-    let el = fields_levels v _ _ e ∙ ap₂ (λ vs ws. suc (max (deepest levels_of vs) (deepest levels_of ws))) (sym c.deref-root_values.ensures.value) (sym c.deref-added_values.ensures.value) in
-    let ev = fields_value v _ _ e ∙ ap₂ (λ vs ws. record_value (map slot_of vs) (map slot_of ws)) (sym c.deref-root_values.ensures.value) (sym c.deref-added_values.ensures.value) in
-    encodes_value (record_schema ts r) (levels_of v) _ (value_of v) (record_value (map slot_of vs) (map slot_of ws)) _ _ _ el ev
-    (other_refused_within (record_schema ts r) _ (record_value (map slot_of vs) (map slot_of ws)) _ _ _ c.refuse_other-then-not-added_fits.ensures
-    (unfit_added ts r (map slot_of vs) (map slot_of ws) (ap (λ cs. fit false cs (map slot_of ws)) (sym c.behind-additions.ensures) ∙ sym c.fit-added_fits.ensures ∙ c.if-not-added_fits.true) _))
-
 pub encode_value-returns-in-None : goal.encode_value-returns-in-None
 encode_value-returns-in-None g t c =
     let v = c.args.value.now in
@@ -357,6 +325,12 @@ encode_plain-returns-in-Simple g t c =
     let v = c.args.value.now in
     let ts = c.args.kinds.now in
     rw c.in-Simple.is (encodes_same (plain_at ts (SimpleKind c.in-Simple.simple)) (always (simple_schema c.in-Simple.simple)) (levels_of v) (value_of v) _ _ _ (simple_plain ts c.in-Simple.simple) c.encode_simple.ensures)
+
+pub encode_plain-returns-in-Date : goal.encode_plain-returns-in-Date
+encode_plain-returns-in-Date g t c =
+    let v = c.args.value.now in
+    let ts = c.args.kinds.now in
+    rw c.in-Date.is (encodes_same (plain_at ts Date) date_at (levels_of v) (value_of v) _ _ _ (date_plain ts) c.encode_date.ensures)
 
 pub encode_plain-returns-in-List : goal.encode_plain-returns-in-List
 encode_plain-returns-in-List g t c =
@@ -651,12 +625,6 @@ encode_record-encode_fields-requires g t c =
     let el = fields_levels v _ _ e ∙ ap₂ (λ vs ws. suc (max (deepest levels_of vs) (deepest levels_of ws))) (sym c.deref-root_values.ensures.value) (sym c.deref-added_values.ensures.value) in
     grind (arith, common_steps, el)
 
-pub encode_fields-returns-then-not-root_told : goal.encode_fields-returns-then-not-root_told
-encode_fields-returns-then-not-root_told g t c = nothing_written _ _ _ _ _ _ c.refuse_out_of_memory.ensures
-
-pub encode_fields-returns-then-not-added_told : goal.encode_fields-returns-then-not-added_told
-encode_fields-returns-then-not-added_told g t c = nothing_written _ _ _ _ _ _ c.refuse_out_of_memory-then-not-added_told.ensures
-
 pub encode_fields-encode_components-requires : goal.encode_fields-encode_components-requires
 encode_fields-encode_components-requires g t c = grind (arith, common_steps, sym c.fit-root_told.ensures ∙ c.if-not-root_told.false)
 
@@ -715,3 +683,11 @@ encode_differing-returns g t c =
       fails = w.fails;
       kept = w.kept;
     }
+
+pub encode_kind-returns-in-Simple : goal.encode_kind-returns-in-Simple
+encode_kind-returns-in-Simple g t c =
+    let v = c.args.value.now in
+    let ts = c.args.kinds.now in
+    let s = c.in-Simple.simple in
+    let there = plain_there ts c.args.place (SimpleKind s) (c.requires ∙ ap Some c.in-Simple.is) (λ j e. absurd (cc)) in
+    encodes_same (schema_at ts c.args.place) (always (simple_schema s)) (levels_of v) (value_of v) _ _ _ (λ n. there n ∙ simple_plain ts s n) c.encode_leaf.ensures

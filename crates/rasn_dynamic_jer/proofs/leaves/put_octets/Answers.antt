@@ -7,3 +7,6 @@ returns-in-Utf8 c n = rw (c.in-Utf8.is, sym c.as_bytes-in-Utf8.ensures) (c.put_u
 
 pub returns-in-Text : goal.returns-in-Text
 returns-in-Text c n = rw (c.in-Text.is, sym c.as_bytes-in-Text.ensures) (c.put_latin.ensures n)
+
+pub returns-in-ObjectIdentifier : goal.returns-in-ObjectIdentifier
+returns-in-ObjectIdentifier c n = rw (c.in-ObjectIdentifier.is, sym c.as_bytes-in-ObjectIdentifier.ensures) (c.put_identifier.ensures n)

@@ -17,6 +17,9 @@ use Rattle.rasn_dynamic_jer.proofs.write.+showing.Goals as goal
 pub put_kind-returns-in-Simple : goal.put_kind-returns-in-Simple
 put_kind-returns-in-Simple t c = rw c.in-Simple.is (c.put_simple.ensures c.args.kinds.now)
 
+pub put_kind-returns-in-Date : goal.put_kind-returns-in-Date
+put_kind-returns-in-Date t c = rw c.in-Date.is (c.put_date.ensures c.args.kinds.now c.args.levels)
+
 pub put_kind-returns-in-List : goal.put_kind-returns-in-List
 put_kind-returns-in-List t c = rw c.in-List.is (c.put_list.ensures _)
 

@@ -1,8 +1,8 @@
 use Rattle.std.proofs.Common.{◌≡◌, ◌⊎◌, inl, inr, List, ℕ, Option, rules}
 use Rattle.std.proofs.KnownBytes.{Keeps-refl}
 use Rattle.std.proofs.lemmas.Result.{err_from_is_err_and}
-use Rattle.per_lines.specs.Lines.{IsLineOf}
-use Rattle.per_lines.specs.declared.fault.Fault.TheVariants as Lines
+use Rattle.line_replies.specs.Lines.{IsLineOf}
+use Rattle.line_replies.specs.declared.fault.Fault.TheVariants as Lines
 use Rattle.show_lines.specs.Ends.{EndsAnswer}
 use Rattle.show_lines.specs.Showing.{IsUnanswered}
 use Rattle.show_lines.specs.declared.arguments.Showing.{Showing}

@@ -1,6 +1,6 @@
 use Rattle.std.proofs.Common.{ℕ, List, ◌++◌, ap, sym, ◌∙◌}
 use Rattle.show_lines.specs.Requests.{layout_words, shown_words}
-use Rattle.show_lines.specs.declared.arguments.Layout.{Layout}
+use Rattle.line_replies.specs.declared.layout.Layout.{Layout}
 use Rattle.show_lines.proofs.arguments.Request.showing.Goals as goal
 
 pub returns : goal.returns

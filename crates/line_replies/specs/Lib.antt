@@ -1,0 +1,5 @@
+pub mod Codecs
+pub mod Faults
+pub mod Layouts
+pub mod Lines
+pub mod Printing

@@ -1,8 +1,0 @@
--- What is gone from `rest` was written.
-use Rattle.std.proofs.Common.{◌≡◌, ℕ, List, ◌++◌}
-use Rattle.std.specs.Io.KnownBytes.{Appends}
-use Rattle.per_lines.proofs.output.write_front.Given as goal
-
-abbrev pub invariant-loop : goal.invariant-loop
-invariant-loop g l = (done : List ℕ) × (l.initial.rest ≡ done ++ l.rest)
-    × Appends (g.W.Write.contents l.initial.output) (g.W.Write.contents l.output) done

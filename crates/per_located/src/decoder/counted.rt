@@ -1,0 +1,46 @@
+//! The calls of a decoder that knows where it stood when it refused, for types that are data.
+
+use crate::decoder::{Located, Positioned};
+use crate::path::Step;
+use crate::trail::RecordFrame;
+use crate::turns::place_among;
+use rasn_schema::items::{ItemCounts, Place};
+use rasn_traits::counted::CountedDecoder;
+use rasn_types::types::Tag;
+
+impl<D: Positioned + CountedDecoder> CountedDecoder for Located<D> {
+    fn decode_item(&mut self, tag: Tag, items: ItemCounts) -> Result<Place, D::Error> {
+        self.trail.begin();
+        let answer = self.inner.decode_item(tag, items);
+        self.seen(answer)
+    }
+
+    fn open_record(
+        &mut self,
+        tag: Tag,
+        presence_bits: usize,
+        additions: Option<usize>,
+    ) -> Result<D::Scope, D::Error> {
+        self.trail.begin();
+        let extended = additions.is_some() && self.inner.is_extended();
+        let answer = self.inner.open_record(tag, presence_bits, additions);
+        self.enter_record(&answer, RecordFrame::counted(extended));
+        self.seen(answer)
+    }
+
+    fn open_alternative(
+        &mut self,
+        tag: Tag,
+        alternatives: ItemCounts,
+    ) -> Result<(Place, D::Alternative), D::Error> {
+        self.trail.begin();
+        let open = self.inner.alternative_ahead(alternatives);
+        let answer = self.inner.open_alternative(tag, alternatives);
+        if let Ok(opened) = &answer {
+            let place = opened.0;
+            let step = Step::Placed(place_among(alternatives, place));
+            self.enter_alternative(step, Some(place), open);
+        }
+        self.seen(answer)
+    }
+}

@@ -1,0 +1,86 @@
+//! The calls of an encoder that knows at which component it refused, for types that are data.
+
+use crate::encoder::Located;
+use crate::path::Step;
+use crate::turns::place_among;
+use crate::write_trail::{Frame, RecordFrame};
+use rasn_schema::items::{ItemCounts, Place};
+use rasn_traits::counted::CountedEncoder;
+use rasn_types::types::{Identifier, Tag};
+
+impl<E: CountedEncoder + Drop> CountedEncoder for Located<E> {
+    type Placed = E::Placed;
+
+    ghost opens_placed = { E.opens_placed };
+
+    fn encode_item(
+        &mut self,
+        tag: Tag,
+        items: ItemCounts,
+        place: Place,
+        identifier: Identifier,
+    ) -> Result<(), E::Error> {
+        self.trail.begin(tag);
+        let answer = self.inner.encode_item(tag, items, place, identifier);
+        self.seen(answer)
+    }
+
+    fn open_record(
+        &mut self,
+        tag: Tag,
+        presence_bits: usize,
+        additions: Option<usize>,
+        identifier: Identifier,
+    ) -> Result<E::Scope, E::Error> {
+        self.trail.begin(tag);
+        let answer = self
+            .inner
+            .open_record(tag, presence_bits, additions, identifier);
+        self.entered(answer, Frame::Record(RecordFrame::counted()))
+    }
+
+    fn close_record(&mut self, scope: E::Scope) -> Result<(), E::Error> {
+        self.trail.pause();
+        let answer = self.inner.close_record(scope);
+        self.left(answer)
+    }
+
+    fn open_alternative(
+        &mut self,
+        tag: Tag,
+        alternatives: ItemCounts,
+        place: Place,
+        identifier: Identifier,
+    ) -> Result<E::Placed, E::Error> {
+        self.trail.begin(tag);
+        let answer = self
+            .inner
+            .open_alternative(tag, alternatives, place, identifier);
+        let step = Step::Placed(place_among(alternatives, place));
+        self.entered(answer, Frame::Alternative(step))
+    }
+
+    fn close_alternative(&mut self, outside: E::Placed) -> Result<(), E::Error> {
+        let answer = self.inner.close_alternative(outside);
+        self.left(answer)
+    }
+
+    fn close_group_of(
+        &mut self,
+        addition: E::Addition,
+        has_required: bool,
+    ) -> Result<(), E::Error> {
+        let answer = self.inner.close_group_of(addition, has_required);
+        self.left_addition(answer)
+    }
+
+    fn refuse_other(&mut self) -> Result<(), E::Error> {
+        let answer = self.inner.refuse_other();
+        self.seen(answer)
+    }
+
+    fn refuse_out_of_memory(&mut self) -> Result<(), E::Error> {
+        let answer = self.inner.refuse_out_of_memory();
+        self.seen(answer)
+    }
+}
