@@ -202,7 +202,8 @@ impl Trail {
         }
     }
 
-    /// Enters an alternative, where the last `left` bits are left, and the open type of one behind the extension marker.
+    /// Enters an alternative, where the last `left` bits are left, and the open type of one behind the extension
+    /// marker.
     pub(crate) fn enter_alternative(&mut self, step: Step, open: Option<OpenAhead>, left: u128) {
         let Some(open) = open else {
             return self.enter(Frame::Alternative(step, None), left);

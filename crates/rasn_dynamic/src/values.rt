@@ -15,8 +15,8 @@ use rasn_types::bit_string::BitString;
 use rasn_types::types::{Any, Integer};
 use std::alloc::Global;
 
-/// A value of any type, or none. Two values are equal where their parts are, in their order: two of a SET OF may be equal
-/// bags and aren't equal here.
+/// A value of any type, or none. Two values are equal where their parts are, in their order: two of a SET OF may be
+/// equal bags and aren't equal here.
 #[derive(PartialEq, Eq, Drop)]
 pub enum Value {
     /// No value: a component that is absent.
