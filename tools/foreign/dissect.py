@@ -11,10 +11,14 @@ from repository import Failure
 # The dissector of each type of a message; of RRC for each protocol too, since both have types of one name.
 DISSECTORS = {
     **dict.fromkeys(("CAM", "DENM", "SPATEM", "MAPEM"), "its"), "NGAP-PDU": "ngap", "S1AP-PDU": "s1ap", "IFPPacket": "t38_udp",
-    "RANAP-PDU": "ranap", "RUA-PDU": "rua", "HNBAP-PDU": "hnbap",
+    "RANAP-PDU": "ranap", "RUA-PDU": "rua", "HNBAP-PDU": "hnbap", "X2AP-PDU": "x2ap", "LPP-Message": "lpp",
     "BCCH-BCH-Message": "lte_rrc.bcch_bch", "PCCH-Message": "lte_rrc.pcch", "SystemInformationBlockType1": "lte_rrc.bcch_dl_sch",
     "RRCConnectionSetupComplete": "lte_rrc.ul_dcch", "lte-rrc UL-CCCH-Message": "lte_rrc.ul_ccch",
+    "lte-rrc UL-DCCH-Message": "lte_rrc.ul_dcch", "lte-rrc DL-DCCH-Message": "lte_rrc.dl_dcch",
+    "lte-rrc BCCH-DL-SCH-Message": "lte_rrc.bcch_dl_sch",
     "nr-rrc UL-CCCH-Message": "nr-rrc.ul.ccch", "RRCSetupComplete": "nr-rrc.ul.dcch",
+    "nr-rrc UL-DCCH-Message": "nr-rrc.ul.dcch", "nr-rrc DL-CCCH-Message": "nr-rrc.dl.ccch",
+    "nr-rrc DL-DCCH-Message": "nr-rrc.dl.dcch", "nr-rrc BCCH-DL-SCH-Message": "nr-rrc.bcch.dl.sch",
 }
 
 

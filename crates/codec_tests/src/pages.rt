@@ -6,5 +6,4 @@ mod defaults;
 mod expected;
 mod forms;
 mod plain;
-mod protocols;
 mod sets;

@@ -1,9 +1,9 @@
 -- Types that go by names.
-use Rattle.std.specs.Prelude.{ℕ, List, [], ◌∷◌}
-use Rattle.rasn_below.specs.Types.{Schema}
+use Rattle.std.specs.Prelude.{ℕ, List, [], codes, ◌∷◌}
+use Rattle.rasn_below.specs.Types.{Schema, sequence_at}
 use Rattle.per_lines.specs.Recoding.{schema_of as sample_schema}
 use Rattle.per_lines.specs.Words.{type_word}
-use Rattle.named_types.specs.Messages.{message_schema, message_word}
+use Rattle.cam.specs.CamPduDescriptions.{cam_lists}
 use Rattle.per_lines.specs.declared.arguments.TypeName.TheVariants.{Boolean, Null, Integer, UpTo65535, FromMinusOne}
 use Rattle.per_lines.specs.declared.arguments.TypeName.TheVariants.{Natural, ZeroTo65536, OneToTenExtensible, Four}
 use Rattle.per_lines.specs.declared.arguments.TypeName.TheVariants.{Seven, OneDefault, ShortVisible, LettersAToE}
@@ -17,16 +17,12 @@ use Rattle.per_lines.specs.declared.arguments.TypeName.TheVariants.{DefaultOuter
 use Rattle.per_lines.specs.declared.arguments.TypeName.TheVariants.{Alternatives, Many, Bag, UtcTime, Connect, Set}
 use Rattle.per_lines.specs.declared.arguments.TypeName.TheVariants.{SetOptional, SetChoice, Date, DatedNest, Spare}
 use Rattle.per_lines.specs.declared.arguments.TypeName.TheVariants.{Pick, Picked, Signals}
-use Rattle.named_types.specs.declared.messages.MessageName.TheVariants.{Cam, Denm, NgapPdu, NgSetupRequest}
-use Rattle.named_types.specs.declared.messages.MessageName.TheVariants.{InitialUeMessage, DownlinkNasTransport}
-use Rattle.named_types.specs.declared.messages.MessageName.TheVariants.{UeContextReleaseCommand, S1ApPdu}
-use Rattle.named_types.specs.declared.messages.MessageName.TheVariants.{S1SetupRequest, BcchBchMessage}
 use Rattle.named_types.specs.declared.types.NamedType.{NamedType}
-use Rattle.named_types.specs.declared.types.NamedType.TheVariants.{Message, Sample}
+use Rattle.named_types.specs.declared.types.NamedType.TheVariants.{Cam, Sample}
 
 abbrev pub word_of : NamedType → List ℕ
 word_of (Sample t) = type_word t
-word_of (Message m) = message_word m
+word_of Cam = codes "CAM"
 
 -- each type at its place, from 0 on
 abbrev pub types : List NamedType
@@ -41,11 +37,9 @@ types =
     Sample DefaultOuter1 ∷ Sample DefaultOuter3 ∷ Sample OneAlternative ∷ Sample TwoAlternatives ∷
     Sample Alternatives ∷ Sample Many ∷ Sample Bag ∷ Sample UtcTime ∷ Sample Connect ∷ Sample Set ∷
     Sample SetOptional ∷ Sample SetChoice ∷ Sample Date ∷ Sample DatedNest ∷ Sample Spare ∷ Sample Pick ∷
-    Sample Picked ∷ Sample Signals ∷ Message Cam ∷ Message Denm ∷ Message NgapPdu ∷ Message NgSetupRequest ∷
-    Message InitialUeMessage ∷ Message DownlinkNasTransport ∷ Message UeContextReleaseCommand ∷ Message S1ApPdu ∷
-    Message S1SetupRequest ∷ Message BcchBchMessage ∷ []
+    Sample Picked ∷ Sample Signals ∷ Cam ∷ []
 
 -- the schema of a type
 abbrev pub schema_of : NamedType → ℕ → Schema
 schema_of (Sample t) = sample_schema t
-schema_of (Message m) = message_schema m
+schema_of Cam = sequence_at cam_lists

@@ -1,5 +1,4 @@
-//! Types that go by names: those that the program over lines knows, and messages of protocols.
+//! Types that go by names: those that the program over lines knows, and a message of a protocol.
 #![tactic(auto)]
 
-pub mod messages;
 pub mod types;

@@ -4,8 +4,7 @@ ghost use Rattle.std.specs.Prelude.{◌≡◌, ◌≢◌, ◌<◌, IfErr, IfNone
 ghost use Rattle.named_types.specs.Types.{schema_of, types, word_of};
 ghost use Rattle.named_types.specs.declared.types.NamedType.{NamedType as a_type};
 
-use crate::messages;
-use crate::messages::MessageName;
+use cam::cam::Cam;
 use per_lines::arguments::TypeName;
 use per_lines::named;
 use per_lines::named::Work;
@@ -16,12 +15,12 @@ use std::alloc::Global;
 pub enum NamedType {
     /// One of `docs/TYPES.md`.
     Sample(TypeName),
-    /// A message of a protocol.
-    Message(MessageName),
+    /// CAM of ETSI EN 302 637-2.
+    Cam,
 }
 
 /// The types, each at its place.
-static TYPES: [NamedType; 69] = [
+static TYPES: [NamedType; 60] = [
     NamedType::Sample(TypeName::Boolean),
     NamedType::Sample(TypeName::Null),
     NamedType::Sample(TypeName::Integer),
@@ -81,20 +80,11 @@ static TYPES: [NamedType; 69] = [
     NamedType::Sample(TypeName::Pick),
     NamedType::Sample(TypeName::Picked),
     NamedType::Sample(TypeName::Signals),
-    NamedType::Message(MessageName::Cam),
-    NamedType::Message(MessageName::Denm),
-    NamedType::Message(MessageName::NgapPdu),
-    NamedType::Message(MessageName::NgSetupRequest),
-    NamedType::Message(MessageName::InitialUeMessage),
-    NamedType::Message(MessageName::DownlinkNasTransport),
-    NamedType::Message(MessageName::UeContextReleaseCommand),
-    NamedType::Message(MessageName::S1ApPdu),
-    NamedType::Message(MessageName::S1SetupRequest),
-    NamedType::Message(MessageName::BcchBchMessage),
+    NamedType::Cam,
 ];
 
 impl NamedType {
-    /// The types, each at its place: those of the program over lines, and messages behind them.
+    /// The types, each at its place: those of the program over lines, and a message behind them.
     pub fn all() -> &'static [NamedType]
         ensures { result.now ≡ types }
     {
@@ -118,7 +108,10 @@ impl NamedType {
     {
         match TypeName::of_word(word) {
             Some(name) => Some(NamedType::Sample(name)),
-            None => MessageName::of_word(word).map(NamedType::Message),
+            None => match word {
+                "CAM" => Some(NamedType::Cam),
+                _ => None,
+            },
         }
     }
 
@@ -129,7 +122,7 @@ impl NamedType {
     {
         match self {
             NamedType::Sample(name) => name.word(),
-            NamedType::Message(name) => name.word(),
+            NamedType::Cam => "CAM",
         }
     }
 }
@@ -141,6 +134,6 @@ pub fn done<W: Work>(alloc: Global, name: NamedType, work: &W) -> Result<Vec<u8>
 {
     match name {
         NamedType::Sample(name) => named::done(alloc, name, work),
-        NamedType::Message(name) => messages::done(alloc, name, work),
+        NamedType::Cam => work.done_as::<Cam>(alloc),
     }
 }

@@ -7,7 +7,8 @@
  *
  * Of a caller:
  * - A pointer with a count points to so many octets that nothing else changes during the call; with a count of 0 it may
- *   be NULL. A count is at most PTRDIFF_MAX. What a call writes to overlaps nothing else that it is given.
+ *   be NULL, and nothing is read there or written. A count is at most PTRDIFF_MAX. Each other pointer leads to what it
+ *   is declared to. What a call writes to overlaps nothing else that it is given.
  * - Calls take memory by `malloc` and `realloc`, those of the C library, and give all of it back by `free` before they
  *   return. Where memory runs out, they answer PER_OUT_OF_MEMORY.
  * - Calls keep no state, so several threads may make them at once; but no signal handler may, nor the forked child of a
@@ -79,8 +80,35 @@ enum per_refusal {
     PER_JSON_VARIANT_NOT_IN_CHOICE = 37, /* A tag is none of an alternative's. */
     PER_JSON_ALREADY_FAILED = 38, /* The encoder had refused before. */
     PER_JSON_OUT_OF_TURN = 39, /* A part was presented out of turn. */
-    PER_ENCODE_WRONG_KIND = 40 /* A value is of another kind than its type. */
+    PER_ENCODE_WRONG_KIND = 40, /* A value is of another kind than its type. */
+
+    /* Of tables of types. */
+    PER_NO_TYPES = 41, /* The handle holds no table: none was loaded, or it was freed. */
+    PER_ALREADY_LOADED = 42, /* The handle holds a table already. */
+    PER_BAD_SCHEMA = 43, /* The text is no schema file. */
+    PER_OTHER_TYPE = 44, /* An open type has a value of another type than its object set tells. */
+
+    /* A text is no JSON of a value of the type. */
+    PER_FROM_JSON_NOT_JSON = 45, /* It is no JSON in UTF-8, or nests more than 128 arrays and objects. */
+    PER_FROM_JSON_DUPLICATE_MEMBER = 46, /* An object has two members of one name. */
+    PER_FROM_JSON_UNKNOWN_MEMBER = 47, /* An object has a member that its type doesn't have. */
+    PER_FROM_JSON_MISSING_MEMBER = 48, /* An object lacks a member that has to be there. */
+    PER_FROM_JSON_UNKNOWN_ITEM = 49, /* A string isn't the name of an item of the type. */
+    PER_FROM_JSON_UNKNOWN_ALTERNATIVE = 50, /* The member of an object isn't an alternative of the type. */
+    PER_FROM_JSON_WRONG_KIND = 51, /* The JSON is of another kind than the type asks for. */
+    PER_FROM_JSON_BAD_NUMBER = 52, /* A number isn't whole, is past 128 bits, or doesn't fit the digits beside it. */
+    PER_FROM_JSON_BAD_HEXADECIMAL = 53, /* A string isn't the hexadecimal digits of octets. */
+    PER_FROM_JSON_BAD_CHARACTER = 54, /* A string has a character that its type can't have. */
+    PER_FROM_JSON_BAD_TIME = 55, /* A string isn't the canonical text of a time. */
+    PER_FROM_JSON_NO_TYPE = 56, /* No type stands at the place. */
+    PER_FROM_JSON_BAD_IDENTIFIER = 57 /* A string isn't the arcs of an object, such as `1.2.840`. */
 };
+
+/** How many codes there are, PER_OK among them. */
+#define PER_REFUSALS 58
+
+/** The version of these declarations. A later one may add to them, and changes none. */
+#define PER_VERSION 1
 
 /** The types, as docs/TYPES.md describes them. A later version may add types behind these, and changes none. */
 enum per_type {
@@ -143,20 +171,11 @@ enum per_type {
     PER_TYPE_PICK = 56,
     PER_TYPE_PICKED = 57,
     PER_TYPE_SIGNALS = 58,
-    PER_TYPE_CAM = 59,
-    PER_TYPE_DENM = 60,
-    PER_TYPE_NGAP_PDU = 61,
-    PER_TYPE_NGSETUPREQUEST = 62,
-    PER_TYPE_INITIALUEMESSAGE = 63,
-    PER_TYPE_DOWNLINKNASTRANSPORT = 64,
-    PER_TYPE_UECONTEXTRELEASECOMMAND = 65,
-    PER_TYPE_S1AP_PDU = 66,
-    PER_TYPE_S1SETUPREQUEST = 67,
-    PER_TYPE_BCCH_BCH_MESSAGE = 68
+    PER_TYPE_CAM = 59
 };
 
 /** How many types there are. */
-#define PER_TYPES 69
+#define PER_TYPES 60
 
 /** A text of at most 31 octets, with zeros behind it. */
 struct per_name {
@@ -195,6 +214,69 @@ uint32_t per_recode(uint32_t options, uint32_t type, const uint8_t *octets, size
  */
 uint32_t per_json(uint32_t options, uint32_t type, const uint8_t *octets, size_t count, uint8_t *out, size_t capacity,
                   size_t *written);
+
+/**
+ * A handle of a table of types, which `per_load` makes of a schema file (docs/SCHEMA-FILE.md), or of none: begin with
+ * `struct per_types types = PER_EMPTY_HANDLE;`. Its members are the library's. It isn't copied, one call at a time uses
+ * it, and calls that use it one after another are ordered (by a lock, or a thread's start or end). Several threads use
+ * one table at once by a handle for each, from `per_share`. What a call needs beside the table is its own memory.
+ */
+struct per_types {
+    void *table;
+    uint8_t is_loaded;
+};
+#define PER_EMPTY_HANDLE {NULL, 0}
+
+/**
+ * Loads the table of a schema file's text of `length` octets into a handle that holds none.
+ *
+ * Returns PER_OK; PER_BAD_SCHEMA, with the number of the line that is wrong in `*line`, from 1; PER_ALREADY_LOADED; or
+ * PER_OUT_OF_MEMORY. In other cases than the second 0 is in `*line`. Where it doesn't return PER_OK, the handle stays.
+ */
+uint32_t per_load(const uint8_t *text, size_t length, struct per_types *types, size_t *line);
+
+/** Takes the table from a handle, which then holds none, and gives its memory back where no other handle has it. */
+void per_free(struct per_types *types);
+
+/** Gives the table of a handle to `*other` too, which holds none. Returns PER_OK, PER_NO_TYPES, PER_ALREADY_LOADED or
+ * PER_OUT_OF_MEMORY. */
+uint32_t per_share(struct per_types *types, struct per_types *other);
+
+/**
+ * The place of the type with a name of `length` octets, as "NGAP-PDU-Descriptions.NGAP-PDU", in `*place`.
+ *
+ * Returns PER_OK, PER_NO_TYPES, or PER_UNKNOWN_TYPE, and then leaves `*place`.
+ */
+uint32_t per_find(struct per_types *types, const uint8_t *name, size_t length, size_t *place);
+
+/**
+ * `per_check` and `per_recode` of the type at a place of a table. `options` is PER_UNALIGNED or PER_ALIGNED, else the
+ * code is PER_UNKNOWN_OPTIONS; PER_NO_TYPES is another code.
+ */
+uint32_t per_check_by(struct per_types *types, uint32_t options, size_t place, const uint8_t *octets, size_t count);
+uint32_t per_recode_by(struct per_types *types, uint32_t options, size_t place, const uint8_t *octets, size_t count,
+                       uint8_t *out, size_t capacity, size_t *written);
+
+/**
+ * How many of `count` octets the encoding has that they begin with, of one value of the type at a place of a table, in
+ * `*size`. The other calls take these octets; the next value may begin behind them.
+ *
+ * Returns PER_OK, or the code of a refusal, as `per_check_by` answers it, and then 0 is in `*size`.
+ */
+uint32_t per_first_length(struct per_types *types, uint32_t options, size_t place, const uint8_t *octets, size_t count,
+                          size_t *size);
+
+/**
+ * The JSON text (X.697) of the value of the type at a place of a table that octets spell: in UTF-8, without spaces, and
+ * with no zero behind it. Where an object set tells the type of an open type, and its octets are an encoding of one, it
+ * has that value, else the octets. Answers, and is put in `out`, as by `per_json`.
+ */
+uint32_t per_to_json(struct per_types *types, uint32_t options, size_t place, const uint8_t *octets, size_t count,
+                     uint8_t *out, size_t capacity, size_t *written);
+
+/** The canonical encoding of the value of the type at a place that a text of JSON tells, put as by `per_recode`. */
+uint32_t per_from_json(struct per_types *types, uint32_t options, size_t place, const uint8_t *text, size_t length,
+                       uint8_t *out, size_t capacity, size_t *written);
 
 /** The word that names a type in docs/TYPES.md, by its number, as "integer"; empty where there is no such type. */
 struct per_name per_type_name(uint32_t type);

@@ -10,6 +10,10 @@ use Rattle.per_write.specs.declared.error.EncodeErrorKind.{EncodeErrorKind}
 use Rattle.per_write.specs.declared.error.EncodeErrorKind.TheVariants as Encoding
 use Rattle.per_c.specs.declared.refusal.Refusal.{Refusal}
 use Rattle.per_c.specs.declared.refusal.Refusal.TheVariants.{OutOfMemory, UnknownOptions, UnknownType, NoRoom, Decode, Encode, Json}
+use Rattle.per_c.specs.declared.refusal.Refusal.TheVariants.{AlreadyLoaded, BadSchema, FromJson, NoTypes, OtherType}
+use Rattle.per_messages.specs.Errors.{from_json_name}
+use Rattle.rasn_dynamic_jer.specs.declared.from_json_error.FromJsonError.{FromJsonError}
+use Rattle.rasn_dynamic_jer.specs.declared.from_json_error.FromJsonError.TheVariants as Told
 use Rattle.rasn_jer.specs.Names.{name_of as json_name}
 use Rattle.rasn_jer.specs.declared.error.EncodeError.{EncodeError}
 use Rattle.rasn_jer.specs.declared.error.EncodeError.TheVariants as Showing
@@ -69,6 +73,25 @@ json_is_short Showing.OutOfTurn = refl
 pub json_short : (e : EncodeError) → length (json_name e) < 32
 json_short e = ltb-true (length (json_name e)) 32 (json_is_short e)
 
+from_json_is_short : (e : FromJsonError) → nat_lt (length (from_json_name e)) 32 ≡ true
+from_json_is_short Told.OutOfMemory = refl
+from_json_is_short Told.NotJson = refl
+from_json_is_short Told.DuplicateMember = refl
+from_json_is_short Told.UnknownMember = refl
+from_json_is_short Told.MissingMember = refl
+from_json_is_short Told.UnknownItem = refl
+from_json_is_short Told.UnknownAlternative = refl
+from_json_is_short Told.WrongKind = refl
+from_json_is_short Told.BadNumber = refl
+from_json_is_short Told.BadHexadecimal = refl
+from_json_is_short Told.BadCharacter = refl
+from_json_is_short Told.BadTime = refl
+from_json_is_short Told.NoType = refl
+from_json_is_short Told.BadIdentifier = refl
+
+pub from_json_short : (e : FromJsonError) → length (from_json_name e) < 32
+from_json_short e = ltb-true (length (from_json_name e)) 32 (from_json_is_short e)
+
 -- what is put is what was answered
 pub put_as : {T : Type 0} (items : T → List ℕ) (are : List ℕ → Type 0) (r : Result T Refusal) (before after : List ℕ) (written : ℕ)
     → IfOk r (λ t. are (items t)) → IsAnswerPut items r before after written → Puts are before after written
@@ -84,6 +107,11 @@ unput are refused room written NoRoom n h w = absurd (n h)
 unput are refused room written (Decode k) n h w = (h, w)
 unput are refused room written (Encode k) n h w = (h, w)
 unput are refused room written (Json e) n h w = (h, w)
+unput are refused room written NoTypes n h w = (h, w)
+unput are refused room written AlreadyLoaded n h w = (h, w)
+unput are refused room written BadSchema n h w = (h, w)
+unput are refused room written OtherType n h w = (h, w)
+unput are refused room written (FromJson e) n h w = (h, w)
 
 -- and what isn't put lacks room or was refused
 pub unput_by : {T : Type 0} (items : T → List ℕ) (are : List ℕ → Type 0) (refused : Refusal → Type 0) (r : Result T Refusal) (room written code : ℕ)

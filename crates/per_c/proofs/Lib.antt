@@ -1,1 +1,4 @@
 pub mod Codes
+mod Crosses
+mod Held
+mod Values

@@ -44,7 +44,7 @@ IsRefused options number octets UnknownType = slice_get types number ≡ None
 IsRefused options number octets NoRoom = ⊥
 IsRefused options number octets (Decode kind) = AreFaulty options number octets (Faults.Decode kind)
 IsRefused options number octets (Encode kind) = AreFaulty options number octets (Faults.Encode kind)
-IsRefused options number octets (Json e) = ⊥
+IsRefused options number octets _ = ⊥
 
 -- the code is that of a refusal that stands
 abbrev pub IsRefusedBy : ℕ → ℕ → List ℕ → ℕ → Type 0

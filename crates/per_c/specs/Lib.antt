@@ -1,3 +1,5 @@
 pub mod Numbers
 pub mod Answers
+pub mod Handles
 pub mod Shown
+pub mod Tables

@@ -14,6 +14,12 @@ use Rattle.per_write.specs.declared.error.EncodeErrorKind.TheVariants as Encodin
 use Rattle.per_c.specs.declared.refusal.Refusal.{Refusal}
 use Rattle.per_c.specs.declared.refusal.Refusal.TheVariants.{OutOfMemory, UnknownOptions, UnknownType, NoRoom}
 use Rattle.per_c.specs.declared.refusal.Refusal.TheVariants.{Decode, Encode, Json}
+use Rattle.per_c.specs.declared.refusal.Refusal.TheVariants.{AlreadyLoaded, BadSchema, FromJson, NoTypes, OtherType}
+use Rattle.per_messages.specs.Errors.{from_json_name}
+use Rattle.per_messages.specs.declared.error.MessageError.{MessageError}
+use Rattle.per_messages.specs.declared.error.MessageError.TheVariants as Messages
+use Rattle.rasn_dynamic_jer.specs.declared.from_json_error.FromJsonError.{FromJsonError}
+use Rattle.rasn_dynamic_jer.specs.declared.from_json_error.FromJsonError.TheVariants as Told
 use Rattle.rasn_jer.specs.Names.{name_of as json_name}
 use Rattle.rasn_jer.specs.declared.error.EncodeError.{EncodeError}
 use Rattle.rasn_jer.specs.declared.error.EncodeError.TheVariants as Showing
@@ -73,6 +79,23 @@ json_code Showing.VariantNotInChoice = 37
 json_code Showing.AlreadyFailed = 38
 json_code Showing.OutOfTurn = 39
 
+-- where JSON tells no value
+abbrev pub from_json_code : FromJsonError → ℕ
+from_json_code Told.OutOfMemory = 1
+from_json_code Told.NotJson = 45
+from_json_code Told.DuplicateMember = 46
+from_json_code Told.UnknownMember = 47
+from_json_code Told.MissingMember = 48
+from_json_code Told.UnknownItem = 49
+from_json_code Told.UnknownAlternative = 50
+from_json_code Told.WrongKind = 51
+from_json_code Told.BadNumber = 52
+from_json_code Told.BadHexadecimal = 53
+from_json_code Told.BadCharacter = 54
+from_json_code Told.BadTime = 55
+from_json_code Told.NoType = 56
+from_json_code Told.BadIdentifier = 57
+
 -- the code of a refusal, from 1 on
 abbrev pub code_of : Refusal → ℕ
 code_of OutOfMemory = 1
@@ -82,9 +105,14 @@ code_of NoRoom = 4
 code_of (Decode kind) = decode_code kind
 code_of (Encode kind) = encode_code kind
 code_of (Json e) = json_code e
+code_of NoTypes = 41
+code_of AlreadyLoaded = 42
+code_of BadSchema = 43
+code_of OtherType = 44
+code_of (FromJson e) = from_json_code e
 
 abbrev pub last_code : ℕ
-last_code = 40
+last_code = 57
 
 -- its name, as the program prints a kind's
 abbrev pub name_of : Refusal → List ℕ
@@ -95,12 +123,26 @@ name_of NoRoom = codes "NoRoom"
 name_of (Decode kind) = decode_name kind
 name_of (Encode kind) = encode_name kind
 name_of (Json e) = json_name e
+name_of NoTypes = codes "NoTypes"
+name_of AlreadyLoaded = codes "AlreadyLoaded"
+name_of BadSchema = codes "BadSchema"
+name_of OtherType = codes "OtherType"
+name_of (FromJson e) = from_json_name e
 
 -- the refusal of a fault; no others are faults of octets
 abbrev pub refusal_of : Fault → Refusal
 refusal_of (Faults.Decode kind) = Decode kind
 refusal_of (Faults.Encode kind) = Encode kind
 refusal_of _ = OutOfMemory
+
+-- the refusal of a message by a table of types
+abbrev pub message_refusal : MessageError → Refusal
+message_refusal (Messages.Decode kind) = Decode kind
+message_refusal (Messages.Encode kind) = Encode kind
+message_refusal Messages.NoJson = Json Showing.NoJson
+message_refusal Messages.OtherType = OtherType
+message_refusal (Messages.FromJson e) = FromJson e
+message_refusal Messages.OutOfMemory = OutOfMemory
 
 -- a name as C has it: zeros behind it, 32 octets in all
 abbrev pub in_c : List ℕ → List ℕ

@@ -68,7 +68,11 @@ pub extern "C" fn per_json(
 }
 
 /// Puts an answer in `out`, if it fits, and how many octets it has in `written`. Answers 0, or the code of a refusal.
-fn put_answer(answer: Result<Vec<u8>, Refusal>, out: &mut [u8], written: &mut usize) -> u32
+pub(crate) fn put_answer(
+    answer: Result<Vec<u8>, Refusal>,
+    out: &mut [u8],
+    written: &mut usize,
+) -> u32
     ensures answered { result ≡ 0 → IsAnswerPut (λ octets. octets.items) answer out.old out.new written.new }
     ensures refused { result ≢ 0 →
         IsAnswerUnput (λ octets. octets.items) answer (length out.old) written.new result }

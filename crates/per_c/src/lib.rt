@@ -3,7 +3,11 @@
 
 pub mod answer;
 pub mod calls;
+pub mod handle;
 pub mod json;
+pub mod loose;
 pub mod name;
 pub mod refusal;
 pub mod request;
+pub mod table_calls;
+pub mod tables;

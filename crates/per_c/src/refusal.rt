@@ -1,18 +1,23 @@
 //! Why a call has no answer, and the codes that tell it.
 
 ghost use Rattle.std.specs.Prelude.{◌≡◌, ◌<◌, IsSomeAnd, None, length};
-ghost use Rattle.per_c.specs.Numbers.{code_of, last_code, decode_code, encode_code, json_code, name_of, refusal_of};
+ghost use Rattle.per_c.specs.Numbers.{code_of, last_code, decode_code, encode_code, from_json_code, json_code};
+ghost use Rattle.per_c.specs.Numbers.{message_refusal, name_of, refusal_of};
+ghost use Rattle.per_messages.specs.Errors.{from_json_name};
 ghost use Rattle.per_c.specs.declared.refusal.Refusal.{Refusal as a_refusal};
 ghost use Rattle.per_c.specs.declared.refusal.Refusal.TheVariants.{Decode as decode_refusal, Encode as encode_refusal};
 ghost use Rattle.per_c.specs.declared.refusal.Refusal.TheVariants.{Json as json_refusal};
 ghost use Rattle.per_read.specs.declared.error.DecodeErrorKind.{DecodeErrorKind as a_decode_kind};
 ghost use Rattle.per_write.specs.declared.error.EncodeErrorKind.{EncodeErrorKind as an_encode_kind};
+ghost use Rattle.rasn_dynamic_jer.specs.declared.from_json_error.FromJsonError.{FromJsonError as a_from_json_error};
 
 use line_replies::fault::Fault;
 use per_errors::bounds::OutOfBounds;
 use per_errors::count::Count;
 use per_errors::sizes::OutOfSize;
+use per_messages::error::{MessageError, from_json_name};
 use rasn_below::types::Tag;
+use rasn_dynamic_jer::from_json_error::FromJsonError;
 use rasn_jer::EncodeError as JsonError;
 use rasn_per::uper::{DecodeError, DecodeErrorKind, EncodeErrorKind, ParserFailCause};
 
@@ -33,6 +38,16 @@ pub enum Refusal {
     Encode(EncodeErrorKind),
     /// The value has no JSON.
     Json(JsonError),
+    /// The handle holds no table of types.
+    NoTypes,
+    /// The handle holds a table already.
+    AlreadyLoaded,
+    /// The text is no schema file.
+    BadSchema,
+    /// An open type has a value of another type than its object set tells.
+    OtherType,
+    /// The text is no JSON of a value of the type.
+    FromJson(FromJsonError),
 }
 
 impl Refusal {
@@ -55,6 +70,11 @@ impl Refusal {
             38 => Some(Refusal::Json(JsonError::AlreadyFailed)),
             39 => Some(Refusal::Json(JsonError::OutOfTurn)),
             40 => Some(Refusal::Encode(EncodeErrorKind::WrongKind)),
+            41 => Some(Refusal::NoTypes),
+            42 => Some(Refusal::AlreadyLoaded),
+            43 => Some(Refusal::BadSchema),
+            44 => Some(Refusal::OtherType),
+            45..=57 => Some(Refusal::FromJson(from_json_error(code))),
             _ => None,
         }
     }
@@ -72,6 +92,11 @@ impl Refusal {
             Refusal::Decode(kind) => decode_code(kind),
             Refusal::Encode(kind) => encode_code(kind),
             Refusal::Json(error) => json_code(error),
+            Refusal::NoTypes => 41,
+            Refusal::AlreadyLoaded => 42,
+            Refusal::BadSchema => 43,
+            Refusal::OtherType => 44,
+            Refusal::FromJson(error) => from_json_code(error),
         }
     }
 
@@ -89,6 +114,11 @@ impl Refusal {
             Refusal::Decode(kind) => kind.name(),
             Refusal::Encode(kind) => kind.name(),
             Refusal::Json(error) => json_name(error),
+            Refusal::NoTypes => "NoTypes",
+            Refusal::AlreadyLoaded => "AlreadyLoaded",
+            Refusal::BadSchema => "BadSchema",
+            Refusal::OtherType => "OtherType",
+            Refusal::FromJson(error) => told_name(*error),
         }
     }
 }
@@ -226,6 +256,75 @@ fn json_name(error: &JsonError) -> &'static str
     ensures short { length result.now < 32 }
 {
     error.name()
+}
+
+/// The code of why JSON tells no value.
+fn from_json_code(error: &FromJsonError) -> u32
+    ensures code { result ≡ from_json_code error.now }
+    ensures some { 0 < result }
+{
+    match error {
+        FromJsonError::OutOfMemory => 1,
+        FromJsonError::NotJson => 45,
+        FromJsonError::DuplicateMember => 46,
+        FromJsonError::UnknownMember => 47,
+        FromJsonError::MissingMember => 48,
+        FromJsonError::UnknownItem => 49,
+        FromJsonError::UnknownAlternative => 50,
+        FromJsonError::WrongKind => 51,
+        FromJsonError::BadNumber => 52,
+        FromJsonError::BadHexadecimal => 53,
+        FromJsonError::BadCharacter => 54,
+        FromJsonError::BadTime => 55,
+        FromJsonError::NoType => 56,
+        FromJsonError::BadIdentifier => 57,
+    }
+}
+
+/// Why JSON tells no value, where a code says that.
+fn from_json_error(code: u32) -> FromJsonError
+    ensures { (error : a_from_json_error) → code ≡ from_json_code error → from_json_name result ≡ from_json_name error }
+{
+    match code {
+        45 => FromJsonError::NotJson,
+        46 => FromJsonError::DuplicateMember,
+        47 => FromJsonError::UnknownMember,
+        48 => FromJsonError::MissingMember,
+        49 => FromJsonError::UnknownItem,
+        50 => FromJsonError::UnknownAlternative,
+        51 => FromJsonError::WrongKind,
+        52 => FromJsonError::BadNumber,
+        53 => FromJsonError::BadHexadecimal,
+        54 => FromJsonError::BadCharacter,
+        55 => FromJsonError::BadTime,
+        56 => FromJsonError::NoType,
+        57 => FromJsonError::BadIdentifier,
+        _ => FromJsonError::OutOfMemory,
+    }
+}
+
+/// The name of why JSON tells no value.
+#[tactic(auto, using(crate::proofs::Codes::from_json_short))]
+fn told_name(error: FromJsonError) -> &'static str
+    ensures name { result.now ≡ from_json_name error }
+    ensures short { length result.now < 32 }
+{
+    from_json_name(error)
+}
+
+impl From<MessageError> for Refusal {
+    ghost from_gives = { λ error refusal. refusal ≡ message_refusal error };
+
+    fn from(error: MessageError) -> Refusal {
+        match error {
+            MessageError::Decode(kind) => Refusal::Decode(kind),
+            MessageError::Encode(kind) => Refusal::Encode(kind),
+            MessageError::NoJson => Refusal::Json(JsonError::NoJson),
+            MessageError::OtherType => Refusal::OtherType,
+            MessageError::FromJson(error) => Refusal::FromJson(error),
+            MessageError::OutOfMemory => Refusal::OutOfMemory,
+        }
+    }
 }
 
 impl From<DecodeError> for Refusal {

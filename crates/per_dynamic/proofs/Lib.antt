@@ -1,2 +1,3 @@
+pub mod OneSchema
 pub mod Tables
 pub mod Taking

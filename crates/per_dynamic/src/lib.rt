@@ -2,8 +2,10 @@
 //! a table to octets and back. What `rasn_per` promises of a type of Rust, these calls promise of each type of a table.
 #![tactic(auto)]
 
+pub mod alike;
 pub mod aper;
 pub mod codecs;
+pub mod located;
 pub mod open_types;
 mod rows;
 pub mod table;

@@ -1,11 +1,15 @@
 //! Reads a value of a type in hexadecimal and prints it as JSON (X.697).
 //!
-//! `per_show (aper|uper) TYPE` reads the first line of its standard input. With `lines` behind the type it replies to
-//! every line: by the JSON, or by `! `, why there is none, and where. With `--pretty` at the end the JSON is indented.
-//! `per_show --help` names the types.
+//! `per_show --schema FILE (aper|uper) TYPE` takes the type from a schema file (`docs/SCHEMA-FILE.md`), and without a
+//! file from those that are built in. It reads the first line of its standard input. With `lines` behind the type it
+//! replies to every line: by the JSON, or by `! `, why there is none, and where. With `--pretty` at the end the JSON is
+//! indented.
+//! `per_show --help` names the types that are built in, and `per_show -h` the words with a schema file.
 #![tactic(auto)]
 
 use line_replies::fault;
+use message_lines::program::run_words;
+use message_lines::request::Program;
 use show_lines::fault::Fault;
 use show_lines::run::run;
 use std::alloc::AllocError;
@@ -17,9 +21,12 @@ use std::process::ExitCode;
 fn main(rt: HostRuntime) -> ExitCode {
     let mut faults = rt.stderr();
     let status = match words(&rt) {
+        Ok(words) if has_schema(words.as_slice()) => {
+            run_words(&rt, Program::Show, words.as_slice())
+        }
         Ok(words) => run(
             rt.alloc(),
-            words.as_slice(),
+            behind_name(words.as_slice()),
             &mut rt.reader(),
             &mut rt.stdout(),
             &mut faults,
@@ -29,7 +36,23 @@ fn main(rt: HostRuntime) -> ExitCode {
     ExitCode::from(status)
 }
 
-/// The words after the program's name. Words that are no text are wrong arguments.
+/// Whether a schema file is named, or words ask for what is said where one is.
+fn has_schema(words: &[String]) -> bool {
+    words.iter().any(|word| {
+        let word = word.as_str();
+        matches!(word, "--schema" | "-h" | "--version") || word.starts_with("--schema=")
+    })
+}
+
+/// The words after the program's name.
+fn behind_name(words: &[String]) -> &[String] {
+    match words {
+        [_, behind @ ..] => behind,
+        [] => words,
+    }
+}
+
+/// The program's name and the words after it. Words that are no text are wrong arguments.
 fn words(rt: &(impl Env + AllocGlobal)) -> Result<Vec<String>, Fault> {
     let all = env::args(rt).map_err(|error| fault::Fault::of_io(
         &error,
@@ -37,7 +60,7 @@ fn words(rt: &(impl Env + AllocGlobal)) -> Result<Vec<String>, Fault> {
     ))?;
     // Not `collect`, which goes on where the room that it asks for at first is refused.
     let mut words = Vec::new(rt.alloc());
-    for word in all.skip(1) {
+    for word in all {
         words.push(word).map_err(AllocError::from)?;
     }
     Ok(words)

@@ -1,2 +1,2 @@
+mod Refused
 mod Requests
-mod Unmade

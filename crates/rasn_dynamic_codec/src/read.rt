@@ -27,6 +27,7 @@ use rasn_dynamic::values::Value;
 use rasn_schema::items::Place;
 use rasn_traits::counted::CountedDecoder;
 use rasn_types::types::Tag;
+use std::alloc::Global;
 
 /// Reads a value of the type at a place of a table. Where nothing stands there it refuses.
 #[cycle(reading)]
@@ -211,7 +212,7 @@ fn decode_components<D: CountedDecoder>(
 ) -> Result<Vec<Value>, D::Error>
     ensures { TakesRoot D.rules (parts_at in_root kinds.now components.now) decoder.old result decoder.new }
 {
-    let mut values = Vec::new(decoder.alloc());
+    let mut values = room_for(decoder.alloc(), components.len());
     for component in components {
         let value = decode_component(decoder, kinds, component)?;
         if !push_value(&mut values, value) {
@@ -219,6 +220,16 @@ fn decode_components<D: CountedDecoder>(
         }
     }
     Ok(values)
+}
+
+/// A list with room for so many values; without where memory ran out, which the values then tell.
+#[inline(always)]
+fn room_for(alloc: Global, count: usize) -> Vec<Value>
+    ensures { result.items ≡ [] }
+{
+    let mut values = Vec::new(alloc);
+    drop(values.reserve(count));
+    values
 }
 
 /// Reads a root component: one that may be absent by its presence bit, and its value behind a bit 1.
@@ -356,7 +367,7 @@ fn decode_additions<D: CountedDecoder>(
     ensures { TakesAdditions D.rules (parts_at (grouped kinds.now) kinds.now components.now)
         (λ xs. map slot_of xs.items) decoder.old result decoder.new }
 {
-    let mut values = Vec::new(decoder.alloc());
+    let mut values = room_for(decoder.alloc(), components.len());
     for component in components {
         let value = decode_addition(decoder, kinds, component)?;
         if !push_value(&mut values, value) {

@@ -2,7 +2,9 @@
 use Rattle.std.proofs.Common.{◌≡◌, ◌≢◌, refl, sym, ap, ◌∙◌, subst, ℕ, zero, suc, ◌+◌, ◌-◌, ◌*◌, ◌/◌, ◌%◌, ◌^◌, ◌<◌, ◌≤◌, ◌⊎◌, inl, inr, Bool, true, false, cond, ◌&&◌, ◌||◌, eqb, ltb, List, [], ◌∷◌, ◌++◌, length, drop, Option, Some, None, option_map, get_or, arith, append_assoc, lt-ltb}
 use Rattle.std.specs.Prelude.{nat_lt}
 use Rattle.std.specs.Option.{option_and_then}
-use Rattle.std.proofs.lemmas.Bool.{ne_eqb, le-ltb}
+use Rattle.std.specs.Str.{bytes_eq}
+use Rattle.std.proofs.lemmas.Bool.{and_from, ne_eqb, le-ltb}
+use Rattle.std.proofs.lemmas.Slice.Eq.{bytes_eq-Decides}
 use Rattle.std.proofs.lemmas.List.{drop_all, drop_more}
 use borrow.Author.Tests.{ltb-true}
 use Rattle.rasn_types.specs.Contents.{is_identifier}
@@ -78,7 +80,7 @@ arcs_back (x ∷ []) h = absurd cc
 arcs_back (x ∷ y ∷ zs) h = ap arcs_in (written x y zs h) ∙ ap arcs_of (all ((40 * x + y) ∷ zs)) ∙ two x y zs h
 
 -- contents octets are those of arcs
-lawful : (arcs os : List ℕ) → contents arcs ≡ os → is_identifier os ≡ true → are_arcs arcs ≡ true
+pub lawful : (arcs os : List ℕ) → contents arcs ≡ os → is_identifier os ≡ true → are_arcs arcs ≡ true
 unfolding contents is_identifier
 lawful [] os e h = absurd cc
 lawful (x ∷ []) os e h = absurd cc
@@ -89,7 +91,11 @@ lawful (x ∷ y ∷ zs) os e h = decided (are_arcs (x ∷ y ∷ zs)) refl
     decided false f = let n : contents (x ∷ y ∷ zs) ≡ [] = rw f refl in absurd cc
 
 pub identifier_known : (arcs os : List ℕ) → contents arcs ≡ os → is_identifier os ≡ true → identifier_json os ≡ Some (string (dotted arcs))
-identifier_known arcs os e h = rw h (ap (λ ns. Some (string (dotted ns))) (ap arcs_in (sym e) ∙ arcs_back arcs (lawful arcs os e h)))
+identifier_known arcs os e h =
+    let f : arcs_in os ≡ arcs = ap arcs_in (sym e) ∙ arcs_back arcs (lawful arcs os e h) in
+    let same : bytes_eq (contents (arcs_in os)) os ≡ true = ap (λ ns. bytes_eq (contents ns) os) f ∙ ap (λ ns. bytes_eq ns os) e ∙ (bytes_eq-Decides os os).1 refl in
+    ap (λ (b : Bool). cond b (Some (string (dotted (arcs_in os)))) None) (and_from (is_identifier os) (bytes_eq (contents (arcs_in os)) os) h same)
+    ∙ ap (λ ns. Some (string (dotted ns))) f
 
 -- ---- the numbers that characters spell
 

@@ -13,7 +13,8 @@ use Rattle.rasn_dynamic.specs.declared.values.Value.TheVariants
 use Rattle.rasn_dynamic.specs.declared.values.Value.TheVariants.{rolls-Date}
 use Rattle.rasn_dynamic.specs.Values.{slot_of, slot_step}
 use Rattle.rasn_jer.specs.Strings.{day_text}
-use Rattle.rasn_dynamic_jer.specs.Days.{date_told, day_shown, month_shown, ShowsDay, year_shown}
+use Rattle.json.specs.Json.{string}
+use Rattle.rasn_dynamic_jer.specs.Days.{date_json, date_told, day_shown, month_shown, ShowsDay, year_shown}
 
 -- what a day stands for
 pub date_slot : (d : Date) → slot_of (TheVariants.Date d) ≡ Some (date_value d)
@@ -25,6 +26,13 @@ day_same y m n d h = ap (λ x. day_text x m n) (sym h.year_is) ∙ ap (λ x. day
 
 value_same : (y : ℤ) (m n : ℕ) (d : Date) → IsDay y m n d → day y m n ≡ date_value d
 value_same y m n d h = ap (λ x. day x m n) (sym h.year_is) ∙ ap (λ x. day d.year x n) (sym h.month_is) ∙ ap (λ x. day d.year d.month x) (sym h.day_is)
+
+pub day_lawful : (y : ℤ) (m n : ℕ) (d : Date) → IsDay y m n d → is_date y m n ≡ true → is_date d.year d.month d.day ≡ true
+day_lawful y m n d h e =
+    ap (λ x. is_date x d.month d.day) h.year_is ∙ ap (λ x. is_date y x d.day) h.month_is ∙ ap (λ x. is_date y m x) h.day_is ∙ e
+
+pub day_there : (d : Date) → is_date d.year d.month d.day ≡ true → date_json d ≡ Some (string (day_text d.year d.month d.day))
+day_there d e = ap (λ b. cond b (Some (string (day_text d.year d.month d.day))) None) e
 
 pub told_date : (s : List ℕ) (d : Date) → ShowsDay s d
     → pointwise nat_eq (day_text d.year d.month d.day) s ≡ true → option_map Some (date_told s) ≡ Some (slot_of (TheVariants.Date d))

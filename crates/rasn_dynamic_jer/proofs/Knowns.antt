@@ -2,7 +2,7 @@
 use Rattle.std.proofs.Common.{◌≡◌, refl, sym, ap, ap₂, ◌∙◌, subst, ℕ, zero, suc, List, [], ◌∷◌, map, Option, Some, None}
 use Rattle.rasn_types.specs.Values
 use Rattle.rasn_dynamic.specs.declared.types.Kind.{Kind}
-use Rattle.rasn_dynamic.specs.declared.types.Kind.TheVariants.{Simple as SimpleKind, Date as DateKind, List as ListKind, SetOf, Record as RecordKind, Choice as ChoiceKind, Containing}
+use Rattle.rasn_dynamic.specs.declared.types.Kind.TheVariants.{Simple as SimpleKind, Date as DateKind, List as ListKind, SetOf, Record as RecordKind, Choice as ChoiceKind, Containing, Open as OpenKind}
 use Rattle.rasn_dynamic.specs.declared.types.Record.{Record}
 use Rattle.rasn_dynamic.specs.declared.types.Simple.{Simple}
 use Rattle.rasn_dynamic.specs.declared.values.Value.{Value}
@@ -19,12 +19,12 @@ use Rattle.rasn_traits.specs.Counted.{index_in, side_of}
 use Rattle.rasn_dynamic.specs.Values.{slot_of, slot_step, there}
 use Rattle.std.proofs.Common.{Result}
 use Rattle.std.specs.Prelude.{option_map}
-use Rattle.json.specs.Json.{Json, object, string}
-use Rattle.rasn_jer.specs.Strings.{day_text}
+use Rattle.json.specs.Json.{Json, object}
 use Rattle.json.specs.Written.{Written}
 use Rattle.rasn_dynamic_jer.specs.Puts.{Puts}
 use Rattle.rasn_dynamic_jer.specs.declared.error.ToJsonError.{ToJsonError}
-use Rattle.rasn_dynamic_jer.specs.Leaves.{below, simple_json}
+use Rattle.rasn_dynamic_jer.specs.Days.{date_json}
+use Rattle.rasn_dynamic_jer.specs.Leaves.{below, digits_json, simple_json}
 use Rattle.rasn_dynamic_jer.specs.Shown.{alternative_json, array_json, fields_members, json_by, kind_json, Known, known, known_step, Member, members_from, record_members}
 
 pub roll_known : (ts : List Kind) (x : Value-F Value) → known ts (roll-Value x) ≡ known_step ts (map-Value Value Known (known ts) x)
@@ -88,8 +88,13 @@ simple_put ts n k v x {old} {new} r e h = subst (λ o. Puts o n old r new) (sym 
 
 -- a day
 pub date_put : (ts : List Kind) (n : ℕ) (v : Value) (d : _) {old new : Written} (r : Result (Unit {0}) ToJsonError) → v ≡ roll-Value (Date d)
-    → Puts (Some (string (day_text d.year d.month d.day))) n old r new → Puts (json_by ts n (Some DateKind) v) n old r new
+    → Puts (date_json d) n old r new → Puts (json_by ts n (Some DateKind) v) n old r new
 date_put ts n v d {old} {new} r e h = subst (λ o. Puts o n old r new) (sym (ap (json_by ts n (Some DateKind)) e ∙ roll_json ts n _ (Date d))) h
+
+-- the octets of an open type
+pub open_put : (ts : List Kind) (n : ℕ) (s : _) (v : Value) (os : _) {old new : Written} (r : Result (Unit {0}) ToJsonError) → v ≡ roll-Value (Octets os)
+    → Puts (digits_json os) n old r new → Puts (json_by ts n (Some (OpenKind s)) v) n old r new
+open_put ts n s v os {old} {new} r e h = subst (λ o. Puts o n old r new) (sym (ap (json_by ts n (Some (OpenKind s))) e ∙ roll_json ts n _ (Octets os))) h
 
 below_none : (n : ℕ) → below {A = Json} n (λ m. None) ≡ None
 below_none zero = refl

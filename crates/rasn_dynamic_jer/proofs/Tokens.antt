@@ -10,7 +10,11 @@ use Rattle.std.proofs.Common.{add-one, ap₂}
 use Rattle.std.proofs.lemmas.Bool.{and_parts}
 use Rattle.std.proofs.Math.Bool.{and-false}
 use lib.Utf8.{scalar, scalar_cases}
-use Rattle.rasn_types.specs.Bits.{Bits}
+use Rattle.rasn_types.specs.Bits.{AreOctets, Bits}
+use Rattle.rasn_types.specs.Trimmed.{filled_up, trimmed}
+use Rattle.rasn_schema.specs.Normal.{normal_bits}
+use Rattle.std.specs.Option.{unwrap_or}
+use Rattle.std.proofs.Common.{append-nil, lt-ltb, replicate, ◌^◌, ◌-◌}
 use Rattle.rasn_types.specs.Packed.{packed}
 use Rattle.hex.specs.Hex.{encode_upper}
 use Rattle.json.specs.Print.{IsNumber}
@@ -24,8 +28,9 @@ use Rattle.json.specs.Json.{Json, number, string}
 use Rattle.json.specs.Token.{Token}
 use Rattle.json.specs.Tree.{HasNumbers, depth, json_tokens}
 use Rattle.json.specs.Written.{Written}
-use Rattle.rasn_dynamic_jer.specs.Leaves.{bits_shown, counted, hexadecimal, number_json, utf8_json}
+use Rattle.rasn_dynamic_jer.specs.Leaves.{bits_shown, counted, counted_json, digits_json, hexadecimal, latin_json, number_json, utf8_json}
 use Rattle.rasn_dynamic_jer.specs.Puts.{IsRefused, Puts, PutsToken}
+use Rattle.rasn_dynamic_jer.proofs.LeavesTold.{octets_noted}
 use Rattle.rasn_dynamic_jer.specs.declared.error.ToJsonError.{ToJsonError}
 use Rattle.rasn_dynamic_jer.specs.declared.error.ToJsonError.TheVariants.{NoJson, OutOfMemory}
 
@@ -105,8 +110,26 @@ unshown_characters cs h = ap (λ b. if b then Some (string (encode_utf8_all cs))
 pub whole_shown : (k : Simple) (c : _) (w z : ℤ) → k ≡ Simples.Integer c → z ≡ w → is_i128 z ≡ true → number_json k w ≡ Some (number (signed_decimal z))
 whole_shown k c w z e f h = ap (λ k. number_json k w) e ∙ ap (number_json (Simples.Integer c)) (sym f) ∙ ap (λ b. if b then Some (number (signed_decimal z)) else None) h
 
+-- octets, and those that are characters
+pub digits_there : (os : List ℕ) → AreOctets os → digits_json os ≡ Some (hexadecimal os)
+digits_there os h = ap (λ b. if b then Some (hexadecimal os) else None) (octets_noted os h)
+
+pub latin_there : (os : List ℕ) → AreOctets os → latin_json os ≡ Some (string (encode_utf8_all os))
+latin_there os h = ap (λ b. if b then Some (string (encode_utf8_all os)) else None) (octets_noted os h)
+
+-- bits that tell how many they are
+pub counted_there : (bs : Bits) → length bs < 2 ^ 64 → counted_json bs ≡ Some (counted bs)
+counted_there bs h = ap (λ b. if b then Some (counted bs) else None) (lt-ltb (length bs) (2 ^ 64) h)
+
+-- the normal form of named bits
+pub normal_there : (least : Option ℕ) (n : ℕ) (bs : Bits) → n ≡ unwrap_or least 0 → n < 2 ^ 64 → filled_up n (trimmed bs) ≡ normal_bits least bs
+normal_there None n bs e h =
+    let none : n - length (trimmed bs) ≡ 0 = omega (arith, e) in
+    ap (λ (k : ℕ). trimmed bs ++ replicate k false) none ∙ append-nil (trimmed bs)
+normal_there (Some l) n bs e h = ap (λ (k : ℕ). filled_up k (trimmed bs)) e ∙ sym (ap (λ b. if b then filled_up l (trimmed bs) else trimmed bs) (lt-ltb l (2 ^ 64) (subst (λ (k : ℕ). k < 2 ^ 64) e h)))
+
 -- bits that have to tell how many they are
 pub counted_shown : (n : ℕ) (fixed : Option ℕ) (bs : Bits) {old new : Written} (r : Result (Unit {0}) ToJsonError) → option_eq nat_eq fixed (Some (length bs)) ≡ false → (n ≡ 0 → ⊥)
-    → ((m : ℕ) → Puts (Some (counted bs)) (suc m) old r new) → Puts (bits_shown n fixed bs) n old r new
+    → ((m : ℕ) → Puts (counted_json bs) (suc m) old r new) → Puts (bits_shown n fixed bs) n old r new
 counted_shown zero fixed bs r e some h = absurd (some refl)
-counted_shown (suc m) fixed bs {old} {new} r e some h = subst (λ o. Puts o (suc m) old r new) (ap (λ b. if b then Some (hexadecimal (packed bs)) else Some (counted bs)) (sym e)) (h m)
+counted_shown (suc m) fixed bs {old} {new} r e some h = subst (λ o. Puts o (suc m) old r new) (ap (λ b. if b then Some (hexadecimal (packed bs)) else counted_json bs) (sym e)) (h m)

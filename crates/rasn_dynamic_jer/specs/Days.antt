@@ -6,7 +6,12 @@ use Rattle.jiff.specs.Types.{Date}
 use Rattle.rasn_types.specs.Contents.{is_date}
 use Rattle.rasn_types.specs.Values.{Value, day}
 use Rattle.rasn_times.specs.Dates.{IsDay}
+use Rattle.json.specs.Json.{Json, string}
 use Rattle.rasn_jer.specs.Strings.{day_text}
+
+-- X.697: DATE: the text of a day of the calendar
+abbrev pub date_json : Date → Option Json
+date_json d = if is_date d.year d.month d.day then Some (string (day_text d.year d.month d.day)) else None
 
 -- a character as a decimal digit; another counts for 0
 abbrev pub digit_of : Option ℕ → ℕ

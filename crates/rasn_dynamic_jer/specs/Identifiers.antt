@@ -1,6 +1,6 @@
 -- The arcs of an OBJECT IDENTIFIER, by its contents octets (ITU-T X.690, 8.19) and by its text (ITU-T X.697).
-use Rattle.std.specs.Prelude.{ℕ, ◌+◌, ◌-◌, ◌*◌, ◌^◌, ◌&&◌, ◌==◌, if◌then◌else◌, nat_lt, List, [], ◌∷◌, Option, Some}
-use Rattle.std.specs.Prelude.{None, option_map}
+use Rattle.std.specs.Prelude.{ℕ, ◌+◌, ◌-◌, ◌*◌, ◌^◌, Bool, ◌&&◌, ◌==◌, if◌then◌else◌, nat_lt, List, [], ◌∷◌, Option}
+use Rattle.std.specs.Prelude.{Some, None, option_map}
 use Rattle.std.specs.Option.{option_and_then}
 use Rattle.std.specs.Str.{bytes_eq}
 use Rattle.rasn_types.specs.Contents.{is_identifier}
@@ -25,9 +25,13 @@ arcs_of (n ∷ ns) =
 abbrev pub arcs_in : List ℕ → List ℕ
 arcs_in os = arcs_of (subidentifiers_in 0 os)
 
+-- whether octets are the contents of an object, and so of the arcs that they hold
+abbrev pub are_contents : List ℕ → Bool
+are_contents os = is_identifier os && bytes_eq (contents (arcs_in os)) os
+
 -- X.697: OBJECT IDENTIFIER: its arcs
 abbrev pub identifier_json : List ℕ → Option Json
-identifier_json os = if is_identifier os then Some (string (dotted (arcs_in os))) else None
+identifier_json os = if are_contents os then Some (string (dotted (arcs_in os))) else None
 
 -- a number read on by a decimal digit; arcs are below 2 ^ 32 (this project's choice)
 abbrev pub read_on : ℕ → ℕ → Option ℕ

@@ -1,6 +1,9 @@
+pub mod Apart
 pub mod Days
 pub mod Identifiers
+pub mod Laws
 pub mod Leaves
+pub mod Normal
 pub mod Puts
 pub mod Shown
 pub mod Told

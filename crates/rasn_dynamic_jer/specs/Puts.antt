@@ -1,6 +1,7 @@
 -- What of a value's JSON is written.
 use Rattle.std.specs.Prelude.{ℕ, ◌≡◌, ◌+◌, ◌≤◌, ◌⊎◌, List, [], ◌∷◌, ◌++◌, flat_map, Option, Some, None, Result}
 use Rattle.std.specs.Prelude.{MatchResult}
+use Rattle.std.specs.Str.{IsUtf8}
 use Rattle.json.specs.Json.{Json, array, object, document}
 use Rattle.json.specs.Value.{items_of}
 use Rattle.json.specs.Print.{print}
@@ -47,12 +48,13 @@ pub record PutsMembers (o : Option (List Member)) (n : ℕ) (old : Written) (r :
   pub law : MatchResult r (λ done. ArePut o n old new) (IsRefused o)
   pub before : new.before ≡ old.before
 
--- a text is JSON, and reads back as it
+-- a text is JSON in UTF-8, and reads back as it
 pub record IsJsonText (o : Option Json) (text : List ℕ) : Type 0 where
   pub json : Json
   pub shown : o ≡ Some json
   pub printed : text ≡ print (json_tokens json)
   pub read : document text ≡ Some json
+  pub utf8 : IsUtf8 text
 
 -- a token is written after others, or memory ran out
 pub record PutsToken (t : Token) (old : Written) (r : Result (Unit {0}) ToJsonError) (new : Written) : Type 0 where

@@ -20,10 +20,10 @@ use Rattle.rasn_dynamic.specs.declared.values.Value.{Value}
 use Rattle.rasn_dynamic.specs.declared.values.Value.TheOpen.{Value-F, Octets, Elements, Bag, Fields}
 use Rattle.rasn_dynamic.specs.declared.values.Value.TheOpen.{Alternative as AlternativeF, Date as DateF}
 use Rattle.rasn_dynamic.specs.declared.values.Value.TheFolds.{fold-Value, map-Value}
-use Rattle.json.specs.Json.{Json, array, object, Members, no_members, member, string}
+use Rattle.json.specs.Json.{Json, array, object, Members, no_members, member}
 use Rattle.json.specs.Value.{items_of}
-use Rattle.rasn_jer.specs.Strings.{day_text}
-use Rattle.rasn_dynamic_jer.specs.Leaves.{below, hexadecimal, simple_json}
+use Rattle.rasn_dynamic_jer.specs.Days.{date_json}
+use Rattle.rasn_dynamic_jer.specs.Leaves.{below, digits_json, simple_json}
 
 -- a member of an object: its name and its value
 abbrev pub Member : Type 0
@@ -132,13 +132,13 @@ array_json ts n i xs = option_map (λ js. array (items_of js)) (all_json ts n i 
 -- X.697: the JSON of a value by what its type is; none of a value of another kind
 abbrev pub kind_json : List Kind → ℕ → Option Kind → Value-F Known → Option Json
 kind_json ts n (Some (Simple k)) x = simple_json n k x
-kind_json ts n (Some Date) (DateF d) = Some (string (day_text d.year d.month d.day))
+kind_json ts n (Some Date) (DateF d) = date_json d
 kind_json ts n (Some (ListKind i c)) (Elements v) = below n (λ m. array_json ts m i v.items)
 kind_json ts n (Some (SetOf i c)) (Bag v) = below n (λ m. array_json ts m i v.items)
 kind_json ts n (Some (RecordKind r)) (Fields v w) =
     below n (λ m. option_map (λ ms. object (members_from ms)) (record_members ts m r v.items w.items))
 kind_json ts n (Some (Choice c)) (AlternativeF p v) = below n (λ m. alternative_json ts m (standing c p) v.value)
-kind_json ts n (Some (Open s)) (Octets os) = Some (hexadecimal os)
+kind_json ts n (Some (Open s)) (Octets os) = digits_json os
 kind_json ts n (Some (Open s)) (AlternativeF p v) = below n (λ m. row_json ts m (row_at s p) v.value)
 kind_json ts n k x = None
 

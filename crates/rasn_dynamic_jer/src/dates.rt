@@ -1,14 +1,13 @@
 //! Days as JSON tells them (X.680 38.4).
 
-ghost use Rattle.std.specs.Prelude.{◌≡◌, ◌≤◌, ◌<◌, ℕ, false, option_and_then, slice_get, string_bytes};
-ghost use Rattle.std.specs.Prelude.{IfOk, MatchOption, Some};
+ghost use Rattle.std.specs.Prelude.{◌≡◌, ◌≤◌, ◌<◌, ℕ, false, option_and_then, slice_get, string_bytes, IfOk};
+ghost use Rattle.std.specs.Prelude.{MatchOption, true};
 ghost use Rattle.json.specs.Find.{as_str};
-ghost use Rattle.json.specs.Json.{string};
 ghost use Rattle.json.specs.Value.{value_view};
 ghost use Rattle.rasn_types.specs.Contents.{is_date};
 ghost use Rattle.rasn_jer.specs.Strings.{day_text};
-ghost use Rattle.rasn_dynamic_jer.specs.Days.{date_told, day_shown, digit_of, four_shown, is_minus, month_shown};
-ghost use Rattle.rasn_dynamic_jer.specs.Days.{ShowsDay, two_shown, year_shown};
+ghost use Rattle.rasn_dynamic_jer.specs.Days.{date_json, date_told, day_shown, digit_of, four_shown, is_minus};
+ghost use Rattle.rasn_dynamic_jer.specs.Days.{month_shown, ShowsDay, two_shown, year_shown};
 ghost use Rattle.rasn_dynamic_jer.specs.Puts.{Puts};
 ghost use Rattle.rasn_dynamic_jer.specs.Told.{TellsValue};
 
@@ -23,7 +22,7 @@ use std::alloc::{AllocError, Global};
 
 /// Writes a day, such as `"2026-11-27"`.
 pub(crate) fn put_day(writer: &mut Writer, alloc: Global, date: Date) -> Result<(), ToJsonError>
-    ensures { (n : ℕ) → Puts (Some (string (day_text date.year date.month date.day))) n writer.old result writer.new }
+    ensures { (n : ℕ) → Puts (date_json date) n writer.old result writer.new }
 {
     let text = text_of(alloc, date)?;
     put_token(writer, Token::String(text.as_str()))
@@ -132,7 +131,8 @@ fn digit_of(text: &[u8], place: usize) -> u8
 
 /// The text of a day.
 fn text_of(alloc: Global, date: Date) -> Result<String, AllocError>
-    ensures { IfOk result (λ text. string_bytes text ≡ day_text date.year date.month date.day) }
+    ensures text { IfOk result (λ text. string_bytes text ≡ day_text date.year date.month date.day) }
+    ensures lawful { is_date date.year date.month date.day ≡ true }
 {
     let (year, month, day) = date_to_parts(date);
     day_of(alloc, year, month, day)

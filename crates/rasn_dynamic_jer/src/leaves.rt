@@ -1,18 +1,21 @@
 //! How values are written in which no others are.
 
-ghost use Rattle.std.specs.Prelude.{◌≡◌, ◌⊎◌, ℕ, suc, IfOk, IfErr, Some, true, false, decimal, encode_utf8_all};
+ghost use Rattle.std.specs.Prelude.{◌≡◌, ◌⊎◌, ◌<◌, ◌^◌, ℕ, suc, IfOk, IfErr, true, false, decimal, encode_utf8_all};
 ghost use Rattle.std.specs.Prelude.{string_bytes};
 ghost use Rattle.std.specs.Fmt.{signed_decimal};
+ghost use Rattle.std.specs.Option.{unwrap_or};
 ghost use Rattle.std.specs.Str.{all_scalars};
+ghost use Rattle.rasn_types.specs.Alphabets.{bmp, has_all};
 ghost use Rattle.rasn_types.specs.Integers.{is_i128};
-ghost use Rattle.json.specs.Json.{string};
+ghost use Rattle.rasn_schema.specs.Forms.{size_of};
+ghost use Rattle.rasn_dynamic.specs.Types.{of_size};
 ghost use Rattle.json.specs.Token.{number as number_token, string as string_token};
 ghost use Rattle.hex.specs.Hex.{encode_upper};
 ghost use Rattle.json.specs.Print.{IsPrintable};
 ghost use Rattle.json.specs.Reads.{token_of};
-ghost use Rattle.rasn_dynamic_jer.specs.Leaves.{bits_json, bits_shown, characters_json, counted, item_json, least_of};
-ghost use Rattle.rasn_dynamic_jer.specs.Leaves.{may_be_characters, null_json, number_json, octets_json, truth_json};
-ghost use Rattle.rasn_dynamic_jer.specs.Leaves.{utf8_json};
+ghost use Rattle.rasn_dynamic_jer.specs.Leaves.{bits_json, bits_shown, characters_json, counted_json, digits_json};
+ghost use Rattle.rasn_dynamic_jer.specs.Leaves.{item_json, latin_json, may_be_characters, null_json, number_json};
+ghost use Rattle.rasn_dynamic_jer.specs.Leaves.{octets_json, truth_json, utf8_json};
 ghost use Rattle.rasn_dynamic_jer.specs.Puts.{Puts, PutsToken};
 ghost use Rattle.rasn_dynamic_jer.specs.declared.error.ToJsonError.TheVariants.{NoJson, OutOfMemory};
 
@@ -24,7 +27,7 @@ use rasn_dynamic::times::{generalized_moment, utc_moment};
 use rasn_dynamic::types::{Simple, SizeBounds};
 use rasn_schema::items::Place;
 use rasn_strings::strings::BmpString;
-use rasn_types::bit_string::BitString;
+use rasn_types::bit_string::{BitString, note_octets};
 use rasn_types::types::{Any, Integer};
 use std::alloc::{AllocError, Global};
 
@@ -114,8 +117,8 @@ pub(crate) fn put_octets(
     ensures { (n : ℕ) → Puts (octets_json simple.now octets.now) n writer.old result writer.new }
 {
     match simple {
-        Simple::OctetString(_) => put_hexadecimal(writer, alloc, octets.as_bytes()),
-        Simple::Open => put_hexadecimal(writer, alloc, octets.as_bytes()),
+        Simple::OctetString(_) => put_digits(writer, alloc, octets.as_bytes()),
+        Simple::Open => put_digits(writer, alloc, octets.as_bytes()),
         Simple::Utf8 => put_utf8(writer, octets.as_bytes()),
         Simple::Text => put_latin(writer, alloc, octets.as_bytes()),
         Simple::ObjectIdentifier => put_identifier(writer, alloc, octets.as_bytes()),
@@ -123,12 +126,20 @@ pub(crate) fn put_octets(
     }
 }
 
-/// Writes octets as a string of hexadecimal digits.
-pub(crate) fn put_hexadecimal(
+/// Writes octets by their hexadecimal digits.
+pub(crate) fn put_digits(
     writer: &mut Writer,
     alloc: Global,
     octets: &[u8],
 ) -> Result<(), ToJsonError>
+    ensures { (n : ℕ) → Puts (digits_json octets.now) n writer.old result writer.new }
+{
+    note_octets(octets);
+    put_hexadecimal(writer, alloc, octets)
+}
+
+/// Writes octets as a string of hexadecimal digits.
+fn put_hexadecimal(writer: &mut Writer, alloc: Global, octets: &[u8]) -> Result<(), ToJsonError>
     ensures { PutsToken (string_token (encode_upper octets.now)) writer.old result writer.new }
 {
     let digits = hex::encode_upper(alloc, octets)?;
@@ -147,8 +158,9 @@ fn put_utf8(writer: &mut Writer, octets: &[u8]) -> Result<(), ToJsonError>
 
 /// Writes octets, each as the character with its number.
 fn put_latin(writer: &mut Writer, alloc: Global, octets: &[u8]) -> Result<(), ToJsonError>
-    ensures { (n : ℕ) → Puts (Some (string (encode_utf8_all octets.now))) n writer.old result writer.new }
+    ensures { (n : ℕ) → Puts (latin_json octets.now) n writer.old result writer.new }
 {
+    note_octets(octets);
     let text = latin(alloc, octets)?;
     put_token(writer, Token::String(text.as_str()))
 }
@@ -186,7 +198,8 @@ pub(crate) fn put_bits(
 
 /// The least count of a size, 0 where it has none.
 fn least_of(size: &SizeBounds) -> usize
-    ensures { result ≡ least_of size.now }
+    ensures least { result ≡ unwrap_or (size_of (of_size size.now)).least 0 }
+    ensures few { result < 2 ^ 64 }
 {
     size.constraint.start_and_end().0.unwrap_or(0)
 }
@@ -216,7 +229,7 @@ fn put_counted_object(
     alloc: Global,
     bits: &BitString,
 ) -> Result<(), ToJsonError>
-    ensures { (n : ℕ) → Puts (Some (counted bits.now)) (suc n) writer.old result writer.new }
+    ensures { (n : ℕ) → Puts (counted_json bits.now) (suc n) writer.old result writer.new }
 {
     put_token(writer, Token::BeginObject)?;
     put_token(writer, Token::Key("value"))?;
@@ -267,6 +280,7 @@ fn scalars(alloc: Global, characters: &BmpString) -> Result<String, ToJsonError>
     ensures ok { IfOk result (λ text. (all_scalars characters.now ≡ true)
         × (string_bytes text ≡ encode_utf8_all characters.now)) }
     ensures err { IfErr result (λ e. (e ≡ OutOfMemory) ⊎ ((e ≡ NoJson) × (all_scalars characters.now ≡ false))) }
+    ensures own { has_all bmp characters.now ≡ true }
 {
     let mut text = String::new(alloc);
     for unit in characters.as_units() {

@@ -6,6 +6,7 @@ pub mod error;
 pub mod from_json_error;
 mod identifiers;
 mod json_parts;
+pub mod laws;
 mod leaves;
 mod names;
 pub mod read;

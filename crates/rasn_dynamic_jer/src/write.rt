@@ -16,8 +16,8 @@ ghost use Rattle.rasn_dynamic_jer.specs.Shown.{members_there, named, one_member,
 use crate::dates::put_day;
 use crate::error::ToJsonError;
 use crate::leaves::{
-    put_bits, put_characters, put_hexadecimal, put_item, put_null, put_number, put_octets,
-    put_token, put_truth,
+    put_bits, put_characters, put_digits, put_item, put_null, put_number, put_octets, put_token,
+    put_truth,
 };
 use crate::table::group_in;
 use json::{Token, Writer};
@@ -447,7 +447,7 @@ fn put_open(
         writer.old result writer.new }
 {
     match value {
-        Value::Octets(octets) => put_hexadecimal(writer, alloc, octets.as_bytes()),
+        Value::Octets(octets) => put_digits(writer, alloc, octets.as_bytes()),
         Value::Alternative(place, read) => {
             put_row(writer, alloc, kinds, set, *place, read, levels)
         }

@@ -167,7 +167,7 @@ idle_additions : {names : List (List ℕ)} {qs : Parts} {xs : List (Option Value
 unfolding are_idle
 idle_additions additions_end e = refl
 idle_additions (addition_there {p = p} {ps = ps} {v = v} {xs = xs} b h k) e = absurd (busy_there p v b (both (is_idle p (Some v)) (are_idle ps xs) e).0)
-idle_additions (addition_spread {p = p} {ps = ps} {v = v} {xs = xs} b h k) e = absurd (busy_there p v b (both (is_idle p (Some v)) (are_idle ps xs) e).0)
+idle_additions (addition_spread {p = p} {ps = ps} {v = v} {xs = xs} b g h k) e = absurd (busy_there p v b (both (is_idle p (Some v)) (are_idle ps xs) e).0)
 idle_additions (addition_left_out {p = p} {ps = ps} {x = x} {xs = xs} b k) e = idle_additions k (both (is_idle p x) (are_idle ps xs) e).1
 
 -- a group is shown by an object
@@ -250,7 +250,7 @@ group_closed s v x i j m o p r y g h w e f q =
           left = k.2;
           json = one.json;
           shows = one.shows;
-          added = inr (shown.members, shown.is_object, k.3 ∙ ap (λ (z : State). with_group z.place shown.members) outside);
+          added = inr (shown.members, shown.is_object, k.3 ∙ ap (λ (z : State). with_group z.place shown.members) outside, g);
         }
     settled true t (Err e) k = elim k [ inl z ↦ z | inr z ↦ absurd (never_outside e m (ap (λ (k : State). k.failed) outside ∙ h.opened.begun) (ap (λ (k : State). k.place.kind) outside ∙ h.members) z) ]
     settled false t (Err e) k = elim k [ inl z ↦ z | inr z ↦ absurd (never_outside e m (ap (λ (k : State). k.failed) outside ∙ h.opened.begun) (ap (λ (k : State). k.place.kind) outside ∙ h.members) z) ]

@@ -139,7 +139,7 @@ one_addition {s = s} {x = x} {y = y} {ps = ps} t c e (presents_added {v = v} b w
   | inr n ↦ record {
     within = k.within;
     members = join n.0 k.members;
-    shown = named_further x y (count ps) c e (addition_spread b (subst (λ (j : Json). Shows s v j) n.1 w.shows) k.shown);
+    shown = named_further x y (count ps) c e (addition_spread b n.3 (subst (λ (j : Json). Shows s v j) n.1 w.shows) k.shown);
     written = all_more (past_added x.place) y.place n.0 k.members n.2 ∙ k.written;
   }
 ]

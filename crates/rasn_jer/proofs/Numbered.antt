@@ -45,5 +45,5 @@ mutual
   additions_numbered : {names : List (List ℕ)} {qs : Parts} {xs : List (Option Value)} {ms : Members} → ShowsAdditions names qs xs ms → MembersHaveNumbers ms
   additions_numbered additions_end = tt
   additions_numbered (addition_there e h k) = (numbered h, additions_numbered k)
-  additions_numbered (addition_spread {gs = gs} {ms = ms} e h k) = join_numbered gs ms (numbered h) (additions_numbered k)
+  additions_numbered (addition_spread {gs = gs} {ms = ms} e g h k) = join_numbered gs ms (numbered h) (additions_numbered k)
   additions_numbered (addition_left_out e k) = additions_numbered k

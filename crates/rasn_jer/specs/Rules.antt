@@ -3,6 +3,7 @@ use Rattle.std.specs.Prelude.{ℕ, suc, ◌<◌, ◌≡◌, ◌≢◌, ◌⊎◌
 use Rattle.std.specs.Prelude.{IfErr, IsErrAnd, OnOk}
 use Rattle.rasn_types.specs.Values.{Value}
 use Rattle.rasn_types.specs.declared.types.Codec.TheVariants.{Uper}
+use Rattle.rasn_schema.specs.Lawful.{is_group_schema}
 use Rattle.rasn_schema.specs.Schemas.{count, Schema}
 use Rattle.rasn_traits.specs.Calls.{Behaves, EncoderRules, Writes}
 use Rattle.rasn_traits.specs.Lists.{ListForm}
@@ -43,9 +44,10 @@ pub record Skips (x y : State) : Type 0 where
   pub members : x.place.kind ≡ Kinds.Members
   pub moved : y ≡ unfailed_at (past_added x.place)
 
--- an addition as a member behind the next name, or the members of a group among the others
-abbrev pub IsAdded : Place → Json → Place → Type 0
-IsAdded p j q = (q ≡ with_addition p (text_of j)) ⊎ ((gs : Members) × (j ≡ object gs) × (q ≡ with_group p gs))
+-- an addition as a member behind the next name, or the members of a group, which is a SEQUENCE, among the others
+abbrev pub IsAdded : Schema → Place → Json → Place → Type 0
+IsAdded s p j q = (q ≡ with_addition p (text_of j))
+    ⊎ ((gs : Members) × (j ≡ object gs) × (q ≡ with_group p gs) × (is_group_schema s ≡ true))
 
 -- inside a record an addition is written
 pub record Adds (x : State) (s : Schema) (v : Value) (y : State) : Type 0 where
@@ -54,7 +56,7 @@ pub record Adds (x : State) (s : Schema) (v : Value) (y : State) : Type 0 where
   pub left : y.failed ≡ false
   pub json : Json
   pub shows : Shows s v json
-  pub added : IsAdded x.place json y.place
+  pub added : IsAdded s x.place json y.place
 
 -- something is opened: what was open waits outside
 pub record Opens (kind : Kind) (x : State) (o : Place) (i : State) : Type 0 where

@@ -12,6 +12,7 @@ use Rattle.rasn_constraints.specs.Bounds.{Bounds, Size, fits_i128}
 use Rattle.rasn_schema.specs.Absent.{no_value}
 use Rattle.rasn_schema.specs.Canonised.{canonised, canonised_slots}
 use Rattle.rasn_schema.specs.Choices.{alternative_in, choice_schema}
+use Rattle.rasn_schema.specs.Lawful.{is_group_schema}
 use Rattle.rasn_schema.specs.Lists.{list_value}
 use Rattle.rasn_schema.specs.Records.{record_value}
 use Rattle.rasn_schema.specs.Schemas.{Schema, Parts, no_parts, part, Presence, Order, by_tag, listed, TagTree}
@@ -139,7 +140,8 @@ mutual
         {r : Option Value} {rs : List (Option Value)} {ns ms : Members} → presence_bit p r ≡ Some false
         → ShowsParts names ps rs ns ms → ShowsParts (name ∷ names) (part t p s ps) (r ∷ rs) ns ms
 
-  -- Members show additions: each addition has its own name, and the members of a group stand among the others.
+  -- Members show additions: each addition has its own name, and the members of a group, which is a SEQUENCE, stand
+  -- among the others.
   pub data ShowsAdditions : List (List ℕ) → Parts → List (Option Value) → Members → Type 0 where
     additions_end : ShowsAdditions [] no_parts [] no_members
     addition_there : {name : List ℕ} {names : List (List ℕ)} {t : TagTree} {p : Presence} {s : Schema} {ps : Parts}
@@ -148,7 +150,7 @@ mutual
         → ShowsAdditions (name ∷ names) (part t p s ps) (Some v ∷ xs) (member name j ms)
     addition_spread : {name : List ℕ} {names : List (List ℕ)} {t : TagTree} {p : Presence} {s : Schema} {ps : Parts}
         {v : Value} {xs : List (Option Value)} {gs ms : Members} → addition_bit p (Some v) ≡ Some true
-        → Shows s v (object gs) → ShowsAdditions names ps xs ms
+        → is_group_schema s ≡ true → Shows s v (object gs) → ShowsAdditions names ps xs ms
         → ShowsAdditions (name ∷ names) (part t p s ps) (Some v ∷ xs) (join gs ms)
     addition_left_out : {name : List ℕ} {names : List (List ℕ)} {t : TagTree} {p : Presence} {s : Schema} {ps : Parts}
         {x : Option Value} {xs : List (Option Value)} {ms : Members} → addition_bit p x ≡ Some false

@@ -4,7 +4,7 @@ use Rattle.std.specs.Io.KnownBytes.{Keeps}
 use Rattle.line_replies.specs.Lines.{IsLineOf}
 use Rattle.line_replies.specs.Printing.{EndsReplies}
 use Rattle.line_replies.specs.declared.fault.Fault.TheVariants.{CannotRead, CannotWrite, OutOfMemory}
-use Rattle.show_lines.specs.Requests.{request_words}
+use Rattle.show_lines.specs.Requests.{AskForNothing, request_words}
 use Rattle.show_lines.specs.Showing.{IsReply, IsUnanswered}
 use Rattle.show_lines.specs.declared.arguments.Extent.{Extent}
 use Rattle.show_lines.specs.declared.arguments.Extent.TheVariants.{AllLines, FirstLine}
@@ -14,11 +14,11 @@ use Rattle.show_lines.specs.declared.fault.Fault.{Fault}
 use Rattle.show_lines.specs.declared.fault.Fault.TheVariants.{WrongArguments, UnknownType, OfLines}
 
 -- what words may be refused by: that they ask for nothing, or want of memory
-abbrev pub IsOfWords : Fault → Type 0
-IsOfWords WrongArguments = ⊤
-IsOfWords (UnknownType nearest) = ⊤
-IsOfWords (OfLines OutOfMemory) = ⊤
-IsOfWords _ = ⊥
+abbrev pub IsOfWords : List (List ℕ) → Fault → Type 0
+IsOfWords words WrongArguments = AskForNothing words
+IsOfWords words (UnknownType nearest) = AskForNothing words
+IsOfWords words (OfLines OutOfMemory) = ⊤
+IsOfWords words _ = ⊥
 
 -- what writing may be refused by
 abbrev pub IsOfOutput : Fault → Type 0
@@ -45,8 +45,8 @@ EndsIn FirstLine a input before after fault = EndsAnswer a input before after fa
 
 -- a fault comes only where it stands, and the output got this by then
 abbrev pub Ends : List (List ℕ) → Option (List ℕ) → Option (List ℕ) → Option (List ℕ) → Fault → Type 0
-Ends words input before after WrongArguments = Keeps before after
-Ends words input before after (UnknownType nearest) = Keeps before after
+Ends words input before after WrongArguments = AskForNothing words × Keeps before after
+Ends words input before after (UnknownType nearest) = AskForNothing words × Keeps before after
 Ends words input before after (OfLines CannotWrite) = ⊤
 Ends words input before after (OfLines OutOfMemory) = ⊤
 Ends words input before after fault =

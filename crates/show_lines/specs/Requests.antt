@@ -1,5 +1,5 @@
 -- The words after the program's name.
-use Rattle.std.specs.Prelude.{ℕ, List, [], ◌∷◌, ◌++◌, codes}
+use Rattle.std.specs.Prelude.{ℕ, ◌≡◌, ◌≢◌, List, [], ◌∷◌, ◌++◌, codes}
 use Rattle.line_replies.specs.Codecs.{codec_word}
 use Rattle.named_types.specs.Types.{word_of}
 use Rattle.show_lines.specs.declared.arguments.Extent.{Extent}
@@ -20,11 +20,19 @@ abbrev pub extent_words : Extent → List (List ℕ)
 extent_words FirstLine = []
 extent_words AllLines = codes "lines" ∷ []
 
--- a codec, a type, and which lines
-abbrev pub shown_words : Showing → List (List ℕ)
-shown_words a = codec_word a.codec ∷ word_of a.type_name ∷ extent_words a.extent
+-- which lines, and a layout
+abbrev pub form_words : Extent → Layout → List (List ℕ)
+form_words extent layout = extent_words extent ++ layout_words layout
 
--- `--help`; or what is shown, and a layout
+-- a codec, a type, which lines, and a layout
+abbrev pub shown_words : Showing → List (List ℕ)
+shown_words a = codec_word a.codec ∷ word_of a.type_name ∷ form_words a.extent a.layout
+
+-- `--help`, or what is shown
 abbrev pub request_words : Request → List (List ℕ)
 request_words Help = codes "--help" ∷ []
-request_words (Show a) = shown_words a ++ layout_words a.layout
+request_words (Show a) = shown_words a
+
+-- words are those of no request
+abbrev pub AskForNothing : List (List ℕ) → Type 0
+AskForNothing words = (q : Request) → words ≢ request_words q

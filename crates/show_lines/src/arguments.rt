@@ -1,8 +1,11 @@
 //! What the program is asked to do.
 
-ghost use Rattle.std.specs.Prelude.{◌≡◌, ◌++◌, ◌∷◌, [], IfErr, IfOk, IfSome, map, string_bytes};
+ghost use Rattle.std.specs.Prelude.{◌≡◌, ◌≢◌, ◌∷◌, [], IfErr, IfNone, IfOk, IfSome, length, map, string_bytes};
+ghost use Rattle.line_replies.specs.declared.layout.Layout.{Layout as a_layout};
 ghost use Rattle.show_lines.specs.Ends.{IsOfWords};
-ghost use Rattle.show_lines.specs.Requests.{extent_words, layout_words, request_words, shown_words};
+ghost use Rattle.show_lines.specs.Requests.{AskForNothing, form_words, request_words, shown_words};
+ghost use Rattle.show_lines.specs.declared.arguments.Extent.{Extent as an_extent};
+ghost use Rattle.show_lines.specs.declared.arguments.Showing.{Showing as a_showing};
 
 use crate::fault::Fault;
 use crate::names::nearest;
@@ -47,7 +50,7 @@ impl Request {
     /// What the words after the program's name ask for. A word that is no type's is told with the nearest that is.
     pub fn of_words(alloc: Global, words: &[String]) -> Result<Request, Fault>
         ensures ok { IfOk result (λ q. map string_bytes words.now ≡ request_words q) }
-        ensures err { IfErr result IsOfWords }
+        ensures err { IfErr result (IsOfWords (map string_bytes words.now)) }
     {
         match Request::named(words) {
             Some(request) => Ok(request),
@@ -57,7 +60,8 @@ impl Request {
 
     /// What words ask for.
     fn named(words: &[String]) -> Option<Request>
-        ensures { IfSome result (λ q. map string_bytes words.now ≡ request_words q) }
+        ensures some { IfSome result (λ q. map string_bytes words.now ≡ request_words q) }
+        ensures none { IfNone result (AskForNothing (map string_bytes words.now)) }
     {
         match words {
             [word] => Request::of_word(word.as_str()),
@@ -67,7 +71,8 @@ impl Request {
 
     /// What one word asks for.
     fn of_word(word: &str) -> Option<Request>
-        ensures { IfSome result (λ q. word.now ∷ [] ≡ request_words q) }
+        ensures some { IfSome result (λ q. word.now ∷ [] ≡ request_words q) }
+        ensures none { IfNone result (AskForNothing (word.now ∷ [])) }
     {
         match word {
             "--help" => Some(Request::Help),
@@ -75,72 +80,77 @@ impl Request {
         }
     }
 
-    /// What words ask to be shown: a codec, a type, `lines` or nothing, and a layout.
+    /// What words ask to be shown, which aren't one word.
     fn showing(words: &[String]) -> Option<Request>
-        ensures { IfSome result (λ q. map string_bytes words.now ≡ request_words q) }
+        requires { length words.now ≢ 1 }
+        ensures some { IfSome result (λ q. map string_bytes words.now ≡ request_words q) }
+        ensures none { IfNone result (AskForNothing (map string_bytes words.now)) }
     {
-        let (layout, others) = layout_of_words(words);
-        let Some(showing) = Showing::of_words(layout, others) else {
-            return None;
-        };
-        Some(Request::Show(showing))
+        Some(Request::Show(Showing::of_words(words)?))
     }
 }
 
 impl Showing {
-    /// What words ask to be shown in a layout: a codec, a type, and `lines` or nothing.
-    fn of_words(layout: Layout, words: &[String]) -> Option<Showing>
-        ensures spelled { IfSome result (λ a. map string_bytes words.now ≡ shown_words a) }
-        ensures laid_out { IfSome result (λ a. a.layout ≡ layout) }
+    /// What words ask to be shown: a codec, a type, `lines` or nothing, and a layout.
+    fn of_words(words: &[String]) -> Option<Showing>
+        ensures some { IfSome result (λ a. map string_bytes words.now ≡ shown_words a) }
+        ensures none { IfNone result ((a : a_showing) → map string_bytes words.now ≢ shown_words a) }
     {
         let [codec, name, form @ ..] = words else {
             return None;
         };
+        let (extent, layout) = form_of_words(form)?;
         Some(Showing {
             codec: codec_of_word(codec.as_str())?,
             type_name: NamedType::of_word(name.as_str())?,
-            extent: extent_of_words(form)?,
+            extent,
             layout,
         })
     }
 }
 
-/// Which lines the words behind the type ask for.
-fn extent_of_words(words: &[String]) -> Option<Extent>
-    ensures { IfSome result (λ e. map string_bytes words.now ≡ extent_words e) }
+/// Which lines, and in which layout, the words behind the type ask for.
+fn form_of_words(words: &[String]) -> Option<(Extent, Layout)>
+    ensures some { IfSome result (λ f. map string_bytes words.now ≡ form_words f.0 f.1) }
+    ensures none { IfNone result ((e : an_extent) (l : a_layout) → map string_bytes words.now ≢ form_words e l) }
 {
     match words {
-        [] => Some(Extent::FirstLine),
-        [word] => extent_of_word(word.as_str()),
+        [] => Some((Extent::FirstLine, Layout::Compact)),
+        [word] => form_of_word(word.as_str()),
+        [lines, pretty] => form_of_two(lines.as_str(), pretty.as_str()),
         _ => None,
     }
 }
 
-/// Which lines one word behind the type asks for.
-fn extent_of_word(word: &str) -> Option<Extent>
-    ensures { IfSome result (λ e. word.now ∷ [] ≡ extent_words e) }
+/// What one word behind the type asks for.
+fn form_of_word(word: &str) -> Option<(Extent, Layout)>
+    ensures some { IfSome result (λ f. word.now ∷ [] ≡ form_words f.0 f.1) }
+    ensures none { IfNone result ((e : an_extent) (l : a_layout) → word.now ∷ [] ≢ form_words e l) }
 {
     match word {
-        "lines" => Some(Extent::AllLines),
+        "lines" => Some((Extent::AllLines, Layout::Compact)),
+        "--pretty" => Some((Extent::FirstLine, Layout::Pretty)),
         _ => None,
     }
 }
 
-/// The layout that the last word asks for, and the words before it.
-fn layout_of_words(words: &[String]) -> (Layout, &[String])
-    ensures { map string_bytes words.now ≡ map string_bytes result.1.now ++ layout_words result.0 }
+/// What two words behind the type ask for.
+fn form_of_two(lines: &str, pretty: &str) -> Option<(Extent, Layout)>
+    ensures some { IfSome result (λ f. lines.now ∷ pretty.now ∷ [] ≡ form_words f.0 f.1) }
+    ensures none { IfNone result ((e : an_extent) (l : a_layout) → lines.now ∷ pretty.now ∷ [] ≢ form_words e l) }
 {
-    match words.split_last() {
-        Some((last, others)) if last.as_str() == "--pretty" => (Layout::Pretty, others),
-        _ => (Layout::Compact, words),
+    match (lines, pretty) {
+        ("lines", "--pretty") => Some((Extent::AllLines, Layout::Pretty)),
+        _ => None,
     }
 }
 
 /// Why words ask for nothing.
 fn fault_of_words(alloc: Global, words: &[String]) -> Fault
-    ensures { IsOfWords result }
+    requires { AskForNothing (map string_bytes words.now) }
+    ensures { IsOfWords (map string_bytes words.now) result }
 {
-    let [_, name, ..] = layout_of_words(words).1 else {
+    let [_, name, ..] = words else {
         return Fault::WrongArguments;
     };
     if NamedType::of_word(name.as_str()).is_some() {

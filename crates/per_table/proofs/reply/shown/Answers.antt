@@ -1,14 +1,10 @@
-use Rattle.per_dynamic.proofs.Taking.{ok_as}
+use Rattle.std.proofs.Common.{rules}
+use Rattle.std.proofs.lemmas.Result.{err_from_is_err_and}
+use Rattle.per_messages.specs.Messages.{AreUnshown}
+use Rattle.per_table.proofs.Refused.{refused_digits}
 use Rattle.per_table.proofs.reply.shown.Goals as goal
 
-pub returns-clause-ok : goal.returns-clause-ok
-returns-clause-ok c =
-    ok_as c.json_of.result
-    (λ a h. record {
-      value = c.in_ok-value.value;
-      opened = c.in_ok-opened.opened;
-      is_read = c.in_ok-value.ensures.ok;
-      is_opened = c.in_ok-opened.ensures.read;
-      is_json = h;
-    })
-    c.json_of.ensures.ok
+pub returns-in_err-text-clause-err : goal.returns-in_err-text-clause-err
+returns-in_err-text-clause-err c =
+    let p = err_from_is_err_and c.from_residual-in_err-text.result c.from_residual-in_err-text.ensures.1 in
+    rw p.1 (refused_digits (AreUnshown c.args.types.now c.args.codec c.args.place) c.args.digits.now c.as_slice.result.now _ p.0 (search rules) c.in_err-text.ensures.err p.2)

@@ -1,11 +1,12 @@
-use Rattle.std.proofs.Common.{◌∙◌, ap, length, refl, arith, [], ◌∷◌}
+use Rattle.std.proofs.Common.{◌∙◌, ap, sym, subst, length, refl, arith, [], ◌∷◌, suc, ◌<◌, ◌^◌}
+use Rattle.rasn_dynamic_jer.specs.Puts.{Puts}
 use Rattle.std.proofs.Common.{◌++◌}
 use Rattle.std.specs.Prelude.{codes, decimal}
 use Rattle.json.specs.Token.{Token}
 use Rattle.hex.specs.Hex.{encode_upper}
 use Rattle.rasn_types.specs.Packed.{packed}
 use Rattle.rasn_jer.proofs.Digits.{decimal_number}
-use Rattle.rasn_dynamic_jer.proofs.Tokens.{more, object_put}
+use Rattle.rasn_dynamic_jer.proofs.Tokens.{counted_there, more, object_put}
 use Rattle.rasn_dynamic_jer.proofs.leaves.put_counted_object.Goals as goal
 
 pub returns : goal.returns
@@ -21,4 +22,6 @@ returns c n =
     let e4 = more a t3 _ e3 c.in_ok-put_token-3.ensures.law in
     let e5 = more a t4 _ e4 c.in_ok-put_count.ensures.law in
     let b = c.put_count.ensures.before ∙ c.put_token-3.ensures.before ∙ c.put_hexadecimal.ensures.before ∙ c.put_token-2.ensures.before ∙ c.put_token.ensures.before in
-    object_put c.args.bits.now n _ (decimal_number _ (omega arith)) (e5 ∙ ap (λ m. a ++ (t4 ++ Token.number (decimal m) ∷ [])) c.len.ensures) b c.put_token-4.ensures
+    let few : length c.args.bits.now < 2 ^ 64 = omega (arith, c.len.ensures) in
+    subst (λ o. Puts o (suc n) c.args.writer.now c.put_token-4.result c.put_token-4.new.writer) (sym (counted_there c.args.bits.now few))
+    (object_put c.args.bits.now n _ (decimal_number _ (omega arith)) (e5 ∙ ap (λ m. a ++ (t4 ++ Token.number (decimal m) ∷ [])) c.len.ensures) b c.put_token-4.ensures)

@@ -3,14 +3,14 @@ use Rattle.std.proofs.lemmas.Result.{err_from_is_err_and}
 use Rattle.std.proofs.lemmas.Grind.{common_steps}
 use Rattle.rasn_dynamic.proofs.Trees.{bag_levels, deepest_at, elements_levels, fields_levels}
 use Rattle.rasn_dynamic.specs.declared.types.Kind.TheVariants.{List as ListKind, SetOf, Record as RecordKind}
-use Rattle.rasn_dynamic.specs.declared.values.Value.TheVariants.{rolls-Bag, rolls-Elements, rolls-Fields}
+use Rattle.rasn_dynamic.specs.declared.values.Value.TheVariants.{rolls-Bag, rolls-Elements, rolls-Fields, rolls-Octets}
 use Rattle.rasn_dynamic.specs.Types.{behind}
 use Rattle.rasn_schema.specs.Lists.{deepest}
 use Rattle.rasn_dynamic.specs.Values.{levels_of}
-use Rattle.rasn_dynamic_jer.specs.Leaves.{below}
+use Rattle.rasn_dynamic_jer.specs.Leaves.{below, digits_json}
 use Rattle.rasn_dynamic_jer.specs.Puts.{ArePut, Puts, PutsMembers}
 use Rattle.rasn_dynamic_jer.specs.Shown.{array_json, both, known, list_members, values_json}
-use Rattle.rasn_dynamic_jer.proofs.Knowns.{bag_json, elements_json, fields_json, fields_members_of, object_of}
+use Rattle.rasn_dynamic_jer.proofs.Knowns.{bag_json, elements_json, fields_json, fields_members_of, object_of, open_put}
 use Rattle.rasn_dynamic_jer.proofs.Putting.{all_put_more, array_put, below_less, both_then, list_none, list_put_more, list_uneven, members_left, members_written, object_put, refused_as, values_none}
 use Rattle.rasn_dynamic_jer.proofs.write.+showing.Goals as goal
 
@@ -159,3 +159,9 @@ pub put_component-returns-then-is_default : goal.put_component-returns-then-is_d
 put_component-returns-then-is_default t c =
     let e = members_left c.args.kinds.now c.args.are_added c.args.levels c.args.component.now c.args.value.now (sym c.is_there.ensures ∙ c.if-not-is_there.false) (sym c.is_default.ensures ∙ c.if-is_default.true) in
     record { law = record { members = []; shown = e; numbers = tt; within = omega arith; tokens = sym (append-nil _) }; before = refl }
+
+pub put_open-returns-in-Octets : goal.put_open-returns-in-Octets
+put_open-returns-in-Octets t c =
+    let os = c.in-Octets.octets in
+    open_put c.args.kinds.now c.args.levels c.args.set.now c.args.value.now os c.put_digits.result (c.in-Octets.is ∙ sym (rolls-Octets os))
+    (subst (λ o. Puts (digits_json o) c.args.levels c.args.writer.now c.put_digits.result c.put_digits.new.writer) c.as_bytes.ensures (c.put_digits.ensures c.args.levels))

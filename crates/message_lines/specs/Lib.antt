@@ -1,0 +1,4 @@
+pub mod Columns
+pub mod Digits
+pub mod Replies
+pub mod Requests

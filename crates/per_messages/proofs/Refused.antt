@@ -1,0 +1,56 @@
+-- Why octets are not recoded, not shown, and begin with no encoding.
+use Rattle.std.proofs.Common.{◌≡◌, ◌≢◌, ◌⊎◌, inl, inr, sym, subst, ℕ, List, Option, None, Result, Ok, Err}
+use Rattle.std.specs.Prelude.{IfErr}
+use Rattle.json.specs.Json.{max_depth}
+use Rattle.rasn_schema.specs.AtDepths.{AtDepths}
+use Rattle.rasn_schema.specs.Normal.{normal}
+use Rattle.rasn_dynamic.specs.Values.{levels_of, value_of}
+use Rattle.rasn_dynamic.specs.declared.types.Types.{Types}
+use Rattle.rasn_dynamic.specs.declared.values.Value.{Value}
+use Rattle.rasn_dynamic_jer.specs.Shown.{json_at}
+use Rattle.per_core.specs.Rows.{Codec, variant_of}
+use Rattle.rasn_per.specs.Complete.{AreUnreadBy, basically, BeginWithNone, HasNoBytes}
+use Rattle.rasn_per.specs.Kinds.{IsInFront, IsInOctetsBy}
+use Rattle.per_read.specs.declared.error.DecodeErrorKind.{DecodeErrorKind}
+use Rattle.per_read.specs.declared.error.DecodeErrorKind.TheVariants as Decoding
+use Rattle.per_write.specs.Faults.{IsInValue}
+use Rattle.per_write.specs.declared.error.EncodeErrorKind.{EncodeErrorKind}
+use Rattle.per_write.specs.declared.error.EncodeErrorKind.TheVariants as Encoding
+use Rattle.per_messages.specs.Messages.{AreRead, AreRefused, AreUnshown, AreWithoutFirst, type_at}
+use Rattle.per_messages.specs.declared.error.MessageError.{MessageError}
+use Rattle.per_messages.specs.declared.error.MessageError.TheVariants.{Decode, Encode, NoJson, OutOfMemory}
+
+pub unread : (types : Types) (codec : Codec) (place : ℕ) (octets : List ℕ) (kind : DecodeErrorKind) (r : MessageError)
+    → (kind ≢ Decoding.OutOfMemory → AreUnreadBy (basically (variant_of codec)) (type_at types place) octets)
+    → IsInOctetsBy (basically (variant_of codec)) (type_at types place) octets kind → r ≡ Decode kind → AreRefused types codec place octets r
+unread types codec place octets kind r none fault q = subst (AreRefused types codec place octets) (sym q) (record { unread = none; is_faulty = fault })
+
+pub unencoded : (types : Types) (codec : Codec) (place : ℕ) (octets : List ℕ) (v : Value) (kind : EncodeErrorKind) (r : MessageError)
+    → AreRead types codec place octets v
+    → (kind ≢ Encoding.OutOfMemory → HasNoBytes (variant_of codec) (type_at types place) (levels_of v) (value_of v))
+    → (kind ≢ Encoding.OutOfMemory → AtDepths (type_at types place) (levels_of v) (λ s. IsInValue kind s (normal s (value_of v))))
+    → r ≡ Encode kind → AreRefused types codec place octets r
+unencoded types codec place octets v kind r h none fault q =
+    subst (AreRefused types codec place octets) (sym q) (λ n. record { value = v; is_read = h; unencoded = record { no_bytes = none n; is_faulty = fault n } })
+
+pub unshown : (types : Types) (codec : Codec) (place : ℕ) (octets : List ℕ) (kind : DecodeErrorKind) (r : MessageError)
+    → (kind ≢ Decoding.OutOfMemory → AreUnreadBy (basically (variant_of codec)) (type_at types place) octets)
+    → IsInOctetsBy (basically (variant_of codec)) (type_at types place) octets kind → r ≡ Decode kind
+    → AreUnshown types codec place octets r ⊎ (r ≡ OutOfMemory)
+unshown types codec place octets kind r none fault q =
+    inl (subst (AreUnshown types codec place octets) (sym q) (record { unread = none; is_faulty = fault }))
+
+-- what is said where a value has no JSON
+pub without_json : {A : Type 0} (types : Types) (codec : Codec) (place : ℕ) (octets : List ℕ) (v : Value) (r : Result A MessageError)
+    → AreRead types codec place octets v → IfErr r (λ e. ((e ≡ NoJson) × (json_at types.kinds.items max_depth place v ≡ None)) ⊎ (e ≡ OutOfMemory))
+    → IfErr r (λ e. AreUnshown types codec place octets e ⊎ (e ≡ OutOfMemory))
+without_json types codec place octets v (Ok x) h k = k
+without_json types codec place octets v (Err e) h (inl k) =
+    inl (subst (AreUnshown types codec place octets) (sym k.0) (record { value = v; is_read = h; no_json = k.1 }))
+without_json types codec place octets v (Err e) h (inr m) = inr m
+
+pub without_first : (types : Types) (codec : Codec) (place : ℕ) (octets : List ℕ) (kind : DecodeErrorKind) (r : MessageError)
+    → (kind ≢ Decoding.OutOfMemory → BeginWithNone (variant_of codec) (type_at types place) octets)
+    → IsInFront (basically (variant_of codec)) (type_at types place) octets kind → r ≡ Decode kind → AreWithoutFirst types codec place octets r
+without_first types codec place octets kind r none fault q =
+    subst (AreWithoutFirst types codec place octets) (sym q) (record { none = none; is_faulty = fault })
