@@ -19,14 +19,14 @@ const MESSAGE: &[u8] = b"00094014000003000a40020000005540020000000f400160";
 /// The JSON of the message that octets spell, whose open types are read by their object sets.
 fn shown(alloc: Global, types: &Types, place: usize, octets: &[u8]) -> Result<Vec<u8>> {
     let message = aper::decode(alloc, types, place, octets)?;
-    let opened = read_open_types(alloc, Codec::Aper, types, place, &message)?;
+    let opened = read_open_types(alloc, Codec::Aper, types, place, message)?;
     Ok(to_json(alloc, types, place, &opened)?)
 }
 
 /// The octets of the message that JSON tells.
 fn made(alloc: Global, types: &Types, place: usize, json: &str) -> Result<Vec<u8>> {
     let opened = from_json(alloc, types, place, json.as_bytes())?;
-    let message = write_open_types(alloc, Codec::Aper, types, place, &opened)?;
+    let message = write_open_types(alloc, Codec::Aper, types, place, opened)?;
     Ok(aper::encode(alloc, types, place, &message)?)
 }
 

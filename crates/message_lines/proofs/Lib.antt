@@ -1,2 +1,4 @@
+pub mod Made
+pub mod Remarked
 pub mod Strictly
 pub mod Words

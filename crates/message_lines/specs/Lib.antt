@@ -1,4 +1,5 @@
 pub mod Columns
 pub mod Digits
+pub mod Remarks
 pub mod Replies
 pub mod Requests

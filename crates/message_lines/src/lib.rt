@@ -6,6 +6,7 @@ pub mod digits;
 pub mod names;
 pub mod print;
 pub mod program;
+mod remarks;
 pub mod replies;
 pub mod request;
 pub mod strict;

@@ -3,14 +3,15 @@
 ghost use Rattle.std.specs.Prelude.{IfOk, OnOk};
 ghost use Rattle.std.specs.Io.KnownBytes.{Appends};
 ghost use Rattle.line_replies.specs.Printing.{PrintsAnswer};
-ghost use Rattle.message_lines.specs.Replies.{IsAnswer, IsShown, PrintsShown};
+ghost use Rattle.message_lines.specs.Replies.{IsAnswer, IsChecked, IsPrinted, IsShown, PrintsShown};
 
+use crate::remarks::with_remarks;
 use crate::replies::{Messages, Refusal};
 use line_replies::fault::Fault;
 use line_replies::layout::{Layout, laid_out};
 use line_replies::line::read_line;
 use line_replies::output::write;
-use per_messages::calls::show;
+use per_messages::calls::{show, show_checked};
 use std::alloc::Global;
 use std::io::{BufRead, Write};
 
@@ -44,26 +45,70 @@ pub fn print_first<R: BufRead, W: Write>(
     print(answer.as_slice(), output)
 }
 
-/// Prints the JSON of the message whose octets an input has, with a line feed.
+/// Prints the JSON of the message whose octets an input has, with a line feed, and where that is asked for a line for
+/// each remark on it.
 pub fn print_octets<R: BufRead, W: Write>(
     alloc: Global,
     messages: &Messages<'_>,
     layout: Layout,
+    is_checked: bool,
     input: &mut R,
     output: &mut W,
 ) -> Result<(), Stop>
-    ensures { OnOk result (PrintsShown messages.now layout
+    ensures { OnOk result (PrintsShown messages.now layout is_checked
         (R.remaining input.old) (W.contents output.old) (W.contents output.new)) }
 {
     let mut octets = Vec::new(alloc);
     if let Err(error) = input.read_to_end(&mut octets) {
         return Err(Stop::Failed(Fault::of_io(&error, Fault::CannotRead)));
     }
-    let answer = match answer_to_octets(alloc, messages, layout, octets.as_slice()) {
+    let answered = answer_by(alloc, messages, layout, is_checked, octets.as_slice());
+    let answer = match answered {
         Ok(answer) => answer,
         Err(refusal) => return Err(Stop::Refused(refusal)),
     };
     print(answer.as_slice(), output)
+}
+
+/// The JSON of the message that octets spell, with a line feed, and where that is asked for a line for each remark.
+fn answer_by(
+    alloc: Global,
+    messages: &Messages<'_>,
+    layout: Layout,
+    is_checked: bool,
+    octets: &[u8],
+) -> Result<Vec<u8>, Refusal>
+    ensures { IfOk result (λ answer. IsPrinted is_checked messages.now layout octets.now answer.items) }
+{
+    if is_checked {
+        checked_answer(alloc, messages, layout, octets)
+    } else {
+        answer_to_octets(alloc, messages, layout, octets)
+    }
+}
+
+/// The JSON of the message that octets spell, and behind it a line for each remark, with a line feed.
+fn checked_answer(
+    alloc: Global,
+    messages: &Messages<'_>,
+    layout: Layout,
+    octets: &[u8],
+) -> Result<Vec<u8>, Refusal>
+    ensures { IfOk result (λ answer. IsChecked messages.now layout octets.now answer.items) }
+{
+    let checked = match show_checked(
+        alloc,
+        messages.codec,
+        messages.types,
+        messages.place,
+        octets,
+    ) {
+        Ok(checked) => checked,
+        Err(error) => return Err(messages.refused(alloc, error, octets)?),
+    };
+    let mut answer = with_remarks(alloc, layout, checked)?;
+    answer.extend_from_slice(b"\n")?;
+    Ok(answer)
 }
 
 /// The JSON of the message that octets spell, with a line feed.

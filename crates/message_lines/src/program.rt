@@ -2,7 +2,7 @@
 
 ghost use Rattle.std.specs.Prelude.{◌≡◌, ◌≢◌, [], false, not, IfOk, IsOk, Ok};
 ghost use Rattle.line_replies.specs.Printing.{PrintsReplies};
-ghost use Rattle.message_lines.specs.Requests.{HasAnswered, layout_of};
+ghost use Rattle.message_lines.specs.Requests.{HasAnswered, layout_of, task_of};
 ghost use Rattle.message_lines.specs.Replies.{IsReplyWhere};
 
 use crate::names::{list, nearest, place_of_word};
@@ -111,8 +111,11 @@ pub fn run<R: BufRead, W: Write, F: Write>(
 }
 
 /// What is done with each message.
-fn task_of(program: Program, request: &Request<'_>) -> Task {
+fn task_of(program: Program, request: &Request<'_>) -> Task
+    ensures { result ≡ task_of program request.now.is_pretty request.now.is_checked }
+{
     match program {
+        Program::Show if request.is_checked => Task::Check(layout_of(request)),
         Program::Show => Task::Show(layout_of(request)),
         Program::Make => Task::Make,
     }
@@ -148,7 +151,8 @@ fn answer<R: BufRead, W: Write, F: Write>(
             status_of(alloc, done, faults)
         }
         Form::Octets => {
-            let done = print_octets(alloc, messages, layout_of(request), input, output);
+            let layout = layout_of(request);
+            let done = print_octets(alloc, messages, layout, request.is_checked, input, output);
             status_of(alloc, done, faults)
         }
         Form::AllLines => {
@@ -212,7 +216,7 @@ fn report<F: Write>(alloc: Global, stop: Stop, faults: &mut F) -> u8
             }
             match refusal {
                 Refusal::Blank | Refusal::BadHexadecimal(_) => 2,
-                Refusal::Message(..) | Refusal::OutOfMemory => 1,
+                Refusal::Message(..) | Refusal::Json(_) | Refusal::OutOfMemory => 1,
             }
         }
     }

@@ -1,25 +1,30 @@
 //! The replies to lines of messages.
 
-ghost use Rattle.std.specs.Prelude.{◌≡◌, ◌≤◌, ◌<◌, ◌⊎◌, IfErr, IfOk, IfSome, length, position, string_bytes};
+ghost use Rattle.std.specs.Prelude.{◌≡◌, ◌≤◌, ◌<◌, ◌⊎◌, ◌++◌, IfErr, IfOk, IfSome, length, position, string_bytes};
 ghost use Rattle.std.specs.List.{list_all};
 ghost use Rattle.std.specs.Char.{is_ascii_whitespace};
 ghost use Rattle.message_lines.specs.Columns.{column_end, is_blank};
+ghost use Rattle.message_lines.specs.Remarks.{at_path};
+ghost use Rattle.message_lines.specs.Replies.{fault_refusal, fault_text, IsRefusalOfText};
 ghost use Rattle.message_lines.specs.Replies.{IsAnswer, IsAnswerTo, IsRefusedBy, IsRefusedText, IsReply, IsRefusalOf};
 ghost use Rattle.message_lines.specs.Replies.{IsTextReply};
 ghost use Rattle.message_lines.specs.Replies.{Replied, message_refusal, place_text, refusal_line, refusal_text};
-ghost use Rattle.message_lines.specs.declared.replies.Task.TheVariants.{Make, Show};
+ghost use Rattle.message_lines.specs.declared.replies.Task.TheVariants.{Check, Make, Show};
 ghost use Rattle.message_lines.specs.declared.replies.Refusal.TheVariants.{OutOfMemory};
 ghost use Rattle.line_replies.specs.declared.fault.Fault.TheVariants.{OutOfMemory as no_memory};
 
 use crate::digits::{column_of_fault, octets_in};
+use crate::remarks::with_remarks;
 use hex::FromHexError;
 use line_replies::fault::Fault;
 use line_replies::layout::{Layout, laid_out};
 use line_replies::replies::Replies;
 use per_dynamic::located::{RefusedAt, refused_at};
-use per_messages::calls::{make, show};
-use per_messages::error::MessageError;
+use per_messages::calls::{make, show, show_checked};
+use per_messages::error::{MessageError, from_json_name};
+use per_messages::located::{Fault as JsonFault, from_json_located};
 use rasn_dynamic::types::Types;
+use rasn_dynamic_jer::from_json_error::FromJsonError;
 use rasn_types::types::Codec;
 use std::alloc::{AllocError, Global};
 
@@ -28,6 +33,8 @@ use std::alloc::{AllocError, Global};
 pub enum Task {
     /// Hexadecimal is shown as JSON, in a layout.
     Show(Layout),
+    /// It is shown likewise, and behind it a line for each remark: where the message departs from its object sets.
+    Check(Layout),
     /// JSON is made canonical octets, in lower-case hexadecimal.
     Make,
 }
@@ -56,6 +63,8 @@ pub enum Refusal {
     BadHexadecimal(usize),
     /// The message has no answer; and where its octets are refused, if they are.
     Message(MessageError, Option<RefusedAt>),
+    /// The text tells no value of the type; and where.
+    Json(JsonFault),
     /// Memory ran out.
     OutOfMemory,
 }
@@ -150,6 +159,7 @@ impl<'types> Messages<'types> {
     {
         match self.task {
             Task::Show(layout) => self.shown(alloc, layout, text),
+            Task::Check(layout) => self.checked(alloc, layout, text),
             Task::Make => self.made(alloc, text),
         }
     }
@@ -166,6 +176,22 @@ impl<'types> Messages<'types> {
         };
         match show(alloc, self.codec, self.types, self.place, octets.as_slice()) {
             Ok(json) => Ok(laid_out(alloc, layout, json)?),
+            Err(error) => Err(self.refused(alloc, error, octets.as_slice())?),
+        }
+    }
+
+    /// The same, and behind it a line for each remark on the message.
+    fn checked(&self, alloc: Global, layout: Layout, text: &[u8]) -> Result<Vec<u8>, Refusal>
+        ensures ok { IfOk result (λ answer. IsAnswerTo (Check layout) self.now text.now answer.items) }
+        ensures err { IfErr result (λ r. IsRefusedBy (Check layout) self.now text.now r ⊎ (r ≡ OutOfMemory)) }
+    {
+        let octets = match octets_in(alloc, text) {
+            Ok(octets) => octets,
+            Err(FromHexError::OutOfMemory) => return Err(Refusal::OutOfMemory),
+            Err(_) => return Err(Refusal::BadHexadecimal(column_of_fault(text))),
+        };
+        match show_checked(alloc, self.codec, self.types, self.place, octets.as_slice()) {
+            Ok(checked) => Ok(with_remarks(alloc, layout, checked)?),
             Err(error) => Err(self.refused(alloc, error, octets.as_slice())?),
         }
     }
@@ -193,9 +219,28 @@ impl<'types> Messages<'types> {
         ensures ok { IfOk result (λ answer. IsAnswerTo Make self.now text.now answer.items) }
         ensures err { IfErr result (λ r. IsRefusedBy Make self.now text.now r ⊎ (r ≡ OutOfMemory)) }
     {
-        let octets = make(alloc, self.codec, self.types, self.place, text)?;
-        let digits = hex::encode(alloc, octets.as_slice())?;
-        Ok(digits.into_bytes())
+        match make(alloc, self.codec, self.types, self.place, text) {
+            Ok(octets) => {
+                let digits = hex::encode(alloc, octets.as_slice())?;
+                Ok(digits.into_bytes())
+            }
+            Err(error) => Err(self.refused_text(alloc, error, text)),
+        }
+    }
+
+    /// The refusal of a text of JSON of which no octets are made.
+    fn refused_text(&self, alloc: Global, error: MessageError, text: &[u8]) -> Refusal
+        ensures { IsRefusalOfText self.now text.now error result }
+    {
+        match error {
+            MessageError::FromJson(_) => {
+                match from_json_located(alloc, self.types, self.place, text) {
+                    Ok(_) => Refusal::Message(error, None),
+                    Err(fault) => Refusal::from(fault),
+                }
+            }
+            _ => Refusal::from(error),
+        }
     }
 }
 
@@ -237,8 +282,31 @@ impl Refusal {
                 let place = place_text(alloc, at)?;
                 format!(in alloc; "{name} at {place}")
             }
+            Refusal::Json(fault) => fault_text(alloc, fault),
             Refusal::OutOfMemory => String::from_str(alloc, "OutOfMemory"),
         }
+    }
+}
+
+/// Why a text tells no value, and where, such as `UnknownMember at protocolIEs.3.id`.
+fn fault_text(alloc: Global, fault: &JsonFault) -> Result<String, AllocError>
+    ensures { IfOk result (λ text. string_bytes text ≡ fault_text fault.now) }
+{
+    let name = from_json_name(fault.error);
+    match fault.octet {
+        Some(octet) => format!(in alloc; "{name} at octet {octet}"),
+        None => name_at(alloc, name, fault.path.as_str()),
+    }
+}
+
+/// A name, and a path where it isn't that of the whole message.
+fn name_at(alloc: Global, name: &str, path: &str) -> Result<String, AllocError>
+    ensures { IfOk result (λ text. string_bytes text ≡ name.now ++ at_path path.now) }
+{
+    if path.is_empty() {
+        String::from_str(alloc, name)
+    } else {
+        format!(in alloc; "{name} at {path}")
     }
 }
 
@@ -269,6 +337,17 @@ impl From<MessageError> for Refusal {
         match error {
             MessageError::OutOfMemory => Refusal::OutOfMemory,
             _ => Refusal::Message(error, None),
+        }
+    }
+}
+
+impl From<JsonFault> for Refusal {
+    ghost from_gives = { λ f r. r ≡ fault_refusal f.error f };
+
+    fn from(fault: JsonFault) -> Refusal {
+        match fault.error {
+            FromJsonError::OutOfMemory => Refusal::OutOfMemory,
+            _ => Refusal::Json(fault),
         }
     }
 }

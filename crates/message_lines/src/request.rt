@@ -17,6 +17,8 @@ pub struct Request<'words> {
     pub form: Form,
     /// Whether JSON is laid out in lines.
     pub is_pretty: bool,
+    /// Whether it is told where a message departs from its object sets.
+    pub is_checked: bool,
     /// Whether each line has a first column, which is copied to the reply.
     pub has_column: bool,
     /// Whether a line that was refused gives the status 1.
@@ -57,6 +59,7 @@ pub fn request_of<'words>(
         of: type_of(&matches),
         form: form_of(&matches),
         is_pretty: matches.get_flag("pretty"),
+        is_checked: matches.get_flag("check"),
         has_column: matches.get_flag("column"),
         is_strict: matches.get_flag("strict"),
     })
@@ -112,6 +115,7 @@ fn command<'words>(alloc: Global, program: Program) -> Result<Command<'words>, E
         Program::Show => Ok(
             of_both
                 .arg(flag(alloc, "pretty", "A line for each item and member"))?
+                .arg(check(alloc))?
                 .arg(binary(alloc)?)?,
         ),
     }
@@ -184,6 +188,15 @@ fn column<'words>(alloc: Global) -> Result<Arg<'words>, Error> {
         "Each line has a first column, which is copied to the reply",
     );
     Ok(word.requires_arg("lines")?)
+}
+
+/// Whether it is told where a message departs from its object sets.
+fn check<'words>(alloc: Global) -> Arg<'words> {
+    flag(
+        alloc,
+        "check",
+        "Behind the JSON a line for each mandatory element that lacks, each one twice, each other criticality",
+    )
 }
 
 /// Whether the input is one message's octets.

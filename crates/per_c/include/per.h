@@ -278,6 +278,30 @@ uint32_t per_to_json(struct per_types *types, uint32_t options, size_t place, co
 uint32_t per_from_json(struct per_types *types, uint32_t options, size_t place, const uint8_t *text, size_t length,
                        uint8_t *out, size_t capacity, size_t *written);
 
+/** Where a bit stands: how many octets stand in front of its own, and how many bits of that, at most 7. */
+struct per_bit {
+    size_t octet;
+    uint32_t bit;
+};
+
+/**
+ * Where `count` octets are refused by the type at a place of a table, in `*bit` and as the identifiers and the numbers
+ * of elements from the whole message to what had begun there, as "protocolIEs.3.value"; empty for the message itself.
+ * Of octets that aren't refused, where the value ends. The path is put in the `capacity` octets at `path` as by
+ * `per_recode`. Returns PER_OK, PER_NO_ROOM, PER_NO_TYPES, PER_UNKNOWN_OPTIONS or PER_OUT_OF_MEMORY.
+ */
+uint32_t per_refused_at(struct per_types *types, uint32_t options, size_t place, const uint8_t *octets, size_t count,
+                        uint8_t *path, size_t capacity, size_t *written, struct per_bit *bit);
+
+/**
+ * Where a text of JSON tells no value of the type at a place of a table: the path to what is refused, as
+ * "protocolIEs.3.value", put in the `capacity` octets at `path` as by `per_recode`, and in `*octet` how many octets of
+ * the text stand in front of where it stops to be JSON, `length` where it is. Of a text that isn't refused the path is
+ * empty. Returns PER_OK, PER_NO_ROOM, PER_NO_TYPES or PER_OUT_OF_MEMORY.
+ */
+uint32_t per_json_refused_at(struct per_types *types, size_t place, const uint8_t *text, size_t length, uint8_t *path,
+                             size_t capacity, size_t *written, size_t *octet);
+
 /** The word that names a type in docs/TYPES.md, by its number, as "integer"; empty where there is no such type. */
 struct per_name per_type_name(uint32_t type);
 

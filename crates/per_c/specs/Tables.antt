@@ -1,5 +1,6 @@
 -- What the calls over tables of types answer.
-use Rattle.std.specs.Prelude.{ℕ, ◌≡◌, ◌≢◌, ◌⊎◌, true, false, List, Option, Some, None}
+use Rattle.std.specs.Prelude.{ℕ, ◌≡◌, ◌≢◌, ◌≤◌, ◌⊎◌, true, false, List, [], length, Option, Some, None}
+use Rattle.std.specs.Prelude.{IfSome, string_bytes}
 use Rattle.std.specs.Arc.{arc_value}
 use Rattle.std.specs.Str.{IsUtf8}
 use Rattle.std.specs.declared.alloc.Global.{Global}
@@ -8,12 +9,16 @@ use Rattle.rasn_schema.specs.Lawful.{IsLawfulType}
 use Rattle.rasn_dynamic.specs.Names.{place_of}
 use Rattle.rasn_dynamic.specs.Types.{schema_at}
 use Rattle.rasn_dynamic.specs.declared.types.Types.{Types}
+use Rattle.rasn_dynamic.specs.declared.values.Value.{Value}
+use Rattle.rasn_dynamic_jer.specs.Told.{IsTextOf}
 use Rattle.schema_file.specs.Lines.{IsLineOf}
 use Rattle.per_core.specs.Rows.{Codec}
 use Rattle.per_lines.specs.declared.arguments.Padding.TheVariants as Paddings
 use Rattle.per_messages.specs.Messages.{AreRecoded, AreRefused, AreShown, AreUnshown, AreWithoutFirst, IsFirst}
 use Rattle.per_messages.specs.Messages.{IsMade, IsUnmade}
+use Rattle.per_messages.specs.Paths.{IsFaultOf}
 use Rattle.per_messages.specs.declared.error.MessageError.{MessageError}
+use Rattle.per_messages.specs.declared.located.Fault.{Fault}
 use Rattle.per_c.specs.Numbers.{code_of, message_refusal, options_number}
 use Rattle.per_c.specs.declared.handle.Table.{Table}
 use Rattle.per_c.specs.declared.refusal.Refusal.{Refusal}
@@ -96,6 +101,38 @@ IsFirstOf held options place octets count =
 abbrev pub IsUnfirst : Option Table → ℕ → ℕ → List ℕ → Refusal → Type 0
 IsUnfirst held options place octets =
     IsNoAnswer held options (λ types codec. AreWithoutFirst types codec place octets)
+
+-- why it isn't told where octets are refused: no variant is asked for, no table is held, or memory ran out
+abbrev pub IsUnlocated : Option Table → ℕ → Refusal → Type 0
+IsUnlocated held options UnknownOptions = (codec : Codec) → options ≢ options_number codec Paddings.Any
+IsUnlocated held options NoTypes = held ≡ None
+IsUnlocated held options OutOfMemory = Unit {0}
+IsUnlocated held options _ = ⊥
+
+-- a text tells a value of the table that is held; or none, and the path leads to a part of it, or it is no JSON
+abbrev pub IsTextFaultBy : Types → ℕ → List ℕ → Option Fault → Type 0
+IsTextFaultBy types place text None = (value : Value) × IsTextOf types.kinds.items place text value
+IsTextFaultBy types place text (Some fault) = IsFaultOf types.kinds.items place text fault
+    × IfSome fault.octet (λ n. n ≤ length text)
+
+pub record IsTextFault (held : Option Table) (place : ℕ) (text : List ℕ) (fault : Option Fault) : Type 0 where
+  pub table : Table
+  pub is_held : held ≡ Some table
+  pub is_fault : IsTextFaultBy (arc_value table.types) place text fault
+
+-- the path to where a text is refused; empty where it isn't
+abbrev pub path_of : Option Fault → List ℕ
+path_of None = []
+path_of (Some fault) = string_bytes fault.path
+
+abbrev pub IsPathOf : Option Table → ℕ → List ℕ → List ℕ → Type 0
+IsPathOf held place text path = (fault : Option Fault) × IsTextFault held place text fault × (path ≡ path_of fault)
+
+-- why it isn't told where a text is refused: no table is held, or memory ran out
+abbrev pub IsUntold : Option Table → Refusal → Type 0
+IsUntold held NoTypes = held ≡ None
+IsUntold held OutOfMemory = Unit {0}
+IsUntold held _ = ⊥
 
 -- the type of a name stands at a place of the table that is held
 pub record IsFound (held : Option Table) (name : List ℕ) (place : ℕ) : Type 0 where

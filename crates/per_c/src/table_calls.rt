@@ -1,19 +1,19 @@
 //! The calls that `include/per.h` declares over tables of types.
 
-ghost use Rattle.std.specs.Prelude.{◌≡◌, ◌≢◌, IfNone, IfOk, IfSome, List, None, Some, length, ℕ};
+ghost use Rattle.std.specs.Prelude.{◌≡◌, ◌≢◌, ◌≤◌, ◌*◌, ◌+◌, IfNone, IfOk, IfSome, List, None, Some, length, ℕ};
 ghost use Rattle.std.specs.Arc.{arc_value};
 ghost use Rattle.std.specs.Str.{IsUtf8};
 ghost use Rattle.rasn_dynamic.specs.Names.{place_of};
 ghost use Rattle.per_c.specs.Answers.{IsUnputBy, Puts};
 ghost use Rattle.per_c.specs.Tables.{Holds, IsAnswered, IsBy, IsFirstOf, IsFound, IsHandle, IsLoaded, IsUnanswered};
-ghost use Rattle.per_c.specs.Tables.{IsUnfirst, IsUnfound, IsUnloaded, IsUnshared};
+ghost use Rattle.per_c.specs.Tables.{IsPathOf, IsUnfirst, IsUnfound, IsUnloaded, IsUnlocated, IsUnshared, IsUntold};
 ghost use Rattle.per_c.specs.declared.handle.Table.{Table as a_table};
 ghost use Rattle.per_c.specs.declared.tables.Task.TheVariants.{FromJson, Recode, ToJson};
 
 use crate::calls::put_answer;
 use crate::handle::Table;
 use crate::refusal::Refusal;
-use crate::tables::{PerTypes, Task, answer, first};
+use crate::tables::{PerTypes, Task, answer, first, located, text_fault};
 use rasn_dynamic::types::Types;
 use schema_file::error::Reason;
 use schema_file::load::load;
@@ -280,5 +280,80 @@ pub extern "C" fn per_first_length(
             *size = 0;
             refusal.code()
         }
+    }
+}
+
+/// A bit of octets: of the octet at an index, counted from its first bit, which is the highest.
+#[repr(C)]
+pub struct PerBit {
+    /// How many octets stand in front.
+    pub octet: usize,
+    /// How many bits of its octet do, at most 7.
+    pub bit: u32,
+}
+
+/// Where octets are refused by the type at a place: the path in `path`, how many octets it has in `written`, and how
+/// many bits stand in front in `bit`. Where `path` is too small, it stays as it is. Answers 0, or the code of a
+/// refusal.
+#[unsafe(no_mangle)]
+pub extern "C" fn per_refused_at(
+    alloc: Global,
+    types: &mut PerTypes,
+    options: u32,
+    place: usize,
+    octets: &[u8],
+    path: &mut [u8],
+    written: &mut usize,
+    bit: &mut PerBit,
+) -> u32
+    requires { IsHandle types.old }
+    ensures same { Holds types.new types.old.handle.table }
+    ensures put { result ≡ 0 → Puts (λ _. Unit {0}) path.old path.new written.new }
+    ensures within { result ≡ 0 → 8 * bit.new.octet + bit.new.bit ≤ 8 * length octets.now }
+    ensures refused { result ≢ 0 → IsUnputBy (λ _. Unit {0}) (IsUnlocated types.old.handle.table options)
+        (length path.old) written.new result }
+    ensures kept { result ≢ 0 → path.new ≡ path.old }
+{
+    match located(alloc, types, options, place, octets) {
+        Ok(at) => {
+            bit.octet = (at.bit / 8) as usize;
+            bit.bit = (at.bit % 8) as u32;
+            put_answer(Ok(at.path.into_bytes()), path, written)
+        }
+        Err(refusal) => put_answer(Err(refusal), path, written),
+    }
+}
+
+/// Where a text of JSON tells no value of the type at a place: the path in `path`, how many octets it has in `written`,
+/// and in `octet` how many octets of the text stand in front of where it stops to be JSON, all of them where it is.
+/// Where `path` is too small, it stays as it is. Answers 0, or the code of a refusal.
+#[unsafe(no_mangle)]
+pub extern "C" fn per_json_refused_at(
+    alloc: Global,
+    types: &mut PerTypes,
+    place: usize,
+    text: &[u8],
+    path: &mut [u8],
+    written: &mut usize,
+    octet: &mut usize,
+) -> u32
+    requires { IsHandle types.old }
+    ensures same { Holds types.new types.old.handle.table }
+    ensures put { result ≡ 0 → Puts (IsPathOf types.old.handle.table place text.now) path.old path.new written.new }
+    ensures within { result ≡ 0 → octet.new ≤ length text.now }
+    ensures refused { result ≢ 0 → IsUnputBy (IsPathOf types.old.handle.table place text.now)
+        (IsUntold types.old.handle.table) (length path.old) written.new result }
+    ensures kept { result ≢ 0 → path.new ≡ path.old }
+{
+    match text_fault(alloc, types, place, text) {
+        Ok(Some(fault)) => {
+            *octet = fault.octet.unwrap_or(text.len());
+            put_answer(Ok(fault.path.into_bytes()), path, written)
+        }
+        Ok(None) => {
+            *octet = text.len();
+            put_answer(Ok(Vec::new(alloc)), path, written)
+        }
+        Err(refusal) => put_answer(Err(refusal), path, written),
     }
 }

@@ -1,17 +1,20 @@
 //! Handles of tables of types, and what is answered by them.
 
-ghost use Rattle.std.specs.Prelude.{◌≡◌, ◌⊎◌, IfOk, IfErr, None, Some};
+ghost use Rattle.std.specs.Prelude.{◌≡◌, ◌≤◌, ◌*◌, ◌⊎◌, IfOk, IfErr, None, Some, length};
 ghost use Rattle.std.specs.Arc.{arc_value};
 ghost use Rattle.per_messages.specs.Messages.{AreWithoutFirst, IsFirst};
 ghost use Rattle.per_c.specs.Tables.{Answers, Holds, IsAnswered, IsFirstOf, IsHandle, IsRefusal, IsTable};
-ghost use Rattle.per_c.specs.Tables.{IsUnanswered, IsUnfirst, Refuses};
+ghost use Rattle.per_c.specs.Tables.{IsTextFault, IsUnanswered, IsUnfirst, IsUnlocated, IsUntold, Refuses};
 
 use crate::handle::{Handle, Table};
 use crate::loose::Loose;
 use crate::refusal::Refusal;
 use crate::request::codec_of;
+use per_dynamic::located::{RefusedAt, refused_at};
 use per_messages::calls::{first_length, make, recode, show};
+use per_messages::located::{Fault, from_json_located};
 use rasn_dynamic::types::Types;
+use rasn_dynamic_jer::from_json_error::FromJsonError;
 use rasn_types::types::Codec;
 use std::alloc::Global;
 use std::mem;
@@ -170,4 +173,58 @@ fn first_by(
     ensures err { IfErr result (IsRefusal (AreWithoutFirst types.now codec place octets.now)) }
 {
     Ok(first_length(alloc, codec, types, place, octets)?)
+}
+
+/// Where octets are refused by the type at a place of a handle's table, which stays in it.
+pub fn located(
+    alloc: Global,
+    types: &mut PerTypes,
+    options: u32,
+    place: usize,
+    octets: &[u8],
+) -> Result<RefusedAt, Refusal>
+    requires { IsHandle types.old }
+    ensures same { Holds types.new types.old.handle.table }
+    ensures ok { IfOk result (λ at. at.bit ≤ 8 * length octets.now) }
+    ensures err { IfErr result (IsUnlocated types.old.handle.table options) }
+{
+    let codec = codec_of(options).ok_or(Refusal::UnknownOptions)?;
+    let held = mem::replace(types, PerTypes::none(alloc));
+    let Some(table) = held.into_table() else {
+        return Err(Refusal::NoTypes);
+    };
+    let found = refused_at(alloc, codec, &table.types, place, octets);
+    types.put(table);
+    match found {
+        Ok(at) => Ok(at),
+        Err(_) => Err(Refusal::OutOfMemory),
+    }
+}
+
+/// Where a text of JSON tells no value of the type at a place of a handle's table, which stays in it; none where it
+/// tells one.
+pub fn text_fault(
+    alloc: Global,
+    types: &mut PerTypes,
+    place: usize,
+    text: &[u8],
+) -> Result<Option<Fault>, Refusal>
+    requires { IsHandle types.old }
+    ensures same { Holds types.new types.old.handle.table }
+    ensures ok { IfOk result (IsTextFault types.old.handle.table place text.now) }
+    ensures err { IfErr result (IsUntold types.old.handle.table) }
+{
+    let held = mem::replace(types, PerTypes::none(alloc));
+    let Some(table) = held.into_table() else {
+        return Err(Refusal::NoTypes);
+    };
+    let found = from_json_located(alloc, &table.types, place, text);
+    types.put(table);
+    match found {
+        Ok(_) => Ok(None),
+        Err(fault) => match fault.error {
+            FromJsonError::OutOfMemory => Err(Refusal::OutOfMemory),
+            _ => Ok(Some(fault)),
+        },
+    }
 }

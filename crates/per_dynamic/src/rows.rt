@@ -1,15 +1,68 @@
 //! The rows of object sets that records tell.
 
-ghost use Rattle.std.specs.Prelude.{◌≡◌, IfSome, Some, option_map, position, slice_get, string_bytes};
+ghost use Rattle.std.specs.Prelude.{◌≡◌, IfOk, IfSome, Some, option_map, position, slice_get, string_bytes};
+ghost use Rattle.std.specs.List.{list_any};
 ghost use Rattle.std.specs.Str.{bytes_eq};
-ghost use Rattle.per_dynamic.specs.OpenTypes.{first_named, has_value, IsRowAt, of_one_type, row_told, set_of, told_in};
+ghost use Rattle.per_dynamic.specs.OpenTypes.{AreTold, first_named, has_value, is_open, IsRowAt, of_one_type, row_of};
+ghost use Rattle.per_dynamic.specs.OpenTypes.{row_told, set_of, told_at, told_in};
 
 use rasn_dynamic::types::{Component, Kind, ObjectSet, Row, kind_at};
 use rasn_dynamic::values::Value;
 use rasn_schema::items::Place;
+use std::alloc::{AllocError, Global};
+
+/// By each component of a record that is an open type, the index of the row of its object set that the record tells, by
+/// its root components and their values. Where no component is an open type there are none.
+pub(crate) fn rows_told(
+    alloc: Global,
+    kinds: &[Kind],
+    root: &[Component],
+    root_values: &[Value],
+    components: &[Component],
+) -> Result<Vec<Option<usize>>, AllocError>
+    ensures { IfOk result (λ rows. AreTold kinds.now root.now root_values.now components.now rows.items) }
+{
+    let mut rows = Vec::new(alloc);
+    if !has_open(kinds, components) {
+        return Ok(rows);
+    }
+    for component in components {
+        rows.push(row_of(kinds, root, root_values, component))?;
+    }
+    Ok(rows)
+}
+
+/// Whether one of some components is an open type by an object set.
+fn has_open(kinds: &[Kind], components: &[Component]) -> bool
+    ensures { result ≡ list_any (is_open kinds.now) components.now }
+{
+    components
+        .iter()
+        .any(|component| set_at(kinds, component.of).is_some())
+}
+
+/// The index of the row that is told of a component, where it is an open type by an object set.
+fn row_of(
+    kinds: &[Kind],
+    root: &[Component],
+    root_values: &[Value],
+    component: &Component,
+) -> Option<usize>
+    ensures { result ≡ row_of kinds.now root.now root_values.now component.now }
+{
+    let set = set_at(kinds, component.of)?;
+    told_in(kinds, root, root_values, set)
+}
+
+/// The index of a row that stands at an index of some, none where none does.
+pub(crate) fn told_at(rows: &[Option<usize>], index: usize) -> Option<usize>
+    ensures { result ≡ told_at rows.now index }
+{
+    *rows.get(index)?
+}
 
 /// The index of the row of an object set that a record tells, by its root components and their values.
-pub(crate) fn told_in(
+fn told_in(
     kinds: &[Kind],
     components: &[Component],
     values: &[Value],

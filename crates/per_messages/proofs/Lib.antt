@@ -1,3 +1,5 @@
 mod First
+mod Paths
 mod Refused
 mod Unmade
+mod Walked

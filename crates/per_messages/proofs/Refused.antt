@@ -1,13 +1,14 @@
 -- Why octets are not recoded, not shown, and begin with no encoding.
-use Rattle.std.proofs.Common.{◌≡◌, ◌≢◌, ◌⊎◌, inl, inr, sym, subst, ℕ, List, Option, None, Result, Ok, Err}
-use Rattle.std.specs.Prelude.{IfErr}
+use Rattle.std.proofs.Common.{◌≡◌, ◌≢◌, ◌⊎◌, ◌∙◌, ap, inl, inr, sym, subst, ℕ, List}
 use Rattle.json.specs.Json.{max_depth}
 use Rattle.rasn_schema.specs.AtDepths.{AtDepths}
 use Rattle.rasn_schema.specs.Normal.{normal}
 use Rattle.rasn_dynamic.specs.Values.{levels_of, value_of}
 use Rattle.rasn_dynamic.specs.declared.types.Types.{Types}
 use Rattle.rasn_dynamic.specs.declared.values.Value.{Value}
+use Rattle.rasn_dynamic_jer.specs.Puts.{IsRefused}
 use Rattle.rasn_dynamic_jer.specs.Shown.{json_at}
+use Rattle.rasn_dynamic_jer.specs.declared.error.ToJsonError.{ToJsonError}
 use Rattle.per_core.specs.Rows.{Codec, variant_of}
 use Rattle.rasn_per.specs.Complete.{AreUnreadBy, basically, BeginWithNone, HasNoBytes}
 use Rattle.rasn_per.specs.Kinds.{IsInFront, IsInOctetsBy}
@@ -16,9 +17,10 @@ use Rattle.per_read.specs.declared.error.DecodeErrorKind.TheVariants as Decoding
 use Rattle.per_write.specs.Faults.{IsInValue}
 use Rattle.per_write.specs.declared.error.EncodeErrorKind.{EncodeErrorKind}
 use Rattle.per_write.specs.declared.error.EncodeErrorKind.TheVariants as Encoding
+use Rattle.per_messages.specs.Errors.{to_json_error_of}
 use Rattle.per_messages.specs.Messages.{AreRead, AreRefused, AreUnshown, AreWithoutFirst, type_at}
 use Rattle.per_messages.specs.declared.error.MessageError.{MessageError}
-use Rattle.per_messages.specs.declared.error.MessageError.TheVariants.{Decode, Encode, NoJson, OutOfMemory}
+use Rattle.per_messages.specs.declared.error.MessageError.TheVariants.{Decode, Encode, OutOfMemory}
 
 pub unread : (types : Types) (codec : Codec) (place : ℕ) (octets : List ℕ) (kind : DecodeErrorKind) (r : MessageError)
     → (kind ≢ Decoding.OutOfMemory → AreUnreadBy (basically (variant_of codec)) (type_at types place) octets)
@@ -41,13 +43,12 @@ unshown types codec place octets kind r none fault q =
     inl (subst (AreUnshown types codec place octets) (sym q) (record { unread = none; is_faulty = fault }))
 
 -- what is said where a value has no JSON
-pub without_json : {A : Type 0} (types : Types) (codec : Codec) (place : ℕ) (octets : List ℕ) (v : Value) (r : Result A MessageError)
-    → AreRead types codec place octets v → IfErr r (λ e. ((e ≡ NoJson) × (json_at types.kinds.items max_depth place v ≡ None)) ⊎ (e ≡ OutOfMemory))
-    → IfErr r (λ e. AreUnshown types codec place octets e ⊎ (e ≡ OutOfMemory))
-without_json types codec place octets v (Ok x) h k = k
-without_json types codec place octets v (Err e) h (inl k) =
-    inl (subst (AreUnshown types codec place octets) (sym k.0) (record { value = v; is_read = h; no_json = k.1 }))
-without_json types codec place octets v (Err e) h (inr m) = inr m
+pub without_json : (types : Types) (codec : Codec) (place : ℕ) (octets : List ℕ) (v : Value) (e : ToJsonError) (r : MessageError)
+    → AreRead types codec place octets v → IsRefused (json_at types.kinds.items max_depth place v) e → r ≡ to_json_error_of e
+    → AreUnshown types codec place octets r ⊎ (r ≡ OutOfMemory)
+without_json types codec place octets v e r h (inl m) q = inr (q ∙ ap to_json_error_of m)
+without_json types codec place octets v e r h (inr k) q =
+    inl (subst (AreUnshown types codec place octets) (sym (q ∙ ap to_json_error_of k.0)) (record { value = v; is_read = h; no_json = k.1 }))
 
 pub without_first : (types : Types) (codec : Codec) (place : ℕ) (octets : List ℕ) (kind : DecodeErrorKind) (r : MessageError)
     → (kind ≢ Decoding.OutOfMemory → BeginWithNone (variant_of codec) (type_at types place) octets)

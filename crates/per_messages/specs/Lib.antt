@@ -1,2 +1,4 @@
 pub mod Errors
 pub mod Messages
+pub mod Paths
+pub mod Remarks

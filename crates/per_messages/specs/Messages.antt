@@ -1,5 +1,5 @@
 -- What messages are answered with, by a table of types.
-use Rattle.std.specs.Prelude.{ℕ, ◌≡◌, ◌≢◌, ◌≤◌, ◌⊎◌, true, false, List, None, drop, length, take}
+use Rattle.std.specs.Prelude.{ℕ, ◌≡◌, ◌≢◌, ◌≤◌, ◌⊎◌, true, false, List, [], None, drop, length, take}
 use Rattle.json.specs.Json.{max_depth}
 use Rattle.rasn_schema.specs.AtDepths.{AtDepths}
 use Rattle.rasn_schema.specs.Normal.{normal}
@@ -22,6 +22,7 @@ use Rattle.per_read.specs.declared.error.DecodeErrorKind.TheVariants as Decoding
 use Rattle.per_write.specs.Faults.{IsInValue}
 use Rattle.per_write.specs.declared.error.EncodeErrorKind.{EncodeErrorKind}
 use Rattle.per_write.specs.declared.error.EncodeErrorKind.TheVariants as Encoding
+use Rattle.per_messages.specs.Remarks.{remarks_at, Told}
 use Rattle.per_messages.specs.declared.error.MessageError.{MessageError}
 use Rattle.per_messages.specs.declared.error.MessageError.TheVariants.{Decode, Encode, NoJson, OtherType, FromJson}
 
@@ -78,20 +79,37 @@ AreRefused types codec place octets (Encode kind) = kind ≢ Encoding.OutOfMemor
     → AreUnencoded types codec place octets kind
 AreRefused types codec place octets e = ⊥
 
--- the JSON of a value whose open types are read, or where that has none of the value with their octets
-abbrev pub IsJsonOf : Types → ℕ → Value → Value → List ℕ → Type 0
-IsJsonOf types place value opened text =
-    IsJsonText (json_at types.kinds.items max_depth place opened) text
-    ⊎ ((json_at types.kinds.items max_depth place opened ≡ None)
-    × IsJsonText (json_at types.kinds.items max_depth place value) text)
-
--- the JSON of the one value that octets spell, whose open types are read
-pub record AreShown (types : Types) (codec : Codec) (place : ℕ) (octets text : List ℕ) : Type 0 where
+-- the one value that octets spell, with its open types read
+pub record AreOpened (types : Types) (codec : Codec) (place : ℕ) (octets : List ℕ) (opened : Value) : Type 0 where
   pub value : Value
-  pub opened : Value
   pub is_read : AreRead types codec place octets value
   pub is_opened : IsOpened types codec place value opened
-  pub is_json : IsJsonOf types place value opened text
+
+-- the JSON of the one value that octets spell, with the octets of its open types
+pub record IsShownClosed (types : Types) (codec : Codec) (place : ℕ) (octets text : List ℕ) : Type 0 where
+  pub value : Value
+  pub is_read : AreRead types codec place octets value
+  pub is_json : IsJsonText (json_at types.kinds.items max_depth place value) text
+
+-- the JSON of a value whose open types are read, or where that has none, of the one that octets spell
+abbrev pub IsJsonOf : Types → Codec → ℕ → List ℕ → Value → List ℕ → Type 0
+IsJsonOf types codec place octets opened text =
+    IsJsonText (json_at types.kinds.items max_depth place opened) text
+    ⊎ ((json_at types.kinds.items max_depth place opened ≡ None) × IsShownClosed types codec place octets text)
+
+-- the JSON of the one value that octets spell, with its open types read; or where that has none, with their octets
+pub record AreShown (types : Types) (codec : Codec) (place : ℕ) (octets text : List ℕ) : Type 0 where
+  pub opened : Value
+  pub is_opened : AreOpened types codec place octets opened
+  pub is_json : IsJsonOf types codec place octets opened text
+
+-- the same, and where that value departs from the object sets of its open types
+pub record AreChecked (types : Types) (codec : Codec) (place : ℕ) (octets text : List ℕ) (remarks : List Told)
+    : Type 0 where
+  pub opened : Value
+  pub is_opened : AreOpened types codec place octets opened
+  pub is_json : IsJsonOf types codec place octets opened text
+  pub are_remarks : remarks ≡ remarks_at types.kinds.items 128 [] place opened
 
 -- octets spell a value that has no JSON
 pub record AreWithoutJson (types : Types) (codec : Codec) (place : ℕ) (octets : List ℕ) : Type 0 where

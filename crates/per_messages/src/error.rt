@@ -5,11 +5,13 @@ ghost use Rattle.per_messages.specs.Errors.{from_json_error_of, from_json_name, 
 ghost use Rattle.per_messages.specs.Errors.{to_json_error_of};
 ghost use Rattle.per_messages.specs.declared.error.MessageError.TheVariants.{Decode as decode_error};
 ghost use Rattle.per_messages.specs.declared.error.MessageError.TheVariants.{Encode as encode_error};
+ghost use Rattle.per_messages.specs.declared.error.MessageError.TheVariants.{OutOfMemory};
 
 use per_dynamic::open_types::OpenTypeError;
 use rasn_dynamic_jer::error::ToJsonError;
 use rasn_dynamic_jer::from_json_error::FromJsonError;
 use rasn_per::uper::{DecodeError, DecodeErrorKind, EncodeError, EncodeErrorKind};
+use std::alloc::AllocError;
 use thiserror::Error;
 
 /// Why a message has no answer.
@@ -70,6 +72,14 @@ pub fn from_json_name(error: FromJsonError) -> &'static str
         FromJsonError::BadTime => "BadTime",
         FromJsonError::BadIdentifier => "BadIdentifier",
         FromJsonError::NoType => "NoType",
+    }
+}
+
+impl From<AllocError> for MessageError {
+    ghost from_gives = { λ e r. r ≡ OutOfMemory };
+
+    fn from(_error: AllocError) -> MessageError {
+        MessageError::OutOfMemory
     }
 }
 

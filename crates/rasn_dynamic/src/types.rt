@@ -183,6 +183,8 @@ pub struct ObjectSet {
     /// Where that component is among those of the SEQUENCE that has the open type as a component: those of the root
     /// come first, then additions.
     pub chooser: usize,
+    /// Where the component is, counted alike, whose value each row tells too (in most sets a criticality), if one is.
+    pub criticality: Option<usize>,
     /// The types that it may be.
     pub rows: Vec<Row>,
 }
@@ -196,6 +198,21 @@ pub struct Row {
     pub name: String,
     /// The place of the type.
     pub of: usize,
+    /// The value of the component at `criticality`, where this row tells it.
+    pub criticality: Option<DefaultValue>,
+    /// Whether such an element has to be there, where the object set says so.
+    pub presence: Option<ElementPresence>,
+}
+
+/// Whether a list of elements has to hold one of a type. No encoding depends on it.
+#[derive(Clone, Copy, Debug, PartialEq, Eq)]
+pub enum ElementPresence {
+    /// It may be absent.
+    Optional,
+    /// A condition in the protocol's text says so.
+    Conditional,
+    /// It has to be there.
+    Mandatory,
 }
 
 /// The components of a record (X.680 25).

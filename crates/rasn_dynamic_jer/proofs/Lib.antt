@@ -3,6 +3,7 @@ pub mod Back
 pub mod ArcsTold
 pub mod DatesTold
 pub mod DaysTold
+pub mod Differing
 pub mod Digits
 pub mod Foreign
 pub mod Gathered

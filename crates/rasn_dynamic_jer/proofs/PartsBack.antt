@@ -1,7 +1,7 @@
 -- What the JSON of lists, choices and records tells, by what that of their parts does.
 use Rattle.std.proofs.Common.{◌≡◌, refl, sym, ap, ap₂, ◌∙◌, subst, ℕ, zero, suc, Bool, true, false, cond, not, ◌&&◌, ◌||◌, eqb, eqb-true, List, [], ◌∷◌, ◌++◌, map, length, Option, Some, None, option_map, append-nil, arith}
 use Rattle.std.specs.Prelude.{flat_map, is_some, position, slice_get, string_bytes}
-use Rattle.std.specs.List.{list_all, list_any}
+use Rattle.std.specs.List.{list_all}
 use Rattle.std.specs.Option.{option_and_then, unwrap_or}
 use Rattle.std.specs.Str.{bytes_eq}
 use Rattle.std.proofs.lemmas.Bool.{and_from, and_parts}
@@ -39,11 +39,12 @@ use Rattle.rasn_dynamic.proofs.Trees.{fields_slot}
 use Rattle.rasn_dynamic_jer.specs.Apart.{addition_names, alternative_names, are_rows_apart, component_names, differ, is_among, is_row_apart, is_row_of, member_names}
 use Rattle.rasn_dynamic_jer.specs.Normal.{addition_normal, additions_normal, are_idle, choice_normal, chosen_normal, group_normal, is_idle, open_normal, part_normal, record_normal, row_index, row_normal, slot_normal, slots_normal}
 use Rattle.rasn_dynamic_jer.specs.Shown.{all_json, alternative_json, array_json, both, component_members, fields_members, group_among, group_in, is_default, is_default_of, is_optional, json_at, json_by, Known, known, list_members, Member, members_from, members_of, members_there, named, one_member, record_members, record_of_group, row_json}
-use Rattle.rasn_dynamic_jer.specs.Told.{absent_told, addition_told, additions_told, alternative_place, alternative_told, choice_told, chosen_told, component_told, components_told, fields_told, group_told, has_member, is_addition, is_component, is_member, items_list, items_told, members_told, one_row_told, one_told, open_told, own_member, read_told, record_told, row_place, row_told, slot_told, values_told}
+use Rattle.rasn_dynamic_jer.specs.Told.{absent_told, addition_told, additions_told, alternative_place, alternative_told, choice_told, chosen_told, component_told, components_told, fields_told, group_told, has_member, is_member, items_list, items_told, members_told, one_row_told, one_told, open_told, own_member, read_told, record_told, row_place, row_told, slot_told, values_told}
+use Rattle.rasn_dynamic_jer.proofs.Differing.{member_is}
 use Rattle.rasn_dynamic_jer.proofs.Knowns.{knows_slot, roll_known}
 use Rattle.rasn_dynamic_jer.proofs.LeavesTold.{given, some_same}
 use Rattle.rasn_dynamic_jer.proofs.MembersBack.{AgreesOn, both_tell, lookup, lookup_none, lookup_one, names_of, none_tell, object_told, object_unique, one_tells, Tells}
-use Rattle.rasn_dynamic_jer.proofs.Named.{among_append, differ_distinct, differ_left, differ_right, or_left, or_none, or_right, own_name, same_name}
+use Rattle.rasn_dynamic_jer.proofs.Named.{differ_distinct, differ_left, differ_right, or_left, or_none, or_right, own_name, same_name}
 use Rattle.rasn_dynamic_jer.proofs.SimpleBack.{place_back, ReadAs, thing_at, was_mapped}
 
 -- ---- two parts of a list
@@ -517,25 +518,6 @@ module _ (ts : List Kind) (m : ℕ) (g : ℕ → Json → Option Value) (f : ℕ
 
   -- ---- records
 
-  component_is : (cs : List Component) (n : List ℕ) → is_among (component_names cs) n ≡ is_component cs n
-  component_is [] n = refl
-  component_is (c ∷ cs) n = ap (λ b. bytes_eq (string_bytes c.name) n || b) (component_is cs n)
-
-  addition_is : (o : Option Record) (c : Component) (n : List ℕ) → is_among (addition_names o c) n ≡ is_addition o c n
-  addition_is None c n = or_false (bytes_eq (string_bytes c.name) n)
-    where
-      or_false : (b : Bool) → (b || false) ≡ b
-      or_false true = refl
-      or_false false = refl
-  addition_is (Some r) c n = component_is r.root.items n
-
-  additions_are : (cs : List Component) (n : List ℕ) → is_among (all_names cs) n ≡ list_any (λ c. is_addition (group_in ts c) c n) cs
-  additions_are [] n = refl
-  additions_are (c ∷ cs) n = among_append (addition_names (group_in ts c) c) (all_names cs) n ∙ ap₂ (λ a b. a || b) (addition_is (group_in ts c) c n) (additions_are cs n)
-
-  member_is : (r : Record) (n : List ℕ) → is_among (member_names ts r) n ≡ is_member ts r n
-  member_is r n = among_append (component_names r.root.items) (all_names (behind r.additions)) n ∙ ap₂ (λ a b. a || b) (component_is r.root.items n) (additions_are (behind r.additions) n)
-
   all_members : (t : List ℕ → Bool) (ks : List (List ℕ)) → ((n : List ℕ) → is_among ks n ≡ true → t n ≡ true) → list_all t ks ≡ true
   all_members t [] h = refl
   all_members t (k ∷ ks) h =
@@ -567,7 +549,7 @@ module _ (ts : List Kind) (m : ℕ) (g : ℕ → Json → Option Value) (f : ℕ
       both_tell (component_names cs) (all_names adds) (λ js. components_told g (object js) cs) (λ js. additions_told ts g (object js) adds) vs ws q.first q.rest h.tells k d
       told (record_value vs ws) (λ js a b. ap₂ fields_told a b) in
       let all : list_all (is_member ts r) (names_of (q.first ++ q.rest)) ≡ true =
-      all_members (is_member ts r) (names_of (q.first ++ q.rest)) (λ n e. sym (member_is r n) ∙ t.named n e) in
+      all_members (is_member ts r) (names_of (q.first ++ q.rest)) (λ n e. sym (member_is ts r n) ∙ t.named n e) in
       subst (λ i. ReadAs (Some (record_value (map slot_of xs) (map slot_of ys))) (record_told ts g r i) (record_normal ts f r) i) (ap (λ ms. object (members_from ms)) q.are ∙ w.is_image) (record {
         value = record_value (map slot_of xs) (map slot_of ys);
         is_there = refl;

@@ -8,7 +8,7 @@ ghost use Rattle.rasn_dynamic_jer.specs.Told.{member_count};
 use json::Value as Json;
 
 /// The items of an array.
-pub(crate) fn items_of<'json, 'text>(json: &'json Json<'text>) -> Option<&'json [Json<'text>]>
+pub fn items_of<'json, 'text>(json: &'json Json<'text>) -> Option<&'json [Json<'text>]>
     ensures { option_map (λ s. items_view s.now) result ≡ as_array (value_view json.now) }
 {
     match json {
@@ -18,7 +18,7 @@ pub(crate) fn items_of<'json, 'text>(json: &'json Json<'text>) -> Option<&'json 
 }
 
 /// The members of an object.
-pub(crate) fn members_of<'json, 'text>(
+pub fn members_of<'json, 'text>(
     json: &'json Json<'text>,
 ) -> Option<&'json [(&'text str, Json<'text>)]>
     ensures { option_map (λ s. members_view s.now) result ≡ as_object (value_view json.now) }
@@ -30,7 +30,7 @@ pub(crate) fn members_of<'json, 'text>(
 }
 
 /// How many members an object has.
-pub(crate) fn member_count(json: &Json<'_>) -> usize
+pub fn member_count(json: &Json<'_>) -> usize
     ensures { result ≡ member_count (as_object (value_view json.now)) }
 {
     match members_of(json) {

@@ -15,7 +15,7 @@ use rasn_dynamic::types::{Alternative, Choice, Component, Kind, ObjectSet, Recor
 use rasn_schema::items::Place;
 
 /// Whether one of some components has a member.
-pub(crate) fn has_member(json: &Json<'_>, components: &[Component]) -> bool
+pub fn has_member(json: &Json<'_>, components: &[Component]) -> bool
     ensures { result ≡ has_member (value_view json.now) components.now }
 {
     components
@@ -24,7 +24,7 @@ pub(crate) fn has_member(json: &Json<'_>, components: &[Component]) -> bool
 }
 
 /// Whether each member of an object has a name of a record's members.
-pub(crate) fn are_members(kinds: &[Kind], sequence: &Record, members: &[(&str, Json<'_>)]) -> bool
+pub fn are_members(kinds: &[Kind], sequence: &Record, members: &[(&str, Json<'_>)]) -> bool
     ensures { result ≡ list_all (is_member kinds.now sequence.now) (keys (members_view members.now)) }
 {
     members
@@ -40,7 +40,7 @@ fn is_member(kinds: &[Kind], sequence: &Record, name: &str) -> bool
 }
 
 /// Whether a name is that of one of some components.
-fn is_component(components: &[Component], name: &str) -> bool
+pub fn is_component(components: &[Component], name: &str) -> bool
     ensures { result ≡ is_component components.now name.now }
 {
     components
@@ -49,7 +49,7 @@ fn is_component(components: &[Component], name: &str) -> bool
 }
 
 /// Whether a name is that of a member of one of some additions.
-fn is_added(kinds: &[Kind], components: &[Component], name: &str) -> bool
+pub fn is_added(kinds: &[Kind], components: &[Component], name: &str) -> bool
     ensures { result ≡ list_any (λ c. is_addition (group_in kinds.now c) c name.now) components.now }
 {
     components
@@ -68,7 +68,7 @@ fn is_addition(kinds: &[Kind], component: &Component, name: &str) -> bool
 }
 
 /// Where the first alternative with a name stands.
-pub(crate) fn alternative_place(choice: &Choice, name: &str) -> Option<Place>
+pub fn alternative_place(choice: &Choice, name: &str) -> Option<Place>
     ensures { result ≡ alternative_place choice.now name.now }
 {
     match alternative_index(&choice.roots, name) {
@@ -87,7 +87,7 @@ fn alternative_index(alternatives: &[Alternative], name: &str) -> Option<usize>
 }
 
 /// Where the first row with a name is.
-pub(crate) fn row_place(set: &ObjectSet, name: &str) -> Option<Place>
+pub fn row_place(set: &ObjectSet, name: &str) -> Option<Place>
     ensures { result ≡ row_place set.now name.now }
 {
     Some(Place::Root(row_index(&set.rows, name)?))

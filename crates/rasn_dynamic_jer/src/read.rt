@@ -48,7 +48,7 @@ pub fn from_json(
 }
 
 /// The JSON that octets are.
-fn parse<'text>(
+pub fn parse<'text>(
     alloc: Global,
     text: &'text [u8],
     scratch: &'text mut Scratch,
@@ -79,7 +79,7 @@ fn parse_text<'text>(
 
 /// Reads a value of the type at a place of a table, within so many levels of arrays and objects.
 #[cycle(reading)]
-fn read_at(
+pub fn read_at(
     alloc: Global,
     kinds: &[Kind],
     levels: usize,

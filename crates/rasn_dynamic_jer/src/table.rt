@@ -7,10 +7,7 @@ ghost use Rattle.rasn_dynamic_jer.specs.Shown.{group_in};
 use rasn_dynamic::types::{Component, Kind, Presence, Record, SizeBounds, kind_at};
 
 /// The record of a component's type, where the component is a group.
-pub(crate) fn group_in<'kinds>(
-    kinds: &'kinds [Kind],
-    component: &Component,
-) -> Option<&'kinds Record>
+pub fn group_in<'kinds>(kinds: &'kinds [Kind], component: &Component) -> Option<&'kinds Record>
     ensures { option_map (λ r. r.now) result ≡ group_in kinds.now component.now }
 {
     match (&component.presence, kind_at(kinds, component.of)?) {
@@ -20,7 +17,7 @@ pub(crate) fn group_in<'kinds>(
 }
 
 /// How many there are, where a size fixes it.
-pub(crate) fn fixed_by(size: &SizeBounds) -> Option<usize>
+pub fn fixed_by(size: &SizeBounds) -> Option<usize>
     ensures { result ≡ fixed_by size.now }
 {
     match size.constraint.start_and_end() {

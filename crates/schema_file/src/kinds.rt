@@ -5,7 +5,7 @@ use crate::parts::{choice, items, record};
 use crate::values::{MOST_LEVELS, default_value, skip_value};
 use crate::words::Words;
 use rasn_dynamic::types::{
-    CharacterString, CharacterType, DefaultValue, Kind, ObjectSet, Row, Simple,
+    CharacterString, CharacterType, DefaultValue, ElementPresence, Kind, ObjectSet, Row, Simple,
 };
 use std::alloc::Global;
 
@@ -76,56 +76,77 @@ fn open_type(alloc: Global, words: &mut Words<'_>, types: usize) -> Result<Kind,
         return Ok(Kind::Simple(Simple::Open));
     }
     let chooser = words.count()?;
-    let fixed = words.count_or_none()?;
+    let criticality = words.count_or_none()?;
     let count = words.count()?;
     if count == 0 {
         return Err(Reason::NotNumber);
     }
     let mut rows = Vec::new(alloc);
     for _ in 0..count {
-        if let Some(row) = row(alloc, words, types, fixed.is_some())? {
+        if let Some(row) = row(alloc, words, types, criticality.is_some())? {
             rows.push(row)?;
         }
     }
-    Ok(Kind::Open(ObjectSet { chooser, rows }))
+    Ok(Kind::Open(ObjectSet {
+        chooser,
+        criticality,
+        rows,
+    }))
 }
 
-/// Reads a row: a value, the name and the place of its type, what the value of another component is, and a presence.
-/// None is kept whose value holds values.
+/// Reads a row: a value, the name and the place of its type, the value of another component, and a presence. None is
+/// kept whose value holds values.
 fn row(
     alloc: Global,
     words: &mut Words<'_>,
     types: usize,
-    has_fixed: bool,
+    has_criticality: bool,
 ) -> Result<Option<Row>, Reason> {
-    let value = row_value(alloc, words)?;
+    let value = plain_value(alloc, words.word()?, words)?;
     let name = words.word()?;
     let of = words.count()?;
     if of >= types {
         return Err(Reason::NoSuchPlace);
     }
-    match words.word()? {
-        "-" => {}
-        head if has_fixed => skip_value(head, words, MOST_LEVELS)?,
+    let criticality = match words.word()? {
+        "-" => None,
+        head if has_criticality => plain_value(alloc, head, words)?,
         _ => return Err(Reason::UnknownWord),
-    }
-    words.word()?;
-    match value {
-        Some(value) => {
-            let name = String::from_str(alloc, name)?;
-            Ok(Some(Row { value, name, of }))
-        }
-        None => Ok(None),
-    }
+    };
+    let presence = presence_of(words.word()?);
+    let Some(value) = value else {
+        return Ok(None);
+    };
+    Ok(Some(Row {
+        value,
+        name: String::from_str(alloc, name)?,
+        of,
+        criticality,
+        presence,
+    }))
 }
 
-/// The value by which a row tells a type, where it holds no values.
-fn row_value(alloc: Global, words: &mut Words<'_>) -> Result<Option<DefaultValue>, Reason> {
-    match words.word()? {
-        head @ ("list" | "record" | "chosen") => {
+/// The value that words say, the first of which was read, where it holds no values.
+fn plain_value(
+    alloc: Global,
+    head: &str,
+    words: &mut Words<'_>,
+) -> Result<Option<DefaultValue>, Reason> {
+    match head {
+        "list" | "record" | "chosen" => {
             skip_value(head, words, MOST_LEVELS)?;
             Ok(None)
         }
         head => Ok(Some(default_value(alloc, head, words)?)),
+    }
+}
+
+/// The presence of an element that a word says, where it is one of the three that protocols use.
+fn presence_of(word: &str) -> Option<ElementPresence> {
+    match word {
+        "optional" => Some(ElementPresence::Optional),
+        "conditional" => Some(ElementPresence::Conditional),
+        "mandatory" => Some(ElementPresence::Mandatory),
+        _ => None,
     }
 }

@@ -1,0 +1,13 @@
+use Rattle.std.proofs.Common.{◌∙◌, rules}
+use Rattle.std.specs.Prelude.{string_bytes}
+use Rattle.std.specs.Str.{bytes_eq}
+use Rattle.std.proofs.lemmas.Iterator.{YieldsList-from_slice}
+use Rattle.std.proofs.lemmas.Iterator.Search.{any_from_yields_List}
+use borrow.Author.Tests.{tests}
+use Rattle.rasn_dynamic_jer.proofs.Differing.{any_name}
+use Rattle.per_messages.proofs.apart.is_item.Goals as goal
+
+pub returns : goal.returns
+returns c =
+    any_from_yields_List (λ n. bytes_eq (string_bytes n) c.args.name.now) _ _ _ c.any.ensures.ran (YieldsList-from_slice c.args.items.now cc) (λ x b q k. search (rules, tests))
+    ∙ any_name (λ n. string_bytes n) c.args.items.now c.args.name.now
