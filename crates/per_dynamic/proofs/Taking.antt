@@ -2,7 +2,7 @@
 use Rattle.std.proofs.Common.{◌≡◌, ◌≢◌, refl, sym, ap, ◌∙◌, subst, ℕ, zero, suc, ◌+◌, ◌<◌, ◌≤◌, List, [], ◌∷◌, ◌++◌, length, get_or, take, drop, set, map, arith, Option, Some, None, option_map, Result, Ok, Err, IfOk, Bool, true, false, ◌||◌}
 use Rattle.std.proofs.lemmas.Grind.{drop_more_same}
 use Rattle.std.proofs.lemmas.List.{drop-set-lt, get_or-drop, length-append, length-take-le, take_all, take_more, take_more_set, with_items_is}
-use Rattle.std.specs.Global.{Vec}
+use Rattle.std.specs.Global.{Box, Vec}
 use Rattle.std.specs.Vec.{with_items}
 use Rattle.std.proofs.lemmas.Option.{slice_get-map}
 use Rattle.std.specs.List.{list_any}
@@ -13,7 +13,10 @@ use Rattle.rasn_dynamic.specs.declared.types.Component.{Component}
 use Rattle.rasn_dynamic.specs.declared.types.ObjectSet.{ObjectSet}
 use Rattle.rasn_dynamic.specs.declared.types.Row.{Row}
 use Rattle.rasn_dynamic.specs.declared.types.Kind.{Kind}
+use Rattle.rasn_dynamic.specs.declared.types.Kind.TheVariants.{List as ListKind, SetOf, Record as RecordKind, Choice as ChoiceKind, Open as OpenKind, Simple as SimpleKind, Date as DateKind, Containing}
 use Rattle.rasn_dynamic.specs.declared.values.Value.{Value}
+use Rattle.rasn_dynamic.specs.declared.values.Value.TheVariants.{Alternative, Bag, Elements, Fields, Octets}
+use Rattle.rasn_schema.specs.declared.items.Place.{Place}
 use Rattle.rasn_dynamic.specs.Types.{within}
 use Rattle.rasn_types.specs.Codecs.{variant_of}
 use Rattle.rasn_dynamic.specs.Types.{schema_at}
@@ -23,7 +26,7 @@ use Rattle.per_write.specs.declared.error.EncodeErrorKind.TheVariants.{OutOfMemo
 use Rattle.rasn_per.specs.Complete.{AreUnread, HasNoBytes}
 use Rattle.per_dynamic.specs.declared.open_types.OpenTypeError.{OpenTypeError}
 use Rattle.per_dynamic.specs.OpenTypes.{AreTold, Each, fault, IsFaultOf, is_open, IsRowValue, IsUntaken, more, no_memory, none, row_of, set_of, Takes, TakesField, TakesFieldBy}
-use Rattle.per_dynamic.specs.OpenTypes.{TakesOneBy, TakesOpen, TakesParts, told_at, unread}
+use Rattle.per_dynamic.specs.OpenTypes.{IsOpenRead, IsOpenWritten, TakesBag, TakesChoice, TakesList, TakesOneBy, TakesOpen, TakesParts, TakesRecord, told_at, unread}
 use Rattle.per_dynamic.specs.declared.open_types.Way.{Way}
 
 pub bools : {b : Bool} → b ≡ true → b ≡ false → ⊥
@@ -113,3 +116,30 @@ untaken way ts i w kind e r (fault n q) h = subst (IsUntaken way ts) (sym q) (r,
 pub unread_row : (way : Way) (ts : List Kind) (f : ℕ → Value → Value → Type 0) (r : Row) (os : List ℕ) (y : Option Value) → y ≡ None
     → AreUnread (variant_of way.codec) (schema_at ts r.of) os → IsRowValue way ts f r os y
 unread_row way ts f r os y e h = subst (IsRowValue way ts f r os) (sym e) (unread h)
+
+-- a value in which no other is, and that is no octets, is left
+module _ (x : Value) (no_octets : (os : List ℕ) → x ≡ Octets os → ⊥) (no_elements : (v : Vec Value) → x ≡ Elements v → ⊥) (no_bag : (v : Vec Value) → x ≡ Bag v → ⊥)
+    (no_fields : (v w : Vec Value) → x ≡ Fields v w → ⊥) (no_alternative : (p : Place) (b : Box Value) → x ≡ Alternative p b → ⊥) (way : Way) (ts : List Kind) where
+  parts_left : (f : ℕ → Value → Value → Type 0) (k : Option Kind) → TakesParts way ts f k x x
+  parts_left f (Some (ListKind i c)) = TakesList.other no_elements refl
+  parts_left f (Some (SetOf i c)) = TakesBag.other no_bag refl
+  parts_left f (Some (RecordKind r)) = TakesRecord.other no_fields refl
+  parts_left f (Some (ChoiceKind c)) = TakesChoice.other no_alternative refl
+  parts_left f (Some (SimpleKind s)) = refl
+  parts_left f (Some DateKind) = refl
+  parts_left f (Some (Containing i)) = refl
+  parts_left f (Some (OpenKind s)) = refl
+  parts_left f None = refl
+
+  takes_left : (n i : ℕ) → Takes way ts n i x x
+  unfolding Takes
+  takes_left zero i = refl
+  takes_left (suc n) i = parts_left (Takes way ts n) (within ts (slice_get ts i))
+
+  one_left : (n : ℕ) (told : Option ℕ) (i : ℕ) (o : Option ObjectSet) → TakesOneBy way ts (Takes way ts n) told i o x x
+  one_left n told i None = takes_left n i
+  one_left n told i (Some s) = ((λ r. IsOpenRead.other no_octets refl), (λ r. IsOpenWritten.other no_alternative refl))
+
+  pub field_left : (n : ℕ) (told : Option ℕ) (c : Option Component) → TakesFieldBy way ts (Takes way ts n) told c x x
+  field_left n told None = refl
+  field_left n told (Some c) = one_left n told c.of (set_of (slice_get ts c.of))

@@ -4,7 +4,7 @@ ghost use Rattle.std.specs.Prelude.{◌≡◌, ◌≢◌, IfErr, IfNone, IfOk, I
 ghost use Rattle.std.specs.Prelude.{false, option_map, slice_get, true};
 ghost use Rattle.per_read.specs.declared.error.DecodeErrorKind.TheVariants.{OutOfMemory as no_room_to_read};
 ghost use Rattle.rasn_dynamic.specs.Types.{within};
-ghost use Rattle.rasn_dynamic.specs.declared.values.Value.TheVariants.{Octets};
+ghost use Rattle.rasn_dynamic.specs.declared.values.Value.TheVariants.{Alternative, Bag, Elements, Fields, Octets};
 ghost use Rattle.per_dynamic.specs.OpenTypes.{AreRowOctets, Each, IsFaultOf, IsOpenRead, IsOpenWritten, IsRowValue};
 ghost use Rattle.per_dynamic.specs.OpenTypes.{IsUntaken, set_of, Takes, TakesBag, TakesChoice, TakesFieldBy, TakesList};
 ghost use Rattle.per_dynamic.specs.OpenTypes.{TakesOneBy, TakesOpen, TakesParts, TakesRecord, TakesTold};
@@ -287,9 +287,30 @@ fn take_field(
         told (option_map (λ c. c.now) component.entry) value) }
     ensures refused { IfErr result (IsUntaken way types.now.kinds.items) }
 {
+    if !has_parts(&value) {
+        return Ok(value);
+    }
     match component {
         Some(component) => take_one(alloc, types, way, levels, component.of, told, value),
         None => Ok(value),
+    }
+}
+
+/// Whether a value is octets, or others are in it.
+fn has_parts(value: &Value) -> bool
+    ensures octets { result ≡ false → (os : _) → value.now ≡ Octets os → ⊥ }
+    ensures elements { result ≡ false → (v : _) → value.now ≡ Elements v → ⊥ }
+    ensures bag { result ≡ false → (v : _) → value.now ≡ Bag v → ⊥ }
+    ensures fields { result ≡ false → (v : _) → (w : _) → value.now ≡ Fields v w → ⊥ }
+    ensures alternative { result ≡ false → (p : _) → (b : _) → value.now ≡ Alternative p b → ⊥ }
+{
+    match value {
+        Value::Octets(_) => true,
+        Value::Elements(_) => true,
+        Value::Bag(_) => true,
+        Value::Fields(_, _) => true,
+        Value::Alternative(_, _) => true,
+        _ => false,
     }
 }
 

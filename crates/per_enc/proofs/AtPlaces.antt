@@ -17,7 +17,6 @@ use Rattle.rasn_traits.specs.Counted.{IsChoiceOf, PassesPlaced, PlacedOpened, in
 use Rattle.per_core.specs.Canon.{canon, chosen, extension_bit, members}
 use Rattle.per_core.specs.Counts.{constrained_whole, open_bits, small}
 use Rattle.per_core.specs.Writers.{Writer, ◌▹◌}
-use Rattle.per_pieces.specs.OpenSets.{OpenSet}
 use Rattle.per_pieces.specs.Pieces.{Pieces}
 use Rattle.per_pieces.proofs.Writing.{then_assoc, then_same}
 use Rattle.per_write.specs.Components.{Encoding}
@@ -29,6 +28,7 @@ use Rattle.per_write.proofs.Writing.{wrote_same, wrote_then}
 use Rattle.per_write_types.specs.Choices.{OpensUnplaced, OutsideChoice, restored}
 use Rattle.per_write_types.specs.Placed.{ClosesPlaced, EntersPlaced, LeavesRoot, OpensPlaced as OpensPlacedOf, placed_front}
 use Rattle.per_write_types.proofs.Placing.{two_put}
+use Rattle.per_pieces.specs.Turns.{counts, Enclosing, uncounted}
 use Rattle.per_enc.specs.Placed.{OpensPlaced, OpensPlacedIn}
 use Rattle.per_enc.specs.Rules.{encoding_rules, noting}
 use Rattle.per_enc.proofs.Around.{memory_noted}
@@ -51,7 +51,7 @@ passes c p x i o (Schema.choice ps qs marker) k h =
     }
 passes c p x i o _ k h = absurd k
 
-pub choice_placed : (c : ItemCounts) (p : Place) (x i : Encoding) (o : OutsideChoice) (set : Option OpenSet) → set ≡ (noting x).set → i.set ≡ None → OpensPlacedOf c p (noting x).writer o i.writer
+pub choice_placed : (c : ItemCounts) (p : Place) (x i : Encoding) (o : OutsideChoice) (set : Enclosing) → set ≡ (noting x).set → i.set ≡ counts uncounted → OpensPlacedOf c p (noting x).writer o i.writer
     → PlacedOpened encoding_rules OpensPlaced c (side_of p) (index_in p) x (Ok (o, set)) i
 choice_placed c p x i o set w n h = λ s k. (
   record { opened = record { alternatives = c; place = p; is_choice = k; side = refl; index = refl; opened = h }; waits = w; inside = n },

@@ -11,7 +11,6 @@ use Rattle.rasn_traits.specs.Calls.{Written}
 use Rattle.rasn_traits.specs.Contents.{OpenedContents}
 use Rattle.per_core.specs.Canon.{canon}
 use Rattle.per_core.specs.Counts.{open_bits}
-use Rattle.per_pieces.specs.OpenSets.{OpenSet}
 use Rattle.per_pieces.specs.Pieces.{unplaced}
 use Rattle.per_write.specs.Components.{Encoding}
 use Rattle.per_write.specs.declared.error.EncodeError.{EncodeError}
@@ -23,6 +22,7 @@ use Rattle.per_write.specs.State.{empty_scope, Presents, Puts, State, view}
 use Rattle.per_write.specs.Unplaced.{BeginsUnplaced, OutsideUnplaced}
 use Rattle.per_write.proofs.Refusing.{no_contents}
 use Rattle.per_write.proofs.Writing.{wrote_same}
+use Rattle.per_pieces.specs.Turns.{counts, Enclosing, uncounted}
 use Rattle.per_enc.specs.Rules.{encoding_rules, noting}
 use Rattle.per_enc.specs.Scopes.{OpensContents}
 use Rattle.per_enc.proofs.Choices.{from_start}
@@ -58,7 +58,7 @@ refuses_contents e x i s v f c r = record {
   codec_is = r.codec_is ∙ c;
 }
 
-pub contents_opened : (x i : Encoding) (o : OutsideUnplaced) (set : Option OpenSet) → set ≡ (noting x).set → i.set ≡ None → BeginsUnplaced (noting x).writer o i.writer
+pub contents_opened : (x i : Encoding) (o : OutsideUnplaced) (set : Enclosing) → set ≡ (noting x).set → i.set ≡ counts uncounted → BeginsUnplaced (noting x).writer o i.writer
     → OpenedContents encoding_rules OpensContents x (Ok (o, set)) i
 contents_opened x i o set w n h =
     let f : i.writer.failed ≡ false = ap (λ (z : State). z.failed) h.same ∙ h.begun in

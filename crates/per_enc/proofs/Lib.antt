@@ -15,3 +15,4 @@ pub mod Around
 pub mod AtPlaces
 pub mod Counting
 pub mod SetCalls
+pub mod Turns

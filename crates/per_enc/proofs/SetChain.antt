@@ -21,6 +21,7 @@ use Rattle.per_write.specs.Components.{begun_with, Encoding, going_on, noted, un
 use Rattle.per_write.specs.declared.error.EncodeError.{EncodeError}
 use Rattle.per_write.specs.Faults.{HasPart, part_here, part_behind, RefusesValue}
 use Rattle.per_write.specs.State.{Presents as PresentsIn, Scope, State}
+use Rattle.per_pieces.specs.Turns.{Enclosing, gathers}
 use Rattle.per_enc.specs.Rules.{encoding_rules, IsUnmarkedWhere, Marks, MarksWhere, noting, Presents}
 use Rattle.per_enc.proofs.Chain.{out_shown, there_shown}
 
@@ -50,7 +51,7 @@ other_pieces x y f c s =
 -- Of so many components of a SET that was opened so, and stands behind some pieces, the first were presented.
 pub record InSet (w : State) (all : ℕ) (outer : Pieces) (cs : List Component) (x : Encoding) : Type 0 where
   pub set : OpenSet
-  pub is_set : x.set ≡ Some set
+  pub is_set : x.set ≡ gathers set
   pub presented : HasPresented all outer cs (underway set x.writer)
   pub same : x.writer ≡ record w { pieces = x.writer.pieces }
   pub unfailed : w.failed ≡ false
@@ -95,12 +96,12 @@ value_put w all outer cs bit s v u x z y f e b n h =
     }
 
 -- where a value begins in a SET
-noting_set : (x : Encoding) (k : OpenSet) → x.set ≡ Some k → noting x ≡ going_on (begins_value (underway k x.writer)) x.writer
-noting_set x k e = ap (λ (o : Option OpenSet). noted o x.writer) e
+noting_set : (x : Encoding) (k : OpenSet) → x.set ≡ gathers k → noting x ≡ going_on (begins_value (underway k x.writer)) x.writer
+noting_set x k e = ap (λ (o : Enclosing). noted o x.writer) e
 
 -- a presence bit in a SET
-marked_set : (x y : Encoding) (k : OpenSet) (b : Bool) → x.set ≡ Some k → Marks x b y → y ≡ begun_with b k x.writer
-marked_set x y k b e m = (subst (λ (o : Option OpenSet). MarksWhere o x.writer b y) e m).1
+marked_set : (x y : Encoding) (k : OpenSet) (b : Bool) → x.set ≡ gathers k → Marks x b y → y ≡ begun_with b k x.writer
+marked_set x y k b e m = (subst (λ (o : Enclosing). MarksWhere o x.writer b y) e m).1
 
 further : (w : State) (all : ℕ) (outer : Pieces) (cs : List Component) (q : Presence) (s : Schema) (r : Option Value) (x y : Encoding) → InSet w all outer cs x → length cs < all
     → PresentsPart encoding_rules q s x r y → Further w all outer cs q s r y
@@ -212,7 +213,7 @@ refused_component e w all outer cs (part t q s ps) (r ∷ rs) x i le (refuses_he
       same = ap (λ (k : Encoding). k.writer.codec) d ∙ ap (λ (k : State). k.codec) i.same;
     }
 refused_component e w all outer cs (part t q s ps) (r ∷ rs) x i le (refuses_here (refuses_bit b u)) =
-    let f : x.writer.failed ≡ true = (subst (λ (o : Option OpenSet). IsUnmarkedWhere e o x.writer) i.is_set u).1 in
+    let f : x.writer.failed ≡ true = (subst (λ (o : Enclosing). IsUnmarkedWhere e o x.writer) i.is_set u).1 in
     let g : x.writer.failed ≡ false = ap (λ (k : State). k.failed) i.same ∙ i.unfailed in
     absurd cc
 refused_component e w all outer cs (part t q s ps) (r ∷ rs) x i le (refuses_behind {m = m} c h) =

@@ -28,6 +28,7 @@ use Rattle.per_write.specs.Records.{AreGiven, ClosedBehind, ClosesOrNot, IsUngiv
 use Rattle.per_write.specs.Rules.{encoder_rules}
 use Rattle.per_write.specs.State.{Additions, Presents as PresentsIn, Scope, State}
 use Rattle.per_write.proofs.Gathering.{closed_form}
+use Rattle.per_pieces.specs.Turns.{Enclosing, gathers}
 use Rattle.per_enc.specs.Records.{behind_marker, part_count}
 use Rattle.per_enc.specs.Rules.{encoding_rules, noting}
 use Rattle.per_enc.specs.Scopes.{OpensSet}
@@ -39,10 +40,10 @@ use Rattle.per_enc.proofs.Records.{addition_none, at_start, extended_behind, no_
 use Rattle.per_enc.proofs.SetChain.{all_presented, AllPresented, InSet, other_pieces, refused_component}
 use Rattle.per_enc.proofs.SetParts.{has_ordered, part_none}
 
-inside : {A : Type 0} {s t : A} → Some s ≡ Some t → s ≡ t
+inside : {s t : OpenSet} → gathers s ≡ gathers t → s ≡ t
 inside e = cc
 
-module _ (ps : Parts) (marker : Bool) (qs : Parts) (x i : Encoding) (o : Scope × Option OpenSet) (h : OpensSet (count ps) (behind_marker marker (part_count qs)) x o i) where
+module _ (ps : Parts) (marker : Bool) (qs : Parts) (x i : Encoding) (o : Scope × Enclosing) (h : OpensSet (count ps) (behind_marker marker (part_count qs)) x o i) where
   -- what the SET stands behind
   abbrev pub z : State
   z = (noting x).writer
@@ -116,7 +117,7 @@ module _ (ps : Parts) (marker : Bool) (qs : Parts) (x i : Encoding) (o : Scope �
   root rs = placed ps (each_writes its_flag (members a ps) rs) ▹ placed ps (each_writes its_value (members a ps) rs)
 
   -- the components that were put in order are those that were presented
-  put : (rs : List (Option Value)) (m j : Encoding) (set : OpenSet) (fields : List Shape) (y : State) → fields ≡ shapes_from 0 ps → PresentsParts encoding_rules ps i rs m → j.set ≡ Some set → j.set ≡ m.set → j.writer.pieces ≡ m.writer.pieces
+  put : (rs : List (Option Value)) (m j : Encoding) (set : OpenSet) (fields : List Shape) (y : State) → fields ≡ shapes_from 0 ps → PresentsParts encoding_rules ps i rs m → j.set ≡ gathers set → j.set ≡ m.set → j.writer.pieces ≡ m.writer.pieces
       → PutsInOrder fields set j.writer y → Appends h.front.pieces (root rs) y.pieces
   put rs m j set fields y e k s t q c =
       let l = all_in rs m k in
@@ -132,7 +133,7 @@ module _ (ps : Parts) (marker : Bool) (qs : Parts) (x i : Encoding) (o : Scope �
       (c.appended ps e (ap length are ∙ l.counted)))))
 
   -- a SET of which all components were presented is complete
-  complete : (rs : List (Option Value)) (m j : Encoding) (set : OpenSet) (fields : List Shape) → fields ≡ shapes_from 0 ps → PresentsParts encoding_rules ps i rs m → j.set ≡ Some set → j.set ≡ m.set → j.writer.pieces ≡ m.writer.pieces
+  complete : (rs : List (Option Value)) (m j : Encoding) (set : OpenSet) (fields : List Shape) → fields ≡ shapes_from 0 ps → PresentsParts encoding_rules ps i rs m → j.set ≡ gathers set → j.set ≡ m.set → j.writer.pieces ≡ m.writer.pieces
       → closed fields (underway set j.writer) ≡ None → ⊥
   complete rs m j set fields e k s t q n =
       let l = all_in rs m k in
@@ -173,7 +174,7 @@ module _ (ps : Parts) (marker : Bool) (qs : Parts) (x i : Encoding) (o : Scope �
 
   -- X.691 21.1: a SET that is closed
   pub closes_set : (rs xs : List (Option Value)) (j : Encoding) (set : OpenSet) (fields : List Shape) (y w : State) (result : Result (Unit {0}) EncodeError) → (marker ≡ false → qs ≡ no_parts) → fields ≡ shapes_from 0 ps
-      → PresentsFields encoding_rules ps qs i rs xs j → j.set ≡ Some set → PutsInOrder fields set j.writer y → ClosesOrNot o.0 y result w → Written encoder_rules (Schema.sequence by_tag ps marker qs) (record_value rs xs) z result w
+      → PresentsFields encoding_rules ps qs i rs xs j → j.set ≡ gathers set → PutsInOrder fields set j.writer y → ClosesOrNot o.0 y result w → Written encoder_rules (Schema.sequence by_tag ps marker qs) (record_value rs xs) z result w
   closes_set rs xs j set fields y w result n e (presents_fields {m = m} k b) s c d = go marker refl result d
     where
       t : PresentsAdditions encoder_rules qs m.writer xs j.writer × (j.set ≡ m.set)
@@ -240,7 +241,7 @@ module _ (ps : Parts) (marker : Bool) (qs : Parts) (x i : Encoding) (o : Scope �
 
   -- one whose components weren't put: memory ran out
   pub unput_set : (rs xs : List (Option Value)) (j : Encoding) (set : OpenSet) (fields : List Shape) (e : EncodeError) → (marker ≡ false → qs ≡ no_parts) → fields ≡ shapes_from 0 ps
-      → PresentsFields encoding_rules ps qs i rs xs j → j.set ≡ Some set → IsMemory e j.writer ⊎ (IsError OutOfTurn e j.writer × (closed fields (underway set j.writer) ≡ None)) → IsMemory e z
+      → PresentsFields encoding_rules ps qs i rs xs j → j.set ≡ gathers set → IsMemory e j.writer ⊎ (IsError OutOfTurn e j.writer × (closed fields (underway set j.writer) ≡ None)) → IsMemory e z
   unput_set rs xs j set fields e n f (presents_fields {m = m} k b) s c = go marker refl
     where
       t : PresentsAdditions encoder_rules qs m.writer xs j.writer × (j.set ≡ m.set)
@@ -257,7 +258,7 @@ module _ (ps : Parts) (marker : Bool) (qs : Parts) (x i : Encoding) (o : Scope �
           said (ap (λ (y : State). y.codec) (v ∙ (all_in rs m k).inside.same) ∙ h.marked.same) (ap (λ (y : State). y.pieces) v) c
 
   -- an open SET is there
-  pub still_open : (rs xs : List (Option Value)) (j : Encoding) → PresentsFields encoding_rules ps qs i rs xs j → (k : OpenSet) × (j.set ≡ Some k) × (j.writer.failed ≡ false)
+  pub still_open : (rs xs : List (Option Value)) (j : Encoding) → PresentsFields encoding_rules ps qs i rs xs j → (k : OpenSet) × (j.set ≡ gathers k) × (j.writer.failed ≡ false)
   still_open rs xs j (presents_fields {m = m} k b) = go marker refl
     where
       t : PresentsAdditions encoder_rules qs m.writer xs j.writer × (j.set ≡ m.set)
@@ -266,6 +267,6 @@ module _ (ps : Parts) (marker : Bool) (qs : Parts) (x i : Encoding) (o : Scope �
       l : AllPresented h.front (count ps) h.front.pieces [] ps rs m
       l = all_in rs m k
 
-      go : (b : Bool) → marker ≡ b → (k : OpenSet) × (j.set ≡ Some k) × (j.writer.failed ≡ false)
+      go : (b : Bool) → marker ≡ b → (k : OpenSet) × (j.set ≡ gathers k) × (j.writer.failed ≡ false)
       go true q = (l.inside.set, t.1 ∙ l.inside.is_set, (given_all qs m.writer j.writer z.codec xs (to_be_given (bit_count z.pieces.list) (part_count qs)) (still_given rs m q k) t.0).gathering.unfailed)
       go false q = (l.inside.set, t.1 ∙ l.inside.is_set, ap (λ (y : State). y.failed) ((given_none qs m.writer j.writer xs (none_given rs m q k) t.0).1 ∙ l.inside.same) ∙ h.marked.unfailed)

@@ -1,13 +1,13 @@
 -- What opening a CHOICE of which the alternative is known does to an encoder (ITU-T X.691, 23).
-use Rattle.std.specs.Prelude.{◌≡◌, ℕ, Option}
+use Rattle.std.specs.Prelude.{◌≡◌, ℕ}
 use Rattle.rasn_types.specs.Values.{Side}
 use Rattle.rasn_schema.specs.Schemas.{Schema}
 use Rattle.rasn_schema.specs.declared.items.ItemCounts.{ItemCounts}
 use Rattle.rasn_schema.specs.declared.items.Place.{Place}
 use Rattle.rasn_traits.specs.Counted.{IsChoiceOf, index_in, side_of}
-use Rattle.per_pieces.specs.OpenSets.{OpenSet}
 use Rattle.per_write.specs.Components.{Encoding}
 use Rattle.per_write.specs.State.{State}
+use Rattle.per_pieces.specs.Turns.{Enclosing, uncounted}
 use Rattle.per_write_types.specs.Choices.{OutsideChoice}
 use Rattle.per_write_types.specs.Placed.{OpensPlaced as OpensPlacedOf}
 use Rattle.per_enc.specs.Scopes.{OpensWithin}
@@ -22,6 +22,6 @@ pub record OpensPlacedIn (c : Schema) (d : Side) (k : ℕ) (x : State) (outside 
   pub index : index_in place ≡ k
   pub opened : OpensPlacedOf alternatives place x outside i
 
--- the same, where a SET around it waits
-abbrev pub OpensPlaced : Schema → Side → ℕ → Encoding → (OutsideChoice × Option OpenSet) → Encoding → Type 0
-OpensPlaced c d k = OpensWithin (OpensPlacedIn c d k)
+-- the same, where what encloses it waits
+abbrev pub OpensPlaced : Schema → Side → ℕ → Encoding → (OutsideChoice × Enclosing) → Encoding → Type 0
+OpensPlaced c d k = OpensWithin uncounted (OpensPlacedIn c d k)

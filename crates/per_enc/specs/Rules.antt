@@ -1,11 +1,10 @@
 -- The rules of an encoder that puts a value's canonical bits behind those that were written before; of a component of
 -- an open SET, by itself (ITU-T X.691, 21.1).
-use Rattle.std.specs.Prelude.{◌≡◌, Bool, true, false, Option, Some, None}
+use Rattle.std.specs.Prelude.{◌≡◌, Bool, true, false}
 use Rattle.rasn_types.specs.Values.{Value}
 use Rattle.rasn_types.specs.declared.types.Codec.{Codec}
 use Rattle.rasn_schema.specs.Schemas.{Schema}
 use Rattle.rasn_traits.specs.Calls.{EncoderRules}
-use Rattle.per_pieces.specs.OpenSets.{OpenSet}
 use Rattle.per_pieces.specs.Pieces.{no_pieces}
 use Rattle.per_write.specs.Additions.{Adds as AddsTo, Begins as BeginsTo, IsSurplus, Skips as SkipsIn}
 use Rattle.per_write.specs.Components.{begun_with, Encoding, noted}
@@ -14,10 +13,11 @@ use Rattle.per_write.specs.declared.error.EncodeErrorKind.TheVariants.{OutOfTurn
 use Rattle.per_write.specs.Faults.{IsAlready, IsError, IsMemory, RefusesValue}
 use Rattle.per_write.specs.Presences.{IsUnmarked, Marks as MarksIn}
 use Rattle.per_write.specs.State.{fresh as fresh_state, Presents as PresentsIn, State}
+use Rattle.per_pieces.specs.Turns.{awaits, counts, Enclosing, gathers, marked, uncounted}
 
 -- what has written nothing
 abbrev pub fresh : Codec → Encoding
-fresh codec = record { writer = fresh_state codec; set = None }
+fresh codec = record { writer = fresh_state codec; set = counts uncounted }
 
 -- what was written is taken out
 abbrev pub emptied : Encoding → Encoding
@@ -32,28 +32,29 @@ pub record Presents (x : Encoding) (s : Schema) (v : Value) (y : Encoding) : Typ
   pub written : PresentsIn (noting x).writer s v y.writer
   pub set : y.set ≡ (noting x).set
 
--- the next presence bit is given: where a SET is open, that of the next component
-abbrev pub MarksWhere : Option OpenSet → State → Bool → Encoding → Type 0
-MarksWhere None x b y = MarksIn x b y.writer × (y.set ≡ None)
-MarksWhere (Some set) x b y = (x.failed ≡ false) × (y ≡ begun_with b set x)
+-- the next presence bit is given: where a SET's components are gathered, that of the next one; and else a bit 0 is a
+-- component that comes
+abbrev pub MarksWhere : Enclosing → State → Bool → Encoding → Type 0
+MarksWhere (counts t) x b y = MarksIn x b y.writer × (y.set ≡ counts (marked b t))
+MarksWhere (gathers set) x b y = (x.failed ≡ false) × (y ≡ begun_with b set x)
 
 abbrev pub Marks : Encoding → Bool → Encoding → Type 0
 Marks x b y = MarksWhere x.set x.writer b y
 
 -- an error by which a presence bit is refused: none is left, or the encoder had been refused before
-abbrev pub IsUnmarkedWhere : EncodeError → Option OpenSet → State → Type 0
-IsUnmarkedWhere e None x = IsUnmarked e x
-IsUnmarkedWhere e (Some set) x = IsAlready e x × (x.failed ≡ true)
+abbrev pub IsUnmarkedWhere : EncodeError → Enclosing → State → Type 0
+IsUnmarkedWhere e (counts t) x = IsUnmarked e x
+IsUnmarkedWhere e (gathers set) x = IsAlready e x × (x.failed ≡ true)
 
 -- the next addition is absent
 pub record Skips (x y : Encoding) : Type 0 where
   pub given : SkipsIn x.writer y.writer
   pub set : y.set ≡ x.set
 
--- the contents of the next addition's open type begin
+-- the contents of the next addition's open type begin: one value is to come
 pub record Begins (x y : Encoding) : Type 0 where
   pub opened : BeginsTo x.writer y.writer
-  pub set : y.set ≡ None
+  pub set : y.set ≡ counts (awaits 1)
 
 -- the next addition is there: one value in an open type
 pub record Adds (x : Encoding) (s : Schema) (v : Value) (y : Encoding) : Type 0 where

@@ -1,18 +1,22 @@
--- What is open in an encoder. Inside all but a SET whose components are presented in the order of its fields, what is
--- kept of such a SET around it waits (ITU-T X.691, 21.1).
-use Rattle.std.specs.Prelude.{ℕ, ◌≡◌, List, Option, None}
+-- What is open in an encoder, and how many components are still to come in it. What encloses it waits outside (ITU-T
+-- X.691, 19, 21.1, 23).
+use Rattle.std.specs.Prelude.{ℕ, ◌≡◌, ◌⊎◌, true, false, List, Option}
 use Rattle.rasn_types.specs.Values.{Value}
 use Rattle.rasn_schema.specs.Lawful.{presence_bits}
 use Rattle.rasn_schema.specs.Normal.{root_of}
 use Rattle.rasn_schema.specs.Schemas.{by_tag, count, Schema}
 use Rattle.rasn_traits.specs.Lists.{ListForm}
-use Rattle.per_pieces.specs.OpenSets.{opened, OpenSet}
+use Rattle.per_pieces.specs.OpenSets.{opened}
 use Rattle.per_write.specs.Additions.{Opens as OpensOpenTypeIn, OutsideAddition}
 use Rattle.per_write.specs.Components.{Encoding, going_on}
+use Rattle.per_write.specs.declared.error.EncodeError.{EncodeError}
+use Rattle.per_write.specs.declared.error.EncodeErrorKind.TheVariants.{OutOfTurn}
 use Rattle.per_write.specs.declared.lists.UnwrittenElements.{UnwrittenElements}
+use Rattle.per_write.specs.Faults.{IsAlready, IsError}
 use Rattle.per_write.specs.Lists.{IsOpenList as IsOpenListIn}
 use Rattle.per_write.specs.Records.{Opens as OpensRecord}
 use Rattle.per_write.specs.State.{Scope, State}
+use Rattle.per_pieces.specs.Turns.{awaits, counts, Enclosing, is_complete, Turn, uncounted}
 use Rattle.per_write.specs.Unplaced.{BeginsUnplaced, OutsideUnplaced}
 use Rattle.per_write_types.specs.Bags.{IsOpenBag as IsOpenBagIn, OpenBag}
 use Rattle.per_write_types.specs.Choices.{OutsideChoice}
@@ -20,46 +24,59 @@ use Rattle.per_enc.specs.Choices.{OpensChoice as OpensChoiceIn}
 use Rattle.per_enc.specs.Records.{addition_count, behind_marker, part_count}
 use Rattle.per_enc.specs.Rules.{noting}
 
--- Something is opened in which values stand, as a writer opens it: what is kept of a SET waits beside what the writer
--- says.
-pub record OpensWithin {O : Type 0} (opens : State → O → State → Type 0) (x : Encoding) (o : O × Option OpenSet)
-    (y : Encoding) : Type 0 where
+-- Something is opened in which values stand, as a writer opens it: what encloses it waits beside what the writer says,
+-- and so many components are to come.
+pub record OpensWithin {O : Type 0} (turn : Turn) (opens : State → O → State → Type 0) (x : Encoding)
+    (o : O × Enclosing) (y : Encoding) : Type 0 where
   pub opened : opens (noting x).writer o.0 y.writer
   pub waits : o.1 ≡ (noting x).set
-  pub inside : y.set ≡ None
+  pub inside : y.set ≡ counts turn
 
 -- X.691 21: a SET of so many root components is opened, of which each is written before its place is known: a zero
 -- stands for its extension bit
-pub record OpensSet (parts : ℕ) (additions : Option ℕ) (x : Encoding) (o : Scope × Option OpenSet)
+pub record OpensSet (parts : ℕ) (additions : Option ℕ) (x : Encoding) (o : Scope × Enclosing)
     (y : Encoding) : Type 0 where
   pub front : State
   pub marked : OpensRecord 0 additions (noting x).writer o.0 front
   pub waits : o.1 ≡ (noting x).set
   pub inside : y ≡ going_on (opened parts front.pieces) front
 
--- X.691 19, 21: a SEQUENCE or a SET is opened
-abbrev pub Opens : Schema → Encoding → (Scope × Option OpenSet) → Encoding → Type 0
-Opens (Schema.sequence by_tag ps marker qs) = OpensSet (count ps) (behind_marker marker (part_count qs))
-Opens s = OpensWithin (OpensRecord (presence_bits (root_of s)) (addition_count s))
+-- why what is open isn't closed: a call was refused before, or not as many components came as were awaited
+abbrev pub IsUnclosed : EncodeError → Encoding → Type 0
+IsUnclosed e x = (IsAlready e x.writer × (x.writer.failed ≡ true))
+    ⊎ (IsError OutOfTurn e x.writer × (x.writer.failed ≡ false) × (is_complete x.set ≡ false))
 
--- X.691 23: a CHOICE is opened
-abbrev pub OpensChoice : Schema → Encoding → (OutsideChoice × Option OpenSet) → Encoding → Type 0
-OpensChoice s = OpensWithin (OpensChoiceIn s)
+-- a record is opened, in which so many components are to come
+abbrev pub OpensScope : Turn → Schema → Encoding → (Scope × Enclosing) → Encoding → Type 0
+OpensScope t s = OpensWithin t (OpensRecord (presence_bits (root_of s)) (addition_count s))
+
+-- X.691 19, 21: a SEQUENCE or a SET is opened, in which all its components are to come
+abbrev pub Opens : Schema → Encoding → (Scope × Enclosing) → Encoding → Type 0
+Opens (Schema.sequence by_tag ps marker qs) = OpensSet (count ps) (behind_marker marker (part_count qs))
+Opens s = OpensScope (awaits (count (root_of s))) s
+
+-- the same of a SEQUENCE in which nothing is counted
+abbrev pub OpensFields : Schema → Encoding → (Scope × Enclosing) → Encoding → Type 0
+OpensFields s = OpensScope uncounted s
+
+-- X.691 23: a CHOICE is opened, in which one value is to come
+abbrev pub OpensChoice : Schema → Encoding → (OutsideChoice × Enclosing) → Encoding → Type 0
+OpensChoice s = OpensWithin (awaits 1) (OpensChoiceIn s)
 
 -- X.682 11, X.691 11.2: octets that are to contain a value are opened; it has no place yet
-abbrev pub OpensContents : Encoding → (OutsideUnplaced × Option OpenSet) → Encoding → Type 0
-OpensContents = OpensWithin BeginsUnplaced
+abbrev pub OpensContents : Encoding → (OutsideUnplaced × Enclosing) → Encoding → Type 0
+OpensContents = OpensWithin uncounted BeginsUnplaced
 
--- X.691 19.9: the open type of the next addition is opened
-pub record OpensOpenType (x : Encoding) (o : OutsideAddition × Option OpenSet) (y : Encoding) : Type 0 where
+-- X.691 19.9: the open type of the next addition is opened, in which one value is to come
+pub record OpensOpenType (x : Encoding) (o : OutsideAddition × Enclosing) (y : Encoding) : Type 0 where
   pub opened : OpensOpenTypeIn x.writer o.0 y.writer
   pub waits : o.1 ≡ x.set
-  pub inside : y.set ≡ None
+  pub inside : y.set ≡ counts (awaits 1)
 
 -- X.691 20: a list is open
-abbrev pub IsOpenList : ListForm → Encoding → List Value → (UnwrittenElements × Option OpenSet) → Encoding → Type 0
-IsOpenList f x vs = OpensWithin (λ z l y. IsOpenListIn f z vs l y) x
+abbrev pub IsOpenList : ListForm → Encoding → List Value → (UnwrittenElements × Enclosing) → Encoding → Type 0
+IsOpenList f x vs = OpensWithin uncounted (λ z l y. IsOpenListIn f z vs l y) x
 
 -- X.691 22: a bag is open
-abbrev pub IsOpenBag : ListForm → Encoding → List Value → (OpenBag × Option OpenSet) → Encoding → Type 0
-IsOpenBag f x vs = OpensWithin (λ z b y. IsOpenBagIn f z vs b y) x
+abbrev pub IsOpenBag : ListForm → Encoding → List Value → (OpenBag × Enclosing) → Encoding → Type 0
+IsOpenBag f x vs = OpensWithin uncounted (λ z b y. IsOpenBagIn f z vs b y) x

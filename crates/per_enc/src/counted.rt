@@ -75,7 +75,7 @@ impl<A: Allocator + Clone> CountedEncoder for Encoder<A> {
         addition: (OutsideAddition<A>, EnclosingSet<A>),
         has_required: bool,
     ) -> Result<(), EncodeError> {
-        self.writer.check_unfailed()?;
+        self.check_scope()?;
         let (open_type, set) = addition;
         self.set = set;
         self.writer.close_group(open_type, has_required)

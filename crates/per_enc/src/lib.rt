@@ -1,19 +1,15 @@
 //! The canonical encoder of the packed encoding rules (ITU-T X.691).
 #![tactic(auto)]
 
-ghost use Rattle.std.specs.Prelude.{◌≡◌, true, false, Some, None, OnOk, OnErr, IfOk, IfErr, IsErrAnd, MatchOption};
-ghost use Rattle.rasn_types.specs.Values.{whole};
-ghost use Rattle.rasn_types.specs.declared.types.Codec.TheVariants.{Aper, Uper};
-ghost use Rattle.rasn_schema.specs.Forms.{number_schema};
+ghost use Rattle.std.specs.Prelude.{◌≡◌, true, false, Some, OnOk, OnErr, IfOk, IfErr};
 ghost use Rattle.rasn_traits.specs.Calls.{Writes};
 ghost use Rattle.per_core.specs.Canon.{completed};
-ghost use Rattle.per_enc.specs.Choices.{counted_variants};
-ghost use Rattle.per_enc.specs.Records.{counted_behind};
-ghost use Rattle.per_enc.specs.Rules.{emptied, encoding_rules, fresh, noting};
-ghost use Rattle.per_enc.specs.Short.{PutsWhere};
-ghost use Rattle.per_write.specs.Faults.{IsAlready, IsMemory, RefusesOutput};
+ghost use Rattle.per_enc.specs.Rules.{emptied, encoding_rules, fresh};
+ghost use Rattle.per_write.specs.Faults.{RefusesOutput};
 ghost use Rattle.per_write.specs.State.{view};
+ghost use Rattle.per_pieces.specs.Turns.{is_complete, uncounted};
 
+pub use options::EncoderOptions;
 use per_bits::BitList;
 pub use per_write::error;
 pub use per_write::error::{EncodeError, EncodeError as Error, EncodeErrorKind};
@@ -24,7 +20,6 @@ use per_write_types::choices::{OutsideChoice, checked_place, close_choice, open_
 use per_write_types::dates::put_date;
 use per_write_types::enumerated::put_enumerated;
 use per_write_types::identifiers::put_object_identifier;
-use per_write_types::integers::{Between, number_between, put_integer};
 use per_write_types::times::{put_generalized_time, put_utc_time};
 use rasn_schema::choices::Choice;
 use rasn_schema::enumerated::Enumerated;
@@ -36,56 +31,21 @@ use rasn_traits::encoder;
 use rasn_types::bit_string::BitString;
 use rasn_types::octet_strings::{Any, GeneralString, GraphicString, TeletexString};
 use rasn_types::types::{Codec, Identifier, Tag};
+use scopes::{added_count, addition_count};
 use std::alloc::Allocator;
 use std::marker::Model;
 
 pub mod counted;
-
-/// How an encoder writes: the variant in use.
-#[derive(Clone, Copy, Debug)]
-pub struct EncoderOptions {
-    codec: Codec,
-}
-
-impl Model for EncoderOptions {
-    ghost use Rattle.rasn_types.specs.declared.types.Codec.{Codec};
-
-    ghost Value = { Codec };
-
-    ghost view = { λ a. a.codec };
-
-    ghost inverse = { λ c. record { codec = c } };
-}
-
-impl EncoderOptions {
-    /// The ALIGNED variant (X.691 7).
-    pub const fn aligned() -> Self
-        ensures { result ≡ Aper }
-    {
-        EncoderOptions { codec: Codec::Aper }
-    }
-
-    /// The UNALIGNED variant (X.691 7).
-    pub const fn unaligned() -> Self
-        ensures { result ≡ Uper }
-    {
-        EncoderOptions { codec: Codec::Uper }
-    }
-}
-
-impl Default for EncoderOptions {
-    ghost is_default = { λ o. o ≡ Uper };
-
-    fn default() -> Self {
-        EncoderOptions::unaligned()
-    }
-}
+mod integers;
+mod options;
+mod scopes;
 
 /// Writes values, one after another, in their canonical bits.
 #[derive(Drop)]
 pub struct Encoder<A: Allocator + Clone> {
     writer: Writer<A>,
-    /// The open SET whose components are written at once; none where no SET is open, or inside one of them.
+    /// What encloses what is written next: a scope whose components are counted, or a SET whose components are
+    /// gathered.
     set: EnclosingSet<A>,
 }
 
@@ -105,7 +65,7 @@ impl<A: Allocator + Clone> Encoder<A> {
     {
         Encoder {
             writer: Writer::new(alloc, options.codec),
-            set: EnclosingSet::none(),
+            set: EnclosingSet::uncounted(),
         }
     }
 
@@ -116,7 +76,7 @@ impl<A: Allocator + Clone> Encoder<A> {
     {
         Encoder {
             writer: Writer::new_with_output(options.codec, output),
-            set: EnclosingSet::none(),
+            set: EnclosingSet::uncounted(),
         }
     }
 
@@ -155,105 +115,13 @@ impl<A: Allocator + Clone> Encoder<A> {
     {
         self.output()
     }
-
-    /// Begins a value, unless a call was refused before: where the components of a SET are written at once, it is that
-    /// of one.
-    #[inline(always)]
-    fn begin_value(&mut self) -> Result<(), EncodeError>
-        ensures ok { OnOk result (self.old.writer.failed ≡ false) }
-        ensures noted { OnOk result (self.new ≡ noting self.old) }
-        ensures err { IfErr result (λ e. IsAlready e self.old.writer) }
-        ensures failed { OnErr result (self.old.writer.failed ≡ true) }
-        ensures stays { OnErr result (self.new ≡ self.old) }
-    {
-        self.writer.check_unfailed()?;
-        self.note_value();
-        Ok(())
-    }
-
-    /// Begins a value where no call was refused before, as `begin_value` does.
-    #[inline(always)]
-    fn note_value(&mut self)
-        ensures { self.new ≡ noting self.old }
-    {
-        self.writer.note_value(&mut self.set);
-    }
-
-    /// Begins a value that others stand in, which no SET around it takes for its components. Answers what is kept of
-    /// that SET meanwhile.
-    #[inline(always)]
-    fn begin_outer_value(&mut self) -> Result<EnclosingSet<A>, EncodeError>
-        ensures ok { OnOk result (self.old.writer.failed ≡ false) }
-        ensures waits { IfOk result (λ set. set ≡ (noting self.old).set) }
-        ensures inside { OnOk result (self.new ≡ record { writer = (noting self.old).writer; set = None }) }
-        ensures err { IfErr result (λ e. IsAlready e self.old.writer) }
-        ensures failed { OnErr result (self.old.writer.failed ≡ true) }
-        ensures stays { OnErr result (self.new ≡ self.old) }
-    {
-        self.begin_value()?;
-        Ok(self.set.take())
-    }
-}
-
-impl<A: Allocator + Clone> Encoder<A> {
-    /// Writes an INTEGER that an `i128` holds and that comes without an extension bit, under no bounds or within two,
-    /// where no call was refused before. Answers whether memory sufficed; else the encoder has failed. `None` where it
-    /// is another, and nothing has changed then. No error is made, and so none needs room.
-    #[inline(always)]
-    fn put_short_integer<I: IntegerType>(
-        &mut self,
-        constraints: &Constraints,
-        value: &I,
-    ) -> Option<bool>
-        ensures { let v = whole (I.number value.now) in
-            MatchOption result (self.new ≡ self.old)
-            (λ suffices. PutsWhere suffices (number_schema constraints.now I.range) v self.old self.new) }
-    {
-        if self.writer.has_failed() {
-            return None;
-        }
-        let Some(stated) = constraints.value() else {
-            let number = value.to_i128()?;
-            self.note_value();
-            return Some(self.writer.put_short_whole(number));
-        };
-        let Between {
-            lower,
-            upper,
-            number,
-        } = number_between(&stated, value)?;
-        self.note_value();
-        Some(self.writer.put_between(lower, upper, number))
-    }
-
-    /// Writes an INTEGER in whichever form its constraints give it (X.691 13), or says that memory ran out before.
-    #[inline(never)]
-    fn put_any_integer<I: IntegerType>(
-        &mut self,
-        is_out_of_memory: bool,
-        constraints: &Constraints,
-        value: &I,
-    ) -> Result<(), EncodeError>
-        ensures writes { is_out_of_memory ≡ false → Writes encoding_rules (number_schema constraints.now I.range)
-            (whole (I.number value.now)) self.old result self.new }
-        ensures memory { is_out_of_memory ≡ true → IsErrAnd result (λ e. IsMemory e self.old.writer) }
-        ensures stays { is_out_of_memory ≡ true → self.new ≡ self.old }
-    {
-        if is_out_of_memory {
-            return Err(self.writer.out_of_memory());
-        }
-        self.begin_value()?;
-        match constraints.value() {
-            Some(stated) => put_integer(&mut self.writer, stated, value),
-            None => self.writer.put_unconstrained_whole(value),
-        }
-    }
 }
 
 impl<A: Allocator + Clone> encoder::Encoder for Encoder<A> {
     ghost use Rattle.per_enc.specs.Laws.Relations.{presents_well};
     ghost use Rattle.per_enc.specs.Laws.Sets.{sets_written};
-    ghost use Rattle.per_enc.specs.Scopes.{IsOpenBag, IsOpenList, Opens, OpensChoice, OpensContents, OpensOpenType};
+    ghost use Rattle.per_enc.specs.Scopes.{IsOpenBag, IsOpenList, Opens, OpensChoice, OpensContents, OpensFields};
+    ghost use Rattle.per_enc.specs.Scopes.{OpensOpenType};
 
     type Error = EncodeError;
 
@@ -272,6 +140,8 @@ impl<A: Allocator + Clone> encoder::Encoder for Encoder<A> {
     ghost rules = { encoding_rules };
 
     ghost opens = { Opens };
+
+    ghost opens_fields = { OpensFields };
 
     ghost opens_addition = { OpensOpenType };
 
@@ -490,8 +360,10 @@ impl<A: Allocator + Clone> encoder::Encoder for Encoder<A> {
         _identifier: Identifier,
     ) -> Result<(Scope<A>, EnclosingSet<A>), EncodeError> {
         let set = self.begin_outer_value()?;
-        let count = C::FIELDS.number_of_optional_and_default_fields();
+        let fields = C::FIELDS;
+        let count = fields.number_of_optional_and_default_fields();
         let scope = self.writer.open_record(count, addition_count::<C>())?;
+        self.set = EnclosingSet::awaiting(fields.len());
         Ok((scope, set))
     }
 
@@ -499,10 +371,31 @@ impl<A: Allocator + Clone> encoder::Encoder for Encoder<A> {
         &mut self,
         outside: (Scope<A>, EnclosingSet<A>),
     ) -> Result<(), EncodeError> {
-        self.writer.check_unfailed()?;
+        self.check_scope()?;
         let (scope, set) = outside;
         self.set = set;
         self.writer.close_record(scope)
+    }
+
+    fn open_fields<C: Constructed>(
+        &mut self,
+        _tag: Tag,
+        _identifier: Identifier,
+    ) -> Result<(Scope<A>, EnclosingSet<A>), EncodeError> {
+        let set = self.begin_outer_value()?;
+        let optional = C::FIELDS.number_of_optional_and_default_fields();
+        let fields = self.writer.open_record(optional, addition_count::<C>())?;
+        Ok((fields, set))
+    }
+
+    fn close_fields<C: Constructed>(
+        &mut self,
+        outside: (Scope<A>, EnclosingSet<A>),
+    ) -> Result<(), EncodeError> {
+        self.writer.check_unfailed()?;
+        let (fields, set) = outside;
+        self.set = set;
+        self.writer.close_record(fields)
     }
 
     fn open_components<C: Constructed>(
@@ -537,9 +430,11 @@ impl<A: Allocator + Clone> encoder::Encoder for Encoder<A> {
         _identifier: Identifier,
     ) -> Result<(Scope<A>, EnclosingSet<A>), EncodeError> {
         let set = self.begin_outer_value()?;
-        let bits = C::FIELDS.number_of_optional_and_default_fields();
+        let fields = C::FIELDS;
+        let bits = fields.number_of_optional_and_default_fields();
         let added = addition_count::<C>();
         let scope = self.writer.open_record(bits, added)?;
+        self.set = EnclosingSet::awaiting(fields.len());
         Ok((scope, set))
     }
 
@@ -547,7 +442,7 @@ impl<A: Allocator + Clone> encoder::Encoder for Encoder<A> {
         &mut self,
         outside: (Scope<A>, EnclosingSet<A>),
     ) -> Result<(), EncodeError> {
-        self.writer.check_unfailed()?;
+        self.check_scope()?;
         let (ordered, set) = outside;
         self.set = set;
         self.writer.close_record(ordered)
@@ -560,6 +455,7 @@ impl<A: Allocator + Clone> encoder::Encoder for Encoder<A> {
     ) -> Result<(OutsideChoice<A>, EnclosingSet<A>), EncodeError> {
         let set = self.begin_outer_value()?;
         let choice = open_choice(&mut self.writer, C::VARIANTS.len(), added_count::<C>())?;
+        self.set = EnclosingSet::awaiting(1);
         Ok((choice, set))
     }
 
@@ -573,6 +469,9 @@ impl<A: Allocator + Clone> encoder::Encoder for Encoder<A> {
         let added = C::EXTENDED_VARIANTS;
         let found = variants.place_of(&added, chosen);
         let place = checked_place(&mut self.writer, found)?;
+        if !self.set.is_complete() {
+            return Err(self.writer.refuse(EncodeErrorKind::OutOfTurn));
+        }
         let (choice, set) = outside;
         self.set = set;
         close_choice(&mut self.writer, variants.len(), place, choice)
@@ -602,11 +501,10 @@ impl<A: Allocator + Clone> encoder::Encoder for Encoder<A> {
     #[inline(always)]
     fn set_presence(&mut self, is_there: bool) -> Result<(), EncodeError> {
         self.writer.check_unfailed()?;
-        if self.set.is_none() {
+        if self.set.is_uncounted() {
             return self.writer.set_presence(is_there);
         }
-        self.writer.begin_component(&mut self.set, is_there);
-        Ok(())
+        self.set_presence_within(is_there)
     }
 
     fn skip_addition(&mut self) -> Result<(), EncodeError> {
@@ -617,14 +515,16 @@ impl<A: Allocator + Clone> encoder::Encoder for Encoder<A> {
     fn open_addition(&mut self) -> Result<(OutsideAddition<A>, EnclosingSet<A>), EncodeError> {
         self.writer.check_unfailed()?;
         let open_type = self.writer.open_addition()?;
-        Ok((open_type, self.set.take()))
+        let set = self.set.take();
+        self.set = EnclosingSet::awaiting(1);
+        Ok((open_type, set))
     }
 
     fn close_addition(
         &mut self,
         addition: (OutsideAddition<A>, EnclosingSet<A>),
     ) -> Result<(), EncodeError> {
-        self.writer.check_unfailed()?;
+        self.check_scope()?;
         let (open_type, set) = addition;
         self.set = set;
         self.writer.close_addition(open_type)
@@ -634,7 +534,7 @@ impl<A: Allocator + Clone> encoder::Encoder for Encoder<A> {
         &mut self,
         addition: (OutsideAddition<A>, EnclosingSet<A>),
     ) -> Result<(), EncodeError> {
-        self.writer.check_unfailed()?;
+        self.check_scope()?;
         let fields = C::FIELDS;
         let has_required = fields.number_of_optional_and_default_fields() < fields.len();
         let (open_type, set) = addition;
@@ -703,27 +603,4 @@ impl<A: Allocator + Clone> encoder::Encoder for Encoder<A> {
     ghost lawful = { presents_well };
 
     ghost sets = { sets_written };
-}
-
-/// How many additions a type has, where it has an extension marker.
-fn addition_count<C: Constructed>() -> Option<usize>
-    ensures { result ≡ counted_behind C.IS_EXTENSIBLE C.EXTENDED_FIELDS }
-{
-    if !C::IS_EXTENSIBLE {
-        return None;
-    }
-    match C::EXTENDED_FIELDS {
-        Some(fields) => Some(fields.len()),
-        None => Some(0),
-    }
-}
-
-/// How many added alternatives a choice has, where it has an extension marker.
-fn added_count<C: Choice>() -> Option<usize>
-    ensures { result ≡ counted_variants C.EXTENDED_VARIANTS }
-{
-    match C::EXTENDED_VARIANTS {
-        Some(variants) => Some(variants.len()),
-        None => None,
-    }
 }

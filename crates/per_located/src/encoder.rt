@@ -122,6 +122,8 @@ impl<E: Encoder + Drop> Encoder for Located<E> {
 
     ghost opens = { E.opens };
 
+    ghost opens_fields = { E.opens_fields };
+
     ghost opens_addition = { E.opens_addition };
 
     ghost opens_choice = { E.opens_choice };
@@ -376,6 +378,23 @@ impl<E: Encoder + Drop> Encoder for Located<E> {
     fn close_sequence<C: Constructed>(&mut self, scope: E::Scope) -> Result<(), E::Error> {
         self.trail.pause();
         let answer = self.inner.close_sequence::<C>(scope);
+        self.left(answer)
+    }
+
+    fn open_fields<C: Constructed>(
+        &mut self,
+        tag: Tag,
+        identifier: Identifier,
+    ) -> Result<E::Scope, E::Error> {
+        self.trail.begin(tag);
+        let answer = self.inner.open_fields::<C>(tag, identifier);
+        let frame = RecordFrame::new::<C>(false);
+        self.entered(answer, Frame::Record(frame))
+    }
+
+    fn close_fields<C: Constructed>(&mut self, scope: E::Scope) -> Result<(), E::Error> {
+        self.trail.pause();
+        let answer = self.inner.close_fields::<C>(scope);
         self.left(answer)
     }
 

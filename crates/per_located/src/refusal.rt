@@ -3,6 +3,7 @@
 use crate::path::Path;
 use per_read::error::DecodeErrorKind;
 use per_write::error::EncodeErrorKind;
+use rasn_types::types::Codec;
 use std::fmt;
 
 /// Why octets were refused, and where. Where memory for the path ran out, path and bit are those where that happened.
@@ -10,6 +11,8 @@ use std::fmt;
 pub struct Refusal {
     /// What was wrong.
     pub kind: DecodeErrorKind,
+    /// The variant in which they were read.
+    pub codec: Codec,
     /// The component that was refused: the innermost one that had begun.
     pub path: Path,
     /// How many bits stand in front of where the reader stood: of the field that was refused, of what is left over
@@ -38,6 +41,8 @@ impl fmt::Display for Refusal {
 pub struct EncodeRefusal {
     /// What was wrong.
     pub kind: EncodeErrorKind,
+    /// The variant in which it was written.
+    pub codec: Codec,
     /// The component that was refused: the innermost one that had begun.
     pub path: Path,
 }

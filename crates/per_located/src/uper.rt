@@ -16,7 +16,7 @@ use std::alloc::Global;
 
 /// The canonical octets of a value, as `rasn_per::uper::encode` answers them; or why it was refused, and where.
 pub fn encode<T: Encode>(alloc: Global, value: &T) -> Result<Vec<u8>, EncodeRefusal>
-    ensures { Encoded Uper (T.schema T.CONSTRAINTS) (T.levels value.now) (T.value value.now) (pathless Uper result) }
+    ensures { Encoded Uper (T.schema T.CONSTRAINTS) (T.levels value.now) (T.value value.now) (pathless result) }
 {
     match uper::encode(alloc, value) {
         Ok(octets) => Ok(octets),
@@ -26,8 +26,8 @@ pub fn encode<T: Encode>(alloc: Global, value: &T) -> Result<Vec<u8>, EncodeRefu
 
 /// The value that all octets spell, as `rasn_per::uper::decode` answers it; or why they were refused, and where.
 pub fn decode<T: Decode>(alloc: Global, octets: &[u8]) -> Result<T, Refusal>
-    ensures decoded { Decoded Uper (T.schema T.CONSTRAINTS) T.value octets.now (unplaced Uper result) }
-    ensures few { AnswersFew (T.schema T.CONSTRAINTS) T.value octets.now (unplaced Uper result) }
+    ensures decoded { Decoded Uper (T.schema T.CONSTRAINTS) T.value octets.now (unplaced result) }
+    ensures few { AnswersFew (T.schema T.CONSTRAINTS) T.value octets.now (unplaced result) }
     ensures place { IfErr result (IsPlaced octets.now) }
 {
     match uper::decode::<T>(alloc, octets) {

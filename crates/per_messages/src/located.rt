@@ -1,14 +1,17 @@
 //! Where JSON tells no value of a type.
 
-ghost use Rattle.std.specs.Prelude.{◌≡◌, ◌≤◌, ℕ, suc, true, length, decimal, None, Some, option_map, string_bytes};
-ghost use Rattle.std.specs.Prelude.{IfErr, IfOk, IfSome, MatchResult, OnOk};
-ghost use Rattle.json.specs.Json.{max_depth};
-ghost use Rattle.json.specs.Value.{value_view};
+ghost use Rattle.std.specs.Prelude.{◌≡◌, ◌≤◌, ℕ, suc, true, false, length, decimal, None, Some, is_some, option_map};
+ghost use Rattle.std.specs.Prelude.{string_bytes, IfErr, IfOk, IfSome, MatchResult, OnOk};
+ghost use Rattle.std.specs.Option.{option_and_then};
+ghost use Rattle.json.specs.Find.{as_object};
+ghost use Rattle.json.specs.Json.{Json as a_json, max_depth};
+ghost use Rattle.json.specs.Value.{items_view, members_view, value_view};
 ghost use Rattle.rasn_dynamic.specs.Values.{slot_of};
 ghost use Rattle.rasn_dynamic.specs.declared.types.Kind.{Kind as a_kind};
-ghost use Rattle.per_messages.specs.Paths.{IsFaultOf, IsPlaced, IsRefused, Leads, LeadsOn, added_type};
+ghost use Rattle.per_messages.specs.Paths.{IsFaultOf, IsPlaced, IsRefused, IsRefusedItem, IsRefusedMember};
+ghost use Rattle.per_messages.specs.Paths.{ItemsAreTold, lacking, Leads, LeadsOn, MembersAreTold, added_type};
 ghost use Rattle.per_messages.specs.Paths.{addition_type, component_type, element_type, is_missing, member_type};
-ghost use Rattle.per_messages.specs.Paths.{missing_in, onward};
+ghost use Rattle.per_messages.specs.Paths.{members_read, missing_in, only_member, onward};
 ghost use Rattle.rasn_dynamic_jer.specs.Shown.{group_in};
 ghost use Rattle.rasn_dynamic_jer.specs.Told.{IsNoText, IsTextOf, IsUntold, told_at};
 
@@ -16,7 +19,7 @@ use json::{MAX_DEPTH, Reader, Scratch, Value as Json};
 use rasn_dynamic::types::{Component, Kind, Presence, Types, kind_within};
 use rasn_dynamic::values::Value;
 use rasn_dynamic_jer::from_json_error::FromJsonError;
-use rasn_dynamic_jer::json_parts::{items_of, members_of};
+use rasn_dynamic_jer::json_parts::{items_of, member_count, members_of};
 use rasn_dynamic_jer::names::{alternative_place, row_place};
 use rasn_dynamic_jer::read::{parse, read_at};
 use rasn_dynamic_jer::table::group_in;
@@ -29,9 +32,9 @@ pub struct Fault {
     /// Why it tells none.
     pub error: FromJsonError,
     /// The names of members and the numbers of items, from 1 on, from the whole text to the innermost part that is
-    /// refused for that reason, with a full stop between two of them (X.680 15), such as `protocolIEs.3.value`; empty
-    /// for the whole text. The name of a member that an object's type doesn't have comes last, and so does that of a
-    /// component of the root that lacks.
+    /// refused, with a full stop between two of them (X.680 15), such as `protocolIEs.3.value`; empty for the whole
+    /// text. Of more parts that are refused it is the first that is for that reason. The name of a member that an
+    /// object's type doesn't have comes last, and so does that of a component of the root that lacks.
     pub path: String,
     /// Of a text that is no JSON, how many octets stand in front of where its reader stopped.
     pub octet: Option<usize>,
@@ -116,8 +119,8 @@ fn read_whole(alloc: Global, kinds: &[Kind], place: usize, json: &Json<'_>) -> R
     })
 }
 
-/// Appends to the path of JSON of the type at a place, if there is one, the way to the innermost part that is refused
-/// for this reason.
+/// Appends to the path of JSON of the type at a place, if there is one, the way to the innermost part that is refused:
+/// each time to one that is refused for this reason, or where none is, for another.
 #[cycle(locating)]
 fn locate(
     path: &mut String,
@@ -161,16 +164,59 @@ fn locate_item(
     let Some(items) = items_of(json) else {
         return Ok(());
     };
-    for (index, item) in items.iter().enumerate() {
-        if is_refused(alloc, kinds, levels, Some(of), item, error) {
-            push_number(path, alloc, index + 1)?;
-            return locate(path, alloc, kinds, levels, Some(of), item, error);
+    match item_to_name(alloc, kinds, levels, of, items, error)? {
+        Some((number, item)) => {
+            push_number(path, alloc, number)?;
+            locate(path, alloc, kinds, levels, Some(of), item, error)
         }
+        None => Ok(()),
     }
-    Ok(())
 }
 
-/// The same of an object.
+/// The number, from 1 on, and the JSON of the first item that is refused for this reason, or where none is, for
+/// another.
+fn item_to_name<'json, 'text>(
+    alloc: Global,
+    kinds: &[Kind],
+    levels: usize,
+    of: usize,
+    items: &'json [Json<'text>],
+    error: FromJsonError,
+) -> Result<Option<(usize, &'json Json<'text>)>, AllocError>
+    ensures found { IfOk result (λ o. IfSome o (λ x. IsRefusedItem kinds.now levels of (items_view items.now)
+        x.0 (value_view x.1.now))) }
+    ensures none { IfOk result (λ o. o ≡ None → ItemsAreTold kinds.now levels of (items_view items.now)) }
+{
+    match refused_item(alloc, kinds, levels, of, items, Some(error))? {
+        Some(found) => Ok(Some(found)),
+        None => refused_item(alloc, kinds, levels, of, items, None),
+    }
+}
+
+/// The number and the JSON of the first item that is refused for a reason, or for any.
+fn refused_item<'json, 'text>(
+    alloc: Global,
+    kinds: &[Kind],
+    levels: usize,
+    of: usize,
+    items: &'json [Json<'text>],
+    reason: Option<FromJsonError>,
+) -> Result<Option<(usize, &'json Json<'text>)>, AllocError>
+    ensures found { IfOk result (λ o. IfSome o (λ x. IsRefusedItem kinds.now levels of (items_view items.now)
+        x.0 (value_view x.1.now))) }
+    ensures none { reason ≡ None →
+        IfOk result (λ o. o ≡ None → ItemsAreTold kinds.now levels of (items_view items.now)) }
+{
+    for (index, item) in items.iter().enumerate() {
+        if is_refused(alloc, kinds, levels, Some(of), item, reason)? {
+            return Ok(Some((index + 1, item)));
+        }
+    }
+    Ok(None)
+}
+
+/// The same of an object: to a member that is refused for this reason, or else to a component that lacks, or else to a
+/// member that is refused for another reason.
 #[cycle(locating)]
 fn locate_member(
     path: &mut String,
@@ -181,40 +227,99 @@ fn locate_member(
     json: &Json<'_>,
     error: FromJsonError,
 ) -> Result<(), AllocError>
-    ensures { OnOk result (Leads kinds.now (suc levels) (Some kind.now) (value_view json.now)
-        (string_bytes path.old) (string_bytes path.new)) }
+    ensures { element_type kind.now ≡ None → OnOk result (Leads kinds.now (suc levels) (Some kind.now)
+        (value_view json.now) (string_bytes path.old) (string_bytes path.new)) }
 {
-    let Some(members) = members_of(json) else {
+    let Some(members) = members_read(kind, json) else {
         return Ok(());
     };
-    for member in members {
-        let of = member_type(kinds, kind, member.0);
-        if is_refused(alloc, kinds, levels, of, &member.1, error) {
-            push_part(path, member.0)?;
-            return locate(path, alloc, kinds, levels, of, &member.1, error);
-        }
+    if let Some(member) = refused_member(alloc, kinds, levels, kind, members, Some(error))? {
+        return locate_in(path, alloc, kinds, levels, kind, member, error);
     }
-    push_missing(path, kind, json, error)
+    if let Some(component) = lacking(kind, json) {
+        return push_part(path, component.name.as_str());
+    }
+    match refused_member(alloc, kinds, levels, kind, members, None)? {
+        Some(member) => locate_in(path, alloc, kinds, levels, kind, member, error),
+        None => Ok(()),
+    }
 }
 
-/// Appends the name of the first component of the root that has to be there and lacks, where that is the reason.
-fn push_missing(
+/// Appends the name of a member that is refused, and goes on in it.
+#[cycle(locating)]
+fn locate_in(
     path: &mut String,
+    alloc: Global,
+    kinds: &[Kind],
+    levels: usize,
     kind: &Kind,
-    json: &Json<'_>,
+    member: &(&str, Json<'_>),
     error: FromJsonError,
 ) -> Result<(), AllocError>
-    ensures { (ts : _) → (n : ℕ) → OnOk result (Leads ts (suc n) (Some kind.now) (value_view json.now)
-        (string_bytes path.old) (string_bytes path.new)) }
+    ensures { (j : a_json) → IsRefusedMember kinds.now levels kind.now j member.now.0.now (value_view member.now.1)
+        → OnOk result (Leads kinds.now (suc levels) (Some kind.now) j (string_bytes path.old)
+        (string_bytes path.new)) }
 {
-    match (kind, error) {
-        (Kind::Record(record), FromJsonError::MissingMember) => {
-            let Some(component) = missing_in(record.root(), json) else {
-                return Ok(());
-            };
-            push_part(path, component.name.as_str())
+    let of = member_type(kinds, kind, member.0);
+    push_part(path, member.0)?;
+    locate(path, alloc, kinds, levels, of, &member.1, error)
+}
+
+/// The first member that is refused for a reason, or for any.
+fn refused_member<'json, 'text>(
+    alloc: Global,
+    kinds: &[Kind],
+    levels: usize,
+    kind: &Kind,
+    members: &'json [(&'text str, Json<'text>)],
+    reason: Option<FromJsonError>,
+) -> Result<Option<&'json (&'text str, Json<'text>)>, AllocError>
+    ensures found { IfOk result (λ o. IfSome o (λ x. (j : a_json) → as_object j ≡ Some (members_view members.now)
+        → IsRefusedMember kinds.now levels kind.now j x.now.0.now (value_view x.now.1))) }
+    ensures none { reason ≡ None →
+        IfOk result (λ o. o ≡ None → MembersAreTold kinds.now levels kind.now (members_view members.now)) }
+{
+    for member in members {
+        let of = member_type(kinds, kind, member.0);
+        if is_refused(alloc, kinds, levels, of, &member.1, reason)? {
+            return Ok(Some(member));
         }
-        _ => Ok(()),
+    }
+    Ok(None)
+}
+
+/// The members of an object that are read by the types of their names: all of a record's, and the only one of a
+/// CHOICE's and an open type's.
+fn members_read<'json, 'text>(
+    kind: &Kind,
+    json: &'json Json<'text>,
+) -> Option<&'json [(&'text str, Json<'text>)]>
+    ensures { option_map (λ s. members_view s.now) result ≡ members_read kind.now (value_view json.now) }
+{
+    match kind {
+        Kind::Record(_) => members_of(json),
+        Kind::Choice(_) | Kind::Open(_) => only_member(json),
+        _ => None,
+    }
+}
+
+/// The members of an object that has just one.
+fn only_member<'json, 'text>(json: &'json Json<'text>) -> Option<&'json [(&'text str, Json<'text>)]>
+    ensures { option_map (λ s. members_view s.now) result ≡ only_member (value_view json.now) }
+{
+    if member_count(json) == 1 {
+        return members_of(json);
+    }
+    None
+}
+
+/// The first root component of a record that has to be there, and lacks in an object.
+fn lacking<'kinds>(kind: &'kinds Kind, json: &Json<'_>) -> Option<&'kinds Component>
+    ensures { option_map (λ c. c.now) result ≡ lacking (value_view json.now) kind.now }
+{
+    match kind {
+        Kind::Record(record) => missing_in(record.root(), json),
+        _ => None,
     }
 }
 
@@ -240,27 +345,49 @@ fn is_missing(component: &Component, json: &Json<'_>) -> bool
     matches!(component.presence, Presence::Required) && json.get(component.name.as_str()).is_none()
 }
 
-/// Whether JSON tells no value of the type at a place for this reason, or there is no type for its name.
+/// Whether JSON tells no value of the type at a place for a reason, or for any; where there is no type for its name,
+/// for the reasons that say so.
 fn is_refused(
     alloc: Global,
     kinds: &[Kind],
     levels: usize,
     place: Option<usize>,
     json: &Json<'_>,
-    error: FromJsonError,
-) -> bool
-    ensures { result ≡ true → IsRefused kinds.now levels place (value_view json.now) }
+    reason: Option<FromJsonError>,
+) -> Result<bool, AllocError>
+    ensures yes { IfOk result (λ b. b ≡ true → IsRefused kinds.now levels place (value_view json.now)) }
+    ensures no { reason ≡ None → IfOk result (λ b. b ≡ false →
+        is_some (option_and_then (λ i. told_at kinds.now levels i (value_view json.now)) place) ≡ true) }
 {
     let Some(place) = place else {
-        return matches!(
-            error,
-            FromJsonError::UnknownMember | FromJsonError::UnknownAlternative
-        );
+        return Ok(tells_of_names(reason));
     };
     match read_at(alloc, kinds, levels, place, json) {
-        Ok(_) => false,
-        Err(FromJsonError::OutOfMemory) => false,
-        Err(own) => own == error,
+        Ok(_) => Ok(false),
+        Err(FromJsonError::OutOfMemory) => Err(AllocError),
+        Err(own) => Ok(is_for(own, reason)),
+    }
+}
+
+/// Whether a reason, or any, may be that a member has another name than those of a type.
+fn tells_of_names(reason: Option<FromJsonError>) -> bool
+    ensures { reason ≡ None → result ≡ true }
+{
+    match reason {
+        None => true,
+        Some(FromJsonError::UnknownMember) => true,
+        Some(FromJsonError::UnknownAlternative) => true,
+        Some(_) => false,
+    }
+}
+
+/// Whether an error is a reason, or any.
+fn is_for(error: FromJsonError, reason: Option<FromJsonError>) -> bool
+    ensures { reason ≡ None → result ≡ true }
+{
+    match reason {
+        None => true,
+        Some(reason) => error == reason,
     }
 }
 

@@ -2,3 +2,4 @@ pub mod Pieces
 pub mod Places
 pub mod Fragments
 pub mod OpenSets
+pub mod Turns

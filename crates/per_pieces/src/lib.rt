@@ -5,6 +5,7 @@
 //! of bits and marks.
 #![tactic(auto)]
 
+pub mod enclosing;
 pub mod lengths;
 pub mod numbers;
 pub mod open_sets;

@@ -35,4 +35,6 @@ mod refusals;
 #[cfg(test)]
 mod sets;
 #[cfg(test)]
+mod turns;
+#[cfg(test)]
 mod values;

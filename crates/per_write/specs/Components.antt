@@ -13,12 +13,12 @@ use Rattle.per_write.specs.declared.error.EncodeError.{EncodeError}
 use Rattle.per_write.specs.declared.error.EncodeErrorKind.TheVariants.{OutOfTurn}
 use Rattle.per_write.specs.Faults.{IsError, IsMemory}
 use Rattle.per_write.specs.State.{State}
+use Rattle.per_pieces.specs.Turns.{counts, Enclosing, gathers, marked, next, Turn}
 
--- a writer, and what is kept of the SET whose components it writes, where they are what it writes at once: inside one
--- of them, or where no SET is open, there is none
+-- a writer, and what encloses what it writes next
 pub record Encoding : Type 0 where
   pub writer : State
-  pub set : Option OpenSet
+  pub set : Enclosing
 
 -- an open SET, and the pieces of the component under way
 abbrev pub underway : OpenSet → State → Underway
@@ -26,24 +26,28 @@ underway set x = record { set = set; pieces = x.pieces }
 
 -- a writer goes on with an open SET and the pieces of a component
 abbrev pub going_on : Underway → State → Encoding
-going_on u x = record { writer = record x { pieces = u.pieces }; set = Some u.set }
+going_on u x = record { writer = record x { pieces = u.pieces }; set = gathers u.set }
 
--- a value begins: where a SET is open, it is that of a component
-abbrev pub noted : Option OpenSet → State → Encoding
-noted None x = record { writer = x; set = None }
-noted (Some set) x = going_on (begins_value (underway set x)) x
+-- a component comes, as a value or as a presence bit 0, where nothing is gathered
+abbrev pub stepped : Turn → State → Encoding
+stepped t x = record { writer = x; set = counts (next t) }
 
--- a component begins with its presence bit
+-- a value begins: it is that of a component
+abbrev pub noted : Enclosing → State → Encoding
+noted (counts t) x = stepped t x
+noted (gathers set) x = going_on (begins_value (underway set x)) x
+
+-- a component of an open SET begins with its presence bit
 abbrev pub begun_with : Bool → OpenSet → State → Encoding
 begun_with b set x = going_on (begins (Some b) (underway set x)) x
 
--- the same, where a SET is open
-abbrev pub begun_within : Bool → Option OpenSet → State → Encoding
-begun_within b None x = record { writer = x; set = None }
-begun_within b (Some set) x = begun_with b set x
+-- the same; where nothing is gathered, a bit 0 is a component that comes
+abbrev pub begun_within : Bool → Enclosing → State → Encoding
+begun_within b (counts t) x = record { writer = x; set = counts (marked b t) }
+begun_within b (gathers set) x = begun_with b set x
 
 -- A call that opens a SET of so many root components: what was written so far stands before it. Or it finds no memory.
-pub record OpensComponents (count : ℕ) (x : State) (result : Result (Option OpenSet) EncodeError)
+pub record OpensComponents (count : ℕ) (x : State) (result : Result Enclosing EncodeError)
     (y : State) : Type 0 where
   pub ok : IfOk result (λ set. record { writer = y; set = set } ≡ going_on (opened count x.pieces) x)
   pub err : IfErr result (λ e. IsMemory e x)

@@ -35,12 +35,12 @@ mod unplaced;
 
 use additions::Additions;
 pub use additions::OutsideAddition;
-pub use components::EnclosingSet;
 use error::{EncodeError, EncodeErrorKind};
 use items::Octets;
 use per_bits::per::complete_in_place;
 use per_bits::{BitList, BitReader};
 use per_pieces::Pieces;
+pub use per_pieces::enclosing::EnclosingSet;
 use presences::Presences;
 pub use presences::Scope;
 use rasn_types::types::Codec;

@@ -29,9 +29,9 @@ impl<T: Record> EncodeKind<T> for SequenceKind {
         tag: Tag,
         identifier: Identifier,
     ) -> Result<(), E::Error> {
-        let outside = encoder.open_sequence::<T>(tag, identifier)?;
+        let outside = encoder.open_fields::<T>(tag, identifier)?;
         value.encode_components(encoder)?;
-        encoder.close_sequence::<T>(outside)
+        encoder.close_fields::<T>(outside)
     }
 }
 

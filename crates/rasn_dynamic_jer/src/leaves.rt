@@ -32,6 +32,7 @@ use rasn_types::types::{Any, Integer};
 use std::alloc::{AllocError, Global};
 
 /// Writes a token.
+#[inline(always)]
 pub(crate) fn put_token(writer: &mut Writer, token: Token<'_>) -> Result<(), ToJsonError>
     requires { IsPrintable (token_of token) }
     ensures { PutsToken (token_of token.entry) writer.old result writer.new }

@@ -30,6 +30,8 @@ use std::alloc::Global;
 
 /// How deep arrays and objects may nest.
 const MOST_LEVELS: usize = 128;
+/// How many octets of a text there is room for at first.
+const FIRST_ROOM: usize = 1024;
 
 /// A value as JSON in UTF-8, without white space, by the type at a place of a table. Members are in the order of the
 /// type's components; one that is absent, or whose value is the default, isn't there.
@@ -43,7 +45,7 @@ pub fn to_json(
         IsJsonText (json_at types.now.kinds.items max_depth place value.now) text.items) }
     ensures refused { IfErr result (IsRefused (json_at types.now.kinds.items max_depth place value.now)) }
 {
-    let mut writer = Writer::new(Vec::new(alloc));
+    let mut writer = Writer::new(Vec::with_capacity(alloc, FIRST_ROOM)?);
     put_at(&mut writer, alloc, &types.kinds, place, value, MOST_LEVELS)?;
     Ok(writer.into_inner())
 }

@@ -12,6 +12,7 @@ use Rattle.rasn_jer.specs.Places.{behind, behind_all, named_place, past_added, p
 use Rattle.rasn_jer.specs.Rules.{jer_rules, Marks, Presents}
 use Rattle.rasn_jer.specs.Shown.{addition_left_out, addition_spread, addition_there, additions_end, is_present, is_required, IsThere, part_left_out, part_there, parts_end, Shows, shows_record, ShowsAdditions, ShowsParts}
 use Rattle.rasn_jer.specs.Texts.{comma, is_none, join, member_text, members_text, text_of}
+use Rattle.rasn_jer.specs.declared.place.Due.{Due}
 use Rattle.rasn_jer.specs.declared.place.Kind.{Kind}
 use Rattle.rasn_jer.specs.declared.place.Kind.TheVariants as Kinds
 
@@ -70,17 +71,11 @@ valued x y t p s v m there w =
       );
     }
 
--- a presence bit of what is there changes nothing
-abbrev state_of : Place → Bool → State
-state_of p f = record { place = p; failed = f }
-
-same : (x m : State) → Marks x true m → m ≡ x
-same x m k = k.moved ∙ ap (state_of x.place) (sym k.begun)
-
 part_shown : {p : Presence} {s : Schema} {x y : State} {r : Option Value} (t : TagTree) → Inside x → PresentsPart jer_rules p s x r y → PartShown x y t p s r
 part_shown {x = x} {y = y} t h (presents_required w) = valued x y t _ _ _ h.members is_required w
 part_shown {p = p} {s = s} {x = x} {y = y} t h (presents_there {m = m} {v = v} b k w) =
-    subst (λ (z : State). PartShown z y t p s (Some v)) (same x m k) (valued m y t p s v (ap (λ (z : State). z.place.kind) (same x m k) ∙ h.members) (is_present b) w)
+    let one = subst (λ (z : State). PartShown z y t p s (Some v)) k.moved (valued m y t p s v (ap (λ (z : State). z.place.kind) k.moved ∙ h.members) (is_present b) w) in
+    record { moved = one.moved; kept = one.kept; shown = one.shown }
 part_shown {x = x} {y = y} t h (presents_left_out b k) =
     record {
       moved = ap (λ (z : State). z.place.root) k.moved;
@@ -168,8 +163,8 @@ pub record RecordShown (order : Order) (ps : Parts) (marker : Bool) (qs : Parts)
   pub shown : Shows (Schema.sequence order ps marker qs) (record_value rs xs) (object members)
   pub written : j.place.text ≡ members_text true members
 
-pub record_shown : (order : Order) (marker : Bool) {ps qs : Parts} {rs xs : List (Option Value)} {i j : State} {root added : List (List ℕ)} → length root ≡ count ps → length added ≡ count qs
-    → i ≡ unfailed_at (named_place Kinds.Members root added) → PresentsFields jer_rules ps qs i rs xs j → RecordShown order ps marker qs rs xs j
+pub record_shown : (order : Order) (marker : Bool) {ps qs : Parts} {rs xs : List (Option Value)} {i j : State} {root added : List (List ℕ)} {due : Due} → length root ≡ count ps → length added ≡ count qs
+    → i ≡ unfailed_at (named_place Kinds.Members root added due) → PresentsFields jer_rules ps qs i rs xs j → RecordShown order ps marker qs rs xs j
 record_shown order marker {i = i} {j = j} c d e (presents_fields p q) =
     let h : Inside i = record { unfailed = ap (λ (z : State). z.failed) e; members = ap (λ (z : State). z.place.kind) e } in
     let root = parts_shown h (ap (λ (z : State). length z.place.root) e ∙ c) p in

@@ -10,3 +10,4 @@ pub mod Printed
 pub mod Refusing
 pub mod Spelled
 pub mod Writing
+pub mod Turns

@@ -4,6 +4,7 @@ use Rattle.std.proofs.lemmas.List.{length-map}
 use Rattle.std.specs.Prelude.{◌⊎◌, if◌then◌else◌, IfErr, IfOk, OnErr, OnOk}
 use Rattle.rasn_types.specs.Values.{Value, nothing}
 use Rattle.rasn_schema.specs.Fields.{Shape, shape_of, shapes_from}
+use Rattle.rasn_schema.specs.Lawful.{presence_bits}
 use Rattle.rasn_schema.specs.Records.{record_value}
 use Rattle.rasn_schema.specs.Schemas.{count, no_parts, Order, part, Schema, Parts}
 use Rattle.rasn_traits.specs.Calls.{without_memory, Writes, Written}
@@ -11,8 +12,9 @@ use Rattle.rasn_traits.specs.Scopes.{OpenedToWrite, PresentsFields}
 use Rattle.json.specs.Json.{Json, object, string}
 use Rattle.rasn_jer.proofs.Fields.{record_shown}
 use Rattle.rasn_jer.proofs.Refusing.{Inside, refused_record, unclosed}
+use Rattle.rasn_jer.proofs.Turns.{all_done}
 use Rattle.rasn_jer.specs.Names.{AreNamesOf}
-use Rattle.rasn_jer.specs.Places.{is_complete_of, IsNamedBy, named_place, Place, State, Takes, unfailed_at}
+use Rattle.rasn_jer.specs.Places.{due_of, is_complete_of, IsNamedBy, named_place, Place, State, Takes, unfailed_at}
 use Rattle.rasn_jer.specs.Rules.{BehavesSo, Closed, EntersPlace, fault_of, IsRefused, IsUnmade, jer_rules, OpensRecord, Refuses, WritesText}
 use Rattle.rasn_jer.specs.Shown.{at_once, HasNoJson, is_null, IsString, Shows, shows_string, ShowsText, StandsIn}
 use Rattle.rasn_jer.specs.Texts.{enclosed, text_of}
@@ -78,20 +80,20 @@ fields_counted i (part t p s ps) = let e = fields_counted (suc i) ps in omega (a
 names_counted : (shapes : List Shape) (names : List (List ℕ)) → AreNamesOf shapes names → length names ≡ length shapes
 names_counted shapes names h = ap (λ (l : List (List ℕ)). length l) h.are_names ∙ length-map h.fields _ ∙ sym (length-map h.fields shape_of) ∙ ap (λ (l : List Shape). length l) h.are_these
 
-pub record_opened : (order : Order) (parts additions : ℕ → Parts) (marker : Bool) (root added : List Shape) {E : Type 0} (place : Result Place E) (x : State) (r : Result Place EncodeError) (y : State)
+pub record_opened : (order : Order) (parts additions : ℕ → Parts) (marker : Bool) (root added : List Shape) (bits : ℕ) {E : Type 0} (place : Result Place E) (x : State) (r : Result Place EncodeError) (y : State)
     → ((n : ℕ) → length root ≡ count (parts n)) → ((n : ℕ) → length added ≡ count (additions n))
-    → EntersPlace place x r y → IfOk place (IsNamedBy root added) → OpenedToWrite jer_rules OpensRecord order parts marker additions x r y
-record_opened order parts additions marker root added (Ok p) x (Ok o) y c d w h = λ n.
-    let within : y ≡ unfailed_at (named_place Kinds.Members p.root p.added) = w.entered.2 ∙ ap unfailed_at h.is_vacant in
+    → ((n : ℕ) → bits ≡ presence_bits (parts n)) → EntersPlace place x r y → IfOk place (IsNamedBy root added bits) → OpenedToWrite jer_rules OpensRecord order parts marker additions x r y
+record_opened order parts additions marker root added bits (Ok p) x (Ok o) y c d b w h = λ n.
+    let within : y ≡ unfailed_at (named_place Kinds.Members p.root p.added (due_of p.root bits p.added)) = w.entered.2 ∙ ap unfailed_at h.is_vacant in
     let in_it : Inside y = record { unfailed = ap (λ (z : State). z.failed) within; members = ap (λ (z : State). z.place.kind) within } in
-    (record { begun = w.entered.0; outer = w.entered.1; root = p.root; added = p.added; counted = (names_counted root p.root h.of_root ∙ c n, names_counted added p.added h.of_added ∙ d n); within = within }, record { room = λ e m. m; of_record = λ e rs xs c k. refused_record order marker x in_it k })
-record_opened order parts additions marker root added (Err n) x (Ok o) y c d w h = absurd w.entered
-record_opened order parts additions marker root added (Ok p) x (Err e) y c d w h = elim w.entered [ inl m ↦ inl m | inr q ↦ inr (λ n v. inl (already e x q.0 q.1)) ]
-record_opened order parts additions marker root added (Err n) x (Err e) y c d w h = elim w.entered [ inl m ↦ inl m | inr q ↦ inr (λ n v. inl (already e x q.0 q.1)) ]
+    (record { begun = w.entered.0; outer = w.entered.1; root = p.root; added = p.added; bits = bits; counted = (names_counted root p.root h.of_root ∙ c n, names_counted added p.added h.of_added ∙ d n, b n); within = within }, record { room = λ e m. m; of_record = λ e rs xs c k. refused_record order marker x in_it k })
+record_opened order parts additions marker root added bits (Err n) x (Ok o) y c d b w h = absurd w.entered
+record_opened order parts additions marker root added bits (Ok p) x (Err e) y c d b w h = elim w.entered [ inl m ↦ inl m | inr q ↦ inr (λ n v. inl (already e x q.0 q.1)) ]
+record_opened order parts additions marker root added bits (Err n) x (Err e) y c d b w h = elim w.entered [ inl m ↦ inl m | inr q ↦ inr (λ n v. inl (already e x q.0 q.1)) ]
 
 -- what was presented inside shows the whole, between two characters
 pub closed : (kind : Kind) (opening closing : ℕ) (o : Place) (x j : State) (s : Schema) (v : Value) (json : Json) (r : Result (Unit {0}) EncodeError) (y : State)
-    → is_complete_of kind j.place.is_empty ≡ true → x.failed ≡ false → o ≡ x.place → j.failed ≡ false → j.place.kind ≡ kind → Shows s v json
+    → is_complete_of kind j.place.is_empty j.place.due ≡ true → x.failed ≡ false → o ≡ x.place → j.failed ≡ false → j.place.kind ≡ kind → Shows s v json
     → enclosed opening j.place.text closing ≡ text_of json → Closed kind opening closing o j r y → Written jer_rules s v x r y
 closed kind opening closing o x j s v json (Ok u) y c b w f k h e q = record {
   begun = b;
@@ -102,7 +104,7 @@ closed kind opening closing o x j s v json (Ok u) y c b w f k h e q = record {
 }
 closed kind opening closing o x j s v json (Err e) y c b w f k h t q = elim q [
   | inl m ↦ inl m
-  | inr z ↦ inr (inl (unclosed e kind o j x w f k (ap (λ (i : Kind). is_complete_of i j.place.is_empty) k ∙ c) z))
+  | inr z ↦ inr (inl (unclosed e kind o j x w f k (ap (λ (i : Kind). is_complete_of i j.place.is_empty j.place.due) k ∙ c) z))
 ]
 
 -- a record is closed
@@ -111,7 +113,7 @@ pub record_closed : (order : Order) (ps : Parts) (marker : Bool) (qs : Parts) (x
     → Written jer_rules (Schema.sequence order ps marker qs) (record_value rs xs) x r y
 record_closed order ps marker qs x i j rs xs o r y q h k =
     let shown = record_shown order marker h.counted.0 h.counted.1 h.within k in
-    closed Kinds.Members 123 125 o x j _ _ (object shown.members) r y refl h.begun h.outer shown.within.unfailed shown.within.members shown.shown (ap (λ (l : List ℕ). enclosed 123 l 125) shown.written) q
+    closed Kinds.Members 123 125 o x j _ _ (object shown.members) r y (all_done order ps marker qs x i j rs xs o h k) h.begun h.outer shown.within.unfailed shown.within.members shown.shown (ap (λ (l : List ℕ). enclosed 123 l 125) shown.written) q
 
 -- what holds of a success holds of what follows from it
 pub over_unit : {T E : Type 0} {P Q : Type 0} (r : Result T E) → OnOk r P → (P → Q) → OnOk r Q

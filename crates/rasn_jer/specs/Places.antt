@@ -1,40 +1,75 @@
--- What contracts see of an encoder: what is open, its text so far, the names that are left, and whether a call was
--- refused.
-use Rattle.std.specs.Prelude.{ℕ, ◌≡◌, Bool, true, false, not, ◌&&◌, List, [], ◌++◌, drop, if◌then◌else◌}
+-- What contracts see of an encoder: what is open, its text so far, the names that are left, how much is still to come,
+-- and whether a call was refused.
+use Rattle.std.specs.Prelude.{ℕ, zero, suc, ◌≡◌, Bool, true, false, not, ◌&&◌, List, [], ◌++◌, drop, if◌then◌else◌}
+use Rattle.std.specs.Prelude.{length, Option, Some, None}
 use Rattle.json.specs.Json.{Members}
 use Rattle.rasn_schema.specs.Fields.{Shape}
 use Rattle.rasn_jer.specs.Names.{AreNamesOf, next_name}
 use Rattle.rasn_jer.specs.Texts.{comma, is_none, member_text, members_text}
+use Rattle.rasn_jer.specs.declared.place.Due.{Due}
 use Rattle.rasn_jer.specs.declared.place.Kind.{Kind}
 use Rattle.rasn_jer.specs.declared.place.Kind.TheVariants as Kinds
 
+-- how many are still to come; none where too many came
+abbrev pub Rest : Type 0
+Rest = Option ℕ
+
+-- one comes
+abbrev pub fewer : Rest → Rest
+fewer None = None
+fewer (Some zero) = None
+fewer (Some (suc n)) = Some n
+
+-- whether as many came as were to come
+abbrev pub is_done : Rest → Bool
+is_done None = false
+is_done (Some zero) = true
+is_done (Some (suc n)) = false
+
+-- nothing is still to come of components, of which each comes as a value or as a presence bit 0, presence bits and
+-- additions
+abbrev pub none_due : Due
+none_due = record { components = Some 0; bits = Some 0; additions = Some 0 }
+
+-- what is to come where names of root components and of additions are left, and so many presence bits
+abbrev pub due_of : List (List ℕ) → ℕ → List (List ℕ) → Due
+due_of root bits added = record { components = Some (length root); bits = Some bits; additions = Some (length added) }
+
+-- whether all came that were to come
+abbrev pub are_done : Due → Bool
+are_done d = is_done d.components && (is_done d.bits && is_done d.additions)
+
 -- where values are written: one value, the items of an array, or the members of an object; whether none was written
--- yet, and the text of those that were; and the names that are left, for root components and for additions
+-- yet, and the text of those that were; the names that are left, for root components and for additions; and what is
+-- still to come
 pub record Place : Type 0 where
   pub kind : Kind
   pub is_empty : Bool
   pub text : List ℕ
   pub root : List (List ℕ)
   pub added : List (List ℕ)
+  pub due : Due
 
 -- an encoder: what is open, and whether a call was refused
 pub record State : Type 0 where
   pub place : Place
   pub failed : Bool
 
--- where nothing was written yet, and these names are left
-abbrev pub named_place : Kind → List (List ℕ) → List (List ℕ) → Place
-named_place kind root added = record { kind = kind; is_empty = true; text = []; root = root; added = added }
+-- where nothing was written yet, these names are left, and this is to come
+abbrev pub named_place : Kind → List (List ℕ) → List (List ℕ) → Due → Place
+named_place kind root added due =
+    record { kind = kind; is_empty = true; text = []; root = root; added = added; due = due }
 
--- where no member was written yet, and the names that are left are those of such fields, in their order
-pub record IsNamedBy (root added : List Shape) (p : Place) : Type 0 where
+-- where no member was written yet, the names that are left are those of such fields, in their order, and these are to
+-- come, of which so many have a presence bit
+pub record IsNamedBy (root added : List Shape) (bits : ℕ) (p : Place) : Type 0 where
   pub of_root : AreNamesOf root p.root
   pub of_added : AreNamesOf added p.added
-  pub is_vacant : p ≡ named_place Kinds.Members p.root p.added
+  pub is_vacant : p ≡ named_place Kinds.Members p.root p.added (due_of p.root bits p.added)
 
 -- where nothing was written yet, and no name is left
 abbrev pub vacant_place : Kind → Place
-vacant_place kind = named_place kind [] []
+vacant_place kind = named_place kind [] [] none_due
 
 -- an encoder inside what was just opened, and at the start
 abbrev pub inside : Kind → State
@@ -55,14 +90,14 @@ abbrev pub is_full : Place → Bool
 is_full p = is_full_of p.kind p.is_empty
 
 -- whether what a place of a kind holds is whole
-abbrev pub is_complete_of : Kind → Bool → Bool
-is_complete_of Kinds.One is_empty = not is_empty
-is_complete_of Kinds.Items is_empty = true
-is_complete_of Kinds.Members is_empty = true
+abbrev pub is_complete_of : Kind → Bool → Due → Bool
+is_complete_of Kinds.One is_empty due = not is_empty
+is_complete_of Kinds.Items is_empty due = true
+is_complete_of Kinds.Members is_empty due = are_done due
 
--- whether what a place holds is whole: one value, or any items or members
+-- whether what a place holds is whole: one value, any items, or the members that were to come
 abbrev pub is_complete : Place → Bool
-is_complete p = is_complete_of p.kind p.is_empty
+is_complete p = is_complete_of p.kind p.is_empty p.due
 
 -- a further text, behind a comma unless it is the first
 abbrev pub behind : Place → List ℕ → Place
@@ -72,17 +107,22 @@ behind p text = record p { is_empty = false; text = p.text ++ (comma p.is_empty 
 abbrev pub behind_all : Place → Members → Place
 behind_all p ms = record p { is_empty = p.is_empty && is_none ms; text = p.text ++ members_text p.is_empty ms }
 
--- the next root component's name isn't left any more
+-- a root component comes: its name isn't left any more
 abbrev pub past_root : Place → Place
-past_root p = record p { root = drop 1 p.root }
+past_root p = record p { root = drop 1 p.root; due = record p.due { components = fewer p.due.components } }
 
--- the next addition's name isn't left any more
+-- an addition comes: its name isn't left any more
 abbrev pub past_added : Place → Place
-past_added p = record p { added = drop 1 p.added }
+past_added p = record p { added = drop 1 p.added; due = record p.due { additions = fewer p.due.additions } }
 
--- a root component is there, and its name is still left; or it is left out, and so is its name
+-- a presence bit comes
+abbrev pub past_bit : Place → Place
+past_bit p = record p { due = record p.due { bits = fewer p.due.bits } }
+
+-- a presence bit says that a root component is there, whose name is still left; or that it is left out, and so is its
+-- name
 abbrev pub marked : Bool → Place → Place
-marked is_there p = if is_there then p else past_root p
+marked is_there p = if is_there then past_bit p else past_root (past_bit p)
 
 -- a value's text in a place of a kind: among members behind the next root component's name
 abbrev pub with_value : Kind → Place → List ℕ → Place

@@ -3,12 +3,12 @@ use Rattle.std.specs.Prelude.{ℕ, suc, ◌<◌, ◌≡◌, ◌≢◌, ◌⊎◌
 use Rattle.std.specs.Prelude.{IfErr, IsErrAnd, OnOk}
 use Rattle.rasn_types.specs.Values.{Value}
 use Rattle.rasn_types.specs.declared.types.Codec.TheVariants.{Uper}
-use Rattle.rasn_schema.specs.Lawful.{is_group_schema}
+use Rattle.rasn_schema.specs.Lawful.{is_group_schema, presence_bits}
 use Rattle.rasn_schema.specs.Schemas.{count, Schema}
 use Rattle.rasn_traits.specs.Calls.{Behaves, EncoderRules, Writes}
 use Rattle.rasn_traits.specs.Lists.{ListForm}
 use Rattle.json.specs.Json.{Json, object, Items, Members}
-use Rattle.rasn_jer.specs.Places.{inside, is_complete, is_full, marked, named_place, past_added, Place, State}
+use Rattle.rasn_jer.specs.Places.{due_of, inside, is_complete, is_full, marked, named_place, past_added, Place, State}
 use Rattle.rasn_jer.specs.Places.{Takes, unfailed_at, with_addition, with_group}
 use Rattle.rasn_jer.specs.Shown.{HasElement, HasNoJson, IsNull, Shows, ShowsAll, StandsIn}
 use Rattle.rasn_jer.specs.Texts.{enclosed, items_text, text_of}
@@ -64,10 +64,11 @@ pub record Opens (kind : Kind) (x : State) (o : Place) (i : State) : Type 0 wher
   pub outer : o ≡ x.place
   pub within : i ≡ inside kind
 
--- names of a record's root components, and of its additions: one for each
-abbrev pub AreCounted : Schema → List (List ℕ) → List (List ℕ) → Type 0
-AreCounted (Schema.sequence order ps marker qs) root added = (length root ≡ count ps) × (length added ≡ count qs)
-AreCounted _ root added = ⊥
+-- names of a record's root components, and of its additions: one for each; and how many presence bits it has
+abbrev pub AreCounted : Schema → List (List ℕ) → List (List ℕ) → ℕ → Type 0
+AreCounted (Schema.sequence order ps marker qs) root added bits =
+    (length root ≡ count ps) × (length added ≡ count qs) × (bits ≡ presence_bits ps)
+AreCounted _ root added bits = ⊥
 
 -- a record is opened, with names of its components: what was open waits outside
 pub record OpensRecord (s : Schema) (x : State) (o : Place) (i : State) : Type 0 where
@@ -75,8 +76,9 @@ pub record OpensRecord (s : Schema) (x : State) (o : Place) (i : State) : Type 0
   pub outer : o ≡ x.place
   pub root : List (List ℕ)
   pub added : List (List ℕ)
-  pub counted : AreCounted s root added
-  pub within : i ≡ unfailed_at (named_place Kinds.Members root added)
+  pub bits : ℕ
+  pub counted : AreCounted s root added bits
+  pub within : i ≡ unfailed_at (named_place Kinds.Members root added (due_of root bits added))
 
 -- octets that contain a value are shown as it: nothing is opened
 abbrev pub OpensContents : State → Unit {0} → State → Type 0
@@ -198,6 +200,7 @@ Left kind o j (Err e) y = IsUnclosed kind false j e
 pub record LeavesPlace (kind : Kind) (o : Place) (j : State) (result : Result Place EncodeError)
     (y : State) : Type 0 where
   pub left : Left kind o j result y
+  pub lacks : is_complete j.place ≡ false → j.failed ≡ false → IsErrAnd result (λ e. e ≡ OutOfTurn)
   pub behaves : BehavesSo j result y
 
 -- a place of a kind is closed: what was written in it is written outside, between two characters
@@ -210,6 +213,7 @@ Closed kind opening closing o j (Err e) y = (e ≡ OutOfMemory) ⊎ IsUnclosed k
 pub record ClosesPlace (kind : Kind) (opening closing : ℕ) (o : Place) (j : State)
     (result : Result (Unit {0}) EncodeError) (y : State) : Type 0 where
   pub closed : Closed kind opening closing o j result y
+  pub lacks : is_complete j.place ≡ false → j.failed ≡ false → IsErrAnd result (λ e. e ≡ OutOfTurn)
   pub behaves : BehavesSo j result y
 
 -- A call before an item of an array, of which so many are left: one less then, and where none is left it refuses.

@@ -1,32 +1,25 @@
 //! The encoder of JSON, behind the trait of encoders.
 
-ghost use Rattle.std.specs.Prelude.{◌≡◌, ◌⊎◌, ℕ, List, None, true, false, if◌then◌else◌, IfOk, IfErr, OnOk, OnErr};
+ghost use Rattle.std.specs.Prelude.{◌≡◌, ◌⊎◌, List, None, true, false, IfOk, OnErr};
 ghost use Rattle.std.specs.Option.{unwrap_or};
-ghost use Rattle.std.specs.Prelude.{encode_utf8_all};
-ghost use Rattle.hex.specs.Hex.{encode_upper};
-ghost use Rattle.json.specs.Json.{Members, object as the_object, string};
+ghost use Rattle.std.specs.Prelude.{count_by};
 ghost use Rattle.rasn_types.specs.Values.{Value};
 ghost use Rattle.rasn_schema.specs.Choices.{place_of, variants_behind};
 ghost use Rattle.rasn_schema.specs.Extensions.{fields_behind};
-ghost use Rattle.rasn_schema.specs.Fields.{in_tag_order, tag_of};
+ghost use Rattle.rasn_schema.specs.Fields.{in_tag_order, may_be_absent, tag_of};
 ghost use Rattle.rasn_schema.specs.Forms.{is_size_marked, size_of};
-ghost use Rattle.rasn_schema.specs.Schemas.{Schema};
-ghost use Rattle.rasn_traits.specs.Calls.{Writes};
 ghost use Rattle.rasn_jer.specs.Names.{AreNamesOf};
-ghost use Rattle.rasn_jer.specs.Places.{inside, is_full, IsNamedBy, with_addition, with_group};
-ghost use Rattle.rasn_jer.specs.Rules.{AddedSo, BehavesSo, ClosesItems, ClosesPlace, CountsItem, EntersPlace};
-ghost use Rattle.rasn_jer.specs.Rules.{LeavesPlace, NeedsRecord};
-ghost use Rattle.rasn_jer.specs.Rules.{IsUnmade, WritesJson, WritesText, jer_rules};
-ghost use Rattle.rasn_jer.specs.Shown.{fixed_count, ShowsText};
-ghost use Rattle.rasn_jer.specs.Texts.{enclosed as enclosed_text, text_of};
+ghost use Rattle.rasn_jer.specs.Places.{inside, is_full, IsNamedBy};
+ghost use Rattle.rasn_jer.specs.Rules.{jer_rules};
+ghost use Rattle.rasn_jer.specs.Shown.{fixed_count};
 ghost use Rattle.rasn_jer.specs.declared.error.EncodeError.TheVariants.{AlreadyFailed};
 ghost use Rattle.rasn_jer.specs.declared.place.Kind.TheVariants.{One};
 
 use crate::error::EncodeError;
 use crate::place::{Kind, Names, Place};
 use crate::texts::{
-    bits, chosen_member, day, enclosed, generalized_time, hexadecimal, identifier, item, latin,
-    named_bits, nothing, quoted, scalars, truth, utc_time, whole,
+    bits, chosen_member, day, generalized_time, identifier, item, named_bits, nothing, quoted,
+    scalars, truth, utc_time, whole,
 };
 use rasn_schema::choices::Choice;
 use rasn_schema::enumerated::Enumerated;
@@ -40,14 +33,13 @@ use rasn_types::octet_strings::{Any, GeneralString, GraphicString, TeletexString
 use rasn_types::types::{Codec, Identifier, Tag};
 use std::alloc::{AllocError, Allocator};
 use std::marker::Model;
-use std::mem;
 
 /// Writes a value as JSON.
 #[derive(Drop)]
 pub struct Encoder<A: Allocator + Copy> {
-    alloc: A,
-    place: Place<A>,
-    failed: bool,
+    pub(crate) alloc: A,
+    pub(crate) place: Place<A>,
+    pub(crate) failed: bool,
 }
 
 impl<A: Allocator + Copy> Model for Encoder<A> {
@@ -84,197 +76,6 @@ impl<A: Allocator + Copy> Encoder<A> {
         }
         Ok(place.into_text())
     }
-
-    /// Refuses, from now on too. A failed encoder answers that it had failed.
-    fn refuse(&mut self, error: EncodeError) -> EncodeError
-        ensures answers { result ≡ if self.old.failed then AlreadyFailed else error }
-        ensures fails { self.new.failed ≡ true }
-    {
-        if self.failed {
-            return EncodeError::AlreadyFailed;
-        }
-        self.refuse_now(error)
-    }
-
-    /// Refuses, from now on too.
-    fn refuse_now(&mut self, error: EncodeError) -> EncodeError
-        ensures answers { result ≡ error }
-        ensures fails { self.new ≡ record self.old { failed = true } }
-    {
-        self.failed = true;
-        error
-    }
-
-    /// Writes a value's text where one is awaited.
-    fn write(&mut self, text: Result<Vec<u8, A>, AllocError>) -> Result<(), EncodeError>
-        ensures { WritesText text (λ t. t.items) self.old result self.new }
-    {
-        if self.failed {
-            return Err(EncodeError::AlreadyFailed);
-        }
-        if self.place.is_full() {
-            return Err(self.refuse_now(EncodeError::OutOfTurn));
-        }
-        match text {
-            Ok(text) => match self.place.take(text.as_slice()) {
-                Ok(()) => Ok(()),
-                Err(_) => Err(self.refuse_now(EncodeError::OutOfMemory)),
-            },
-            Err(_) => Err(self.refuse_now(EncodeError::OutOfMemory)),
-        }
-    }
-
-    /// Writes octets as a string of hexadecimal digits (X.697, OCTET STRING).
-    fn write_octets(&mut self, octets: &[u8]) -> Result<(), EncodeError>
-        ensures { WritesJson (string (encode_upper octets.now)) self.old result self.new }
-    {
-        let text = hexadecimal(self.alloc, octets);
-        self.write(text)
-    }
-
-    /// Writes octets as a string, each as the character with its number.
-    fn write_latin(&mut self, octets: &[u8]) -> Result<(), EncodeError>
-        ensures { WritesJson (string (encode_utf8_all octets.now)) self.old result self.new }
-    {
-        let text = latin(self.alloc, octets);
-        self.write(text)
-    }
-
-    /// Writes the text of a value that may have none, or refuses by the error that stands for it.
-    fn write_made(&mut self, text: Result<Vec<u8, A>, EncodeError>) -> Result<(), EncodeError>
-        ensures { (s : Schema) (v : Value) → IfOk text (λ t. ShowsText s v t.items) → IfErr text (IsUnmade s v)
-            → Writes jer_rules s v self.old result self.new }
-    {
-        match text {
-            Ok(text) => self.write(Ok(text)),
-            Err(error) => Err(self.refuse(error)),
-        }
-    }
-
-    /// Opens a place, and answers what was open.
-    fn enter(&mut self, place: Result<Place<A>, AllocError>) -> Result<Place<A>, EncodeError>
-        ensures { EntersPlace place self.old result self.new }
-    {
-        if self.failed {
-            return Err(EncodeError::AlreadyFailed);
-        }
-        match place {
-            Ok(place) => Ok(mem::replace(&mut self.place, place)),
-            Err(_) => Err(self.refuse_now(EncodeError::OutOfMemory)),
-        }
-    }
-
-    /// Takes out what is inside a place of a kind, and opens what waited outside again.
-    fn leave(&mut self, outer: Place<A>, kind: Kind) -> Result<Place<A>, EncodeError>
-        ensures { LeavesPlace kind outer self.old result self.new }
-    {
-        if self.failed {
-            return Err(EncodeError::AlreadyFailed);
-        }
-        if !self.place.is_of(kind) || !self.place.is_complete() {
-            return Err(self.refuse_now(EncodeError::OutOfTurn));
-        }
-        Ok(mem::replace(&mut self.place, outer))
-    }
-
-    /// Closes a place of a kind: what was written in it is written outside, between two characters.
-    fn close(
-        &mut self,
-        outer: Place<A>,
-        kind: Kind,
-        opening: u8,
-        closing: u8,
-    ) -> Result<(), EncodeError>
-        ensures { ClosesPlace kind opening closing outer self.old result self.new }
-    {
-        match self.leave(outer, kind) {
-            Ok(inner) => {
-                let text = enclosed(self.alloc, opening, inner.text(), closing);
-                self.write(text)
-            }
-            Err(error) => Err(error),
-        }
-    }
-
-    /// Counts the next item of an array, of which so many are left. Where none is left it refuses.
-    fn next_item(&mut self, left: &mut usize) -> Result<(), EncodeError>
-        ensures { CountsItem left.old self.old result left.new self.new }
-    {
-        if self.failed {
-            return Err(EncodeError::AlreadyFailed);
-        }
-        match left.checked_sub(1) {
-            Some(others) => {
-                *left = others;
-                Ok(())
-            }
-            None => Err(self.refuse_now(EncodeError::OutOfTurn)),
-        }
-    }
-
-    /// Closes an array of which no item is left. Where one is it refuses.
-    fn close_items(&mut self, items: (Place<A>, usize)) -> Result<(), EncodeError>
-        ensures { ClosesItems items self.old result self.new }
-    {
-        let (outside, left) = items;
-        if left > 0 {
-            return Err(self.refuse(EncodeError::OutOfTurn));
-        }
-        self.close(outside, Kind::Items, b'[', b']')
-    }
-
-    /// Answers an error where a call was refused before.
-    fn check_unfailed(&self) -> Result<(), EncodeError>
-        ensures ok { OnOk result (self.now.failed ≡ false) }
-        ensures err { IfErr result (λ e. (e ≡ AlreadyFailed) × (self.now.failed ≡ true)) }
-    {
-        if self.failed {
-            return Err(EncodeError::AlreadyFailed);
-        }
-        Ok(())
-    }
-
-    /// Answers an error where no record is open, or a call was refused before.
-    fn check_members(&mut self) -> Result<(), EncodeError>
-        ensures { NeedsRecord self.old result self.new }
-    {
-        if self.failed {
-            return Err(EncodeError::AlreadyFailed);
-        }
-        if !self.place.is_of(Kind::Members) {
-            return Err(self.refuse_now(EncodeError::OutOfTurn));
-        }
-        Ok(())
-    }
-
-    /// Writes the text of an addition as a member of the open record.
-    fn add(&mut self, text: &[u8]) -> Result<(), EncodeError>
-        ensures added { AddedSo (λ q. q ≡ with_addition self.old.place text.now) self.old result self.new }
-        ensures behaves { BehavesSo self.old result self.new }
-    {
-        match self.check_members() {
-            Ok(()) => match self.place.add(text) {
-                Ok(()) => Ok(()),
-                Err(_) => Err(self.refuse_now(EncodeError::OutOfMemory)),
-            },
-            Err(error) => Err(error),
-        }
-    }
-
-    /// Writes the members of an object's text among those of the open record.
-    fn add_all(&mut self, object: &[u8]) -> Result<(), EncodeError>
-        ensures added { (gs : Members) → object.now ≡ text_of (the_object gs)
-            → AddedSo (λ q. q ≡ with_group self.old.place gs) self.old result self.new }
-        ensures behaves { BehavesSo self.old result self.new }
-    {
-        match self.check_members() {
-            Ok(()) => match self.place.add_all(without_ends(object)) {
-                Ok(()) => Ok(()),
-                Err(_) => Err(self.refuse_now(EncodeError::OutOfMemory)),
-            },
-            Err(error) => Err(error),
-        }
-    }
 }
 
 impl<A: Allocator + Copy> encoder::Encoder for Encoder<A> {
@@ -300,6 +101,8 @@ impl<A: Allocator + Copy> encoder::Encoder for Encoder<A> {
     ghost rules = { jer_rules };
 
     ghost opens = { OpensRecord };
+
+    ghost opens_fields = { OpensRecord };
 
     ghost opens_addition = { OpensAddition };
 
@@ -513,6 +316,19 @@ impl<A: Allocator + Copy> encoder::Encoder for Encoder<A> {
         self.close(scope, Kind::Members, b'{', b'}')
     }
 
+    fn open_fields<C: Constructed>(
+        &mut self,
+        _tag: Tag,
+        _identifier: Identifier,
+    ) -> Result<Place<A>, EncodeError> {
+        let fields = members_of::<C, A>(self.alloc);
+        self.enter(fields)
+    }
+
+    fn close_fields<C: Constructed>(&mut self, fields: Place<A>) -> Result<(), EncodeError> {
+        self.close(fields, Kind::Members, b'{', b'}')
+    }
+
     fn open_components<C: Constructed>(
         &mut self,
         _tag: Tag,
@@ -567,6 +383,7 @@ impl<A: Allocator + Copy> encoder::Encoder for Encoder<A> {
     }
 
     fn set_presence(&mut self, is_there: bool) -> Result<(), EncodeError> {
+        self.place.count_bit();
         if !is_there {
             self.place.skip_root();
         }
@@ -661,22 +478,25 @@ impl<A: Allocator + Copy> encoder::Encoder for Encoder<A> {
 
 /// The place of a record's members, by the names of its fields as they are listed.
 fn members_of<C: Constructed, A: Allocator + Copy>(alloc: A) -> Result<Place<A>, AllocError>
-    ensures { IfOk result (IsNamedBy C.FIELDS (fields_behind C.EXTENDED_FIELDS)) }
+    ensures { IfOk result (IsNamedBy C.FIELDS (fields_behind C.EXTENDED_FIELDS) (count_by may_be_absent C.FIELDS)) }
 {
-    let root = C::FIELDS;
-    let root = Names::of_fields(alloc, root.list)?;
+    let fields = C::FIELDS;
+    let bits = fields.number_of_optional_and_default_fields();
+    let root = Names::of_fields(alloc, fields.list)?;
     let added = added_names::<C, A>(alloc)?;
-    Ok(Place::of_members(alloc, root, added))
+    Ok(Place::of_members(alloc, root, bits, added))
 }
 
 /// The place of a SET's members, by the names of its fields in ascending order of their smallest tags.
 fn ordered_members_of<C: Constructed, A: Allocator + Copy>(alloc: A) -> Result<Place<A>, AllocError>
-    ensures { IfOk result (IsNamedBy (in_tag_order C.FIELDS) (fields_behind C.EXTENDED_FIELDS)) }
+    ensures { IfOk result (IsNamedBy (in_tag_order C.FIELDS) (fields_behind C.EXTENDED_FIELDS)
+        (count_by may_be_absent C.FIELDS)) }
 {
     let fields = C::FIELDS.canonised(alloc)?;
     let root = Names::of_fields(alloc, fields.as_slice())?;
     let added = added_names::<C, A>(alloc)?;
-    Ok(Place::of_members(alloc, root, added))
+    let bits = C::FIELDS.number_of_optional_and_default_fields();
+    Ok(Place::of_members(alloc, root, bits, added))
 }
 
 /// The names of a record's additions.
@@ -721,15 +541,4 @@ fn count_of(constraints: &Constraints) -> Option<usize>
         (Some(least), Some(most)) if !size.extensible && least == most => Some(least),
         _ => None,
     }
-}
-
-/// A text without its first and its last character.
-fn without_ends(text: &[u8]) -> &[u8]
-    ensures { (opening closing : ℕ) (inner : List ℕ) → text.now ≡ enclosed_text opening inner closing
-        → result.now ≡ inner }
-{
-    if text.len() < 2 {
-        return text;
-    }
-    &text[1..text.len() - 1]
 }

@@ -36,6 +36,7 @@
 pub mod encoder;
 pub mod error;
 mod large;
+mod opened;
 pub mod place;
 pub mod texts;
 

@@ -1,10 +1,11 @@
 //! Where values are written: one value, the items of an array, or the members of an object.
 
-ghost use Rattle.std.specs.Prelude.{◌≡◌, ◌≢◌, [], drop, true, false, IfOk, OnOk};
+ghost use Rattle.std.specs.Prelude.{◌≡◌, ◌≢◌, [], drop, length, true, false, IfOk, OnOk};
 ghost use Rattle.json.specs.Json.{Members as JsonMembers};
 ghost use Rattle.rasn_jer.specs.Names.{names_of, next_name};
-ghost use Rattle.rasn_jer.specs.Places.{Takes, behind, is_complete, is_full, named_place, past_added, past_root};
-ghost use Rattle.rasn_jer.specs.Places.{vacant_place, with_addition, with_group};
+ghost use Rattle.rasn_jer.specs.Places.{Takes, are_done, behind, due_of, fewer, is_complete, is_done, is_full};
+ghost use Rattle.rasn_jer.specs.Places.{named_place, none_due, past_added, past_bit, past_root, vacant_place};
+ghost use Rattle.rasn_jer.specs.Places.{with_addition, with_group};
 ghost use Rattle.rasn_jer.specs.Texts.{members_text};
 ghost use Rattle.rasn_jer.specs.declared.place.Kind.TheVariants.{Members};
 
@@ -61,6 +62,13 @@ impl<A: Allocator> Names<A> {
         Ok(Names { list, next: 0 })
     }
 
+    /// How many are left.
+    pub fn left(&self) -> usize
+        ensures { result ≡ length self.now }
+    {
+        self.list.len().saturating_sub(self.next)
+    }
+
     /// The next name, which isn't left then. Behind the last one, where no component of a lawful type stands, it is
     /// empty.
     pub fn take(&mut self) -> &'static str
@@ -77,6 +85,57 @@ impl<A: Allocator> Names<A> {
     }
 }
 
+/// What is still to come in a record; none of what came too often.
+#[derive(Clone, Copy, Debug)]
+pub struct Due {
+    /// Components, of which each comes as a value or as a presence bit 0.
+    components: Option<usize>,
+    /// Presence bits.
+    bits: Option<usize>,
+    /// Additions.
+    additions: Option<usize>,
+}
+
+impl Due {
+    /// Nothing.
+    fn nothing() -> Due
+        ensures { result ≡ none_due }
+    {
+        Due {
+            components: Some(0),
+            bits: Some(0),
+            additions: Some(0),
+        }
+    }
+
+    /// Whether all came that were to come.
+    fn are_done(&self) -> bool
+        ensures { result ≡ are_done self.now }
+    {
+        is_done(self.components) && is_done(self.bits) && is_done(self.additions)
+    }
+}
+
+/// Whether as many came as were to come.
+fn is_done(left: Option<usize>) -> bool
+    ensures { result ≡ is_done left }
+{
+    match left {
+        Some(count) => count == 0,
+        None => false,
+    }
+}
+
+/// How many are still to come behind the next one; none where it is one too many.
+fn fewer(left: Option<usize>) -> Option<usize>
+    ensures { result ≡ fewer left }
+{
+    match left {
+        Some(count) => count.checked_sub(1),
+        None => None,
+    }
+}
+
 /// Where values are written, and the text of those that were.
 #[derive(Drop)]
 pub struct Place<A: Allocator> {
@@ -85,6 +144,7 @@ pub struct Place<A: Allocator> {
     text: Vec<u8, A>,
     root: Names<A>,
     added: Names<A>,
+    due: Due,
 }
 
 impl<A: Allocator> Model for Place<A> {
@@ -98,6 +158,7 @@ impl<A: Allocator> Model for Place<A> {
       text = p.text.items;
       root = p.root;
       added = p.added;
+      due = p.due;
     } };
 }
 
@@ -106,19 +167,26 @@ impl<A: Allocator + Copy> Place<A> {
     pub fn new(alloc: A, kind: Kind) -> Place<A>
         ensures { result ≡ vacant_place kind }
     {
-        Place::with_names(alloc, kind, Names::none(alloc), Names::none(alloc))
+        let due = Due::nothing();
+        Place::with_names(alloc, kind, Names::none(alloc), Names::none(alloc), due)
     }
 
-    /// A place of members that are named so: those of the root, and those of additions.
-    pub fn of_members(alloc: A, root: Names<A>, added: Names<A>) -> Place<A>
-        ensures { result ≡ named_place Members root added }
+    /// A place of members that are named so: those of the root, of which so many have a presence bit, and those of
+    /// additions.
+    pub fn of_members(alloc: A, root: Names<A>, bits: usize, added: Names<A>) -> Place<A>
+        ensures { result ≡ named_place Members root added (due_of root bits added) }
     {
-        Place::with_names(alloc, Kind::Members, root, added)
+        let due = Due {
+            components: Some(root.left()),
+            bits: Some(bits),
+            additions: Some(added.left()),
+        };
+        Place::with_names(alloc, Kind::Members, root, added, due)
     }
 
-    /// A place of a kind with names.
-    fn with_names(alloc: A, kind: Kind, root: Names<A>, added: Names<A>) -> Place<A>
-        ensures { result ≡ named_place kind root added }
+    /// A place of a kind with names, in which this is to come.
+    fn with_names(alloc: A, kind: Kind, root: Names<A>, added: Names<A>, due: Due) -> Place<A>
+        ensures { result ≡ named_place kind root added due }
     {
         Place {
             kind,
@@ -126,6 +194,7 @@ impl<A: Allocator + Copy> Place<A> {
             text: Vec::new(alloc),
             root,
             added,
+            due,
         }
     }
 
@@ -151,13 +220,14 @@ impl<A: Allocator + Copy> Place<A> {
         }
     }
 
-    /// Whether what the place holds is whole: one value, or any items or members.
+    /// Whether what the place holds is whole: one value, any items, or the members that were to come.
     pub fn is_complete(&self) -> bool
         ensures { result ≡ is_complete self.now }
     {
         match self.kind {
             Kind::One => !self.is_empty,
-            Kind::Items | Kind::Members => true,
+            Kind::Items => true,
+            Kind::Members => self.due.are_done(),
         }
     }
 
@@ -183,7 +253,7 @@ impl<A: Allocator + Copy> Place<A> {
         match self.kind {
             Kind::One | Kind::Items => self.append(text),
             Kind::Members => {
-                let named = member(*self.text.allocator(), self.root.take(), text)?;
+                let named = member(*self.text.allocator(), self.take_root(), text)?;
                 self.append(named.as_slice())
             }
         }
@@ -193,7 +263,7 @@ impl<A: Allocator + Copy> Place<A> {
     pub fn add(&mut self, text: &[u8]) -> Result<(), AllocError>
         ensures { OnOk result (self.new ≡ with_addition self.old text.now) }
     {
-        let named = member(*self.text.allocator(), self.added.take(), text)?;
+        let named = member(*self.text.allocator(), self.take_added(), text)?;
         self.append(named.as_slice())
     }
 
@@ -202,7 +272,7 @@ impl<A: Allocator + Copy> Place<A> {
         ensures { (gs : JsonMembers) → members.now ≡ members_text true gs
             → OnOk result (self.new ≡ with_group self.old gs) }
     {
-        let _ = self.added.take();
+        let _ = self.take_added();
         if members.is_empty() {
             return Ok(());
         }
@@ -213,14 +283,39 @@ impl<A: Allocator + Copy> Place<A> {
     pub fn skip_root(&mut self)
         ensures { self.new ≡ past_root self.old }
     {
-        let _ = self.root.take();
+        let _ = self.take_root();
+    }
+
+    /// The name of the next component of the root, which comes.
+    fn take_root(&mut self) -> &'static str
+        ensures answers { result.now ≡ next_name self.old.root }
+        ensures leaves { self.new ≡ past_root self.old }
+    {
+        self.due.components = fewer(self.due.components);
+        self.root.take()
+    }
+
+    /// The name of the next addition, which comes.
+    fn take_added(&mut self) -> &'static str
+        ensures answers { result.now ≡ next_name self.old.added }
+        ensures leaves { self.new ≡ past_added self.old }
+    {
+        self.due.additions = fewer(self.due.additions);
+        self.added.take()
+    }
+
+    /// A presence bit comes.
+    pub fn count_bit(&mut self)
+        ensures { self.new ≡ past_bit self.old }
+    {
+        self.due.bits = fewer(self.due.bits);
     }
 
     /// Leaves the next addition out.
     pub fn skip_added(&mut self)
         ensures { self.new ≡ past_added self.old }
     {
-        let _ = self.added.take();
+        let _ = self.take_added();
     }
 
     /// Writes further text behind a comma, unless it is the first. The only error is want of memory.

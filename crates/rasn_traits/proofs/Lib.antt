@@ -5,3 +5,4 @@ pub mod SetsRead
 pub mod SetsWritten
 pub mod Writing
 pub mod Ended
+pub mod Turns

@@ -8,6 +8,7 @@ use Rattle.rasn_schema.specs.Records.{AtParts}
 use Rattle.rasn_schema.specs.AtDepths.{AtDepths}
 use Rattle.rasn_traits.specs.Calls.{Behaves, EncoderRules}
 use Rattle.rasn_traits.specs.Presences.{presence_bit}
+use Rattle.rasn_traits.specs.Turns.{one_value, RefusesOther}
 
 -- a record of these root components, with or without an extension marker, and these additions behind it
 abbrev pub extended : Parts → Bool → Parts → Schema
@@ -110,19 +111,22 @@ AdditionClosed rules s (Some v) x (Ok u) y = rules.adds x s v y
 AdditionClosed rules s None x (Ok u) y = rules.skips x y
 AdditionClosed rules s r x (Err e) y = rules.memory e x
 
--- A call that closes an open type in which a value was presented: it answers as one call that gives the addition.
+-- A call that closes an open type in which a value was presented: it answers as one call that gives the addition. All
+-- but one value are refused.
 pub record ClosesAddition {E X O : Type 0} (rules : EncoderRules E X) (opens : X → O → X → Type 0) (o : O) (j : X)
     (result : Result (Unit {0}) E) (y : X) : Type 0 where
   pub law : (x i : X) (s : Schema) (v : Value) → opens x o i → rules.presents i s v j
       → AdditionClosed rules s (Some v) x result y
+  pub untimely : (x i : X) → opens x o i → RefusesOther rules one_value i j result
   pub behaves : Behaves rules.already rules.failed rules.codec j result y
 
 -- A call that closes an open type in which a group was presented: it answers as one call that gives the addition, and a
--- group that holds nothing is given as absent (X.691 19.9).
+-- group that holds nothing is given as absent (X.691 19.9). All but one value are refused.
 pub record ClosesGroup {E X O : Type 0} (rules : EncoderRules E X) (opens : X → O → X → Type 0) (schema : ℕ → Schema)
     (o : O) (j : X) (result : Result (Unit {0}) E) (y : X) : Type 0 where
   pub law : (x i : X) (n : ℕ) (v : Value) → opens x o i → rules.presents i (schema n) v j
       → AdditionClosed rules (schema n) (settle group (schema n) v) x result y
+  pub untimely : (x i : X) → opens x o i → RefusesOther rules one_value i j result
   pub behaves : Behaves rules.already rules.failed rules.codec j result y
 
 -- Ok has given the value of an addition, and Err, memory aside, comes only where it is refused.

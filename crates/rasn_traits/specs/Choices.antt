@@ -15,6 +15,7 @@ use Rattle.rasn_schema.specs.Normal.{normal}
 use Rattle.rasn_schema.specs.AtDepths.{AtDepths}
 use Rattle.rasn_traits.specs.Calls.{Behaves, EncoderRules, Encodes, Written, DecoderRules, Refuses, Answers}
 use Rattle.rasn_traits.specs.Scopes.{KeepsCodec}
+use Rattle.rasn_traits.specs.Turns.{one_value, RefusesOther}
 
 -- a fact on the schema of the alternative at a place, at each unfolding that is deep enough for a value of so many
 -- levels
@@ -41,7 +42,7 @@ pub record OpensChoice {E X O : Type 0} (rules : EncoderRules E X) (opens : Sche
   pub behaves : Behaves rules.already rules.failed rules.codec x result y
 
 -- A call that closes one, in which the alternative was presented that goes by a tag: it answers as one call that writes
--- the whole choice. A tag by which none goes is refused.
+-- the whole choice. A tag by which none goes is refused, and, by a tag by which one goes, all but one value.
 pub record ClosesChoice {E X O : Type 0} (rules : EncoderRules E X) (opens : Schema → X → O → X → Type 0)
     (choice : ℕ → Schema) (vs : List VariantShape) (xs : Option (List VariantShape)) (o : O) (t : Schemas.Tag) (j : X)
     (result : Result (Unit {0}) E) (y : X) : Type 0 where
@@ -50,6 +51,8 @@ pub record ClosesChoice {E X O : Type 0} (rules : EncoderRules E X) (opens : Sch
       → rules.presents i s v j → Written rules (choice n) (alternative d k v) x result y
   pub unknown : place_of t vs ≡ None → place_of t (variants_behind xs) ≡ None
       → IsErrAnd result (λ e. rules.already e j ⊎ rules.unchosen e j)
+  pub untimely : (x i : X) (n : ℕ) (d : Side) (k : ℕ) → opens (choice n) x o i
+      → place_of t (variants_on d vs xs) ≡ Some k → RefusesOther rules one_value i j result
   pub behaves : Behaves rules.already rules.failed rules.codec j result y
 
 -- Ok answers the tag by which the alternative at a place goes, and presents its value; Err, memory aside, comes only

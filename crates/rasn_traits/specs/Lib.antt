@@ -16,3 +16,4 @@ pub mod Sets
 pub mod Optionals
 pub mod Presences
 pub mod Reals
+pub mod Turns

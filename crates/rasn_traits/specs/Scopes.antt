@@ -11,6 +11,7 @@ use Rattle.rasn_traits.specs.Calls.{Behaves, EncoderRules, Written, DecoderRules
 use Rattle.rasn_traits.specs.Additions.{extended, PresentsAdditions, RefusesAdditions}
 use Rattle.rasn_traits.specs.AdditionsRead.{ReadsAdditions, FaultyAdditions}
 use Rattle.rasn_traits.specs.Presences.{presence_bit, left_out}
+use Rattle.rasn_traits.specs.Turns.{amount_of, RefusesOther}
 use Rattle.rasn_schema.specs.Records.{record_at, record_value, AtParts}
 
 -- a record of these root components, without an extension marker
@@ -147,6 +148,26 @@ pub record ClosesWritten {E X O : Type 0} (rules : EncoderRules E X) (opens : Sc
       → PresentsFields rules (parts n) (additions n) i rs xs j
       → Written rules (Schema.sequence order (parts n) marker (additions n)) (record_value rs xs) x result y
   pub behaves : Behaves rules.already rules.failed rules.codec j result y
+
+-- A record was opened at x, and all its components were presented as they are listed.
+pub record IsInTurn {E X O : Type 0} (rules : EncoderRules E X) (opens : Schema → X → O → X → Type 0)
+    (order : Order) (parts : ℕ → Parts) (marker : Bool) (additions : ℕ → Parts) (o : O) (j : X) : Type 0 where
+  pub before : X
+  pub inside : X
+  pub levels : ℕ
+  pub root : List (Option Value)
+  pub added : List (Option Value)
+  pub opened : opens (Schema.sequence order (parts levels) marker (additions levels)) before o inside
+  pub presented : PresentsFields rules (parts levels) (additions levels) inside root added j
+
+-- A call that closes a record as `ClosesWritten` says. Where a component, a presence bit or an addition wasn't given,
+-- or one too many, it is refused.
+pub record ClosesInTurn {E X O : Type 0} (rules : EncoderRules E X) (opens : Schema → X → O → X → Type 0)
+    (order : Order) (parts : ℕ → Parts) (marker : Bool) (additions : ℕ → Parts) (o : O) (j : X)
+    (result : Result (Unit {0}) E) (y : X) : Type 0 where
+  pub closes : ClosesWritten rules opens order parts marker additions o j result y
+  pub untimely : (x i : X) (n : ℕ) → opens (Schema.sequence order (parts n) marker (additions n)) x o i
+      → RefusesOther rules (amount_of (parts n) (additions n)) i j result
 
 -- What a function owes that is lent a codec: the variant stays.
 pub record KeepsCodec {X R C : Type 0} (codec : X → C) (returns : X → R → X → Type 0) : Type 0 where

@@ -47,11 +47,11 @@ pub trait CountedEncoder: Encoder {
         additions: Option<usize>,
         identifier: Identifier,
     ) -> Result<Self::Scope, Self::Error>
-        ensures { OpensCounted Self.rules Self.opens presence_bits additions self.old result self.new };
+        ensures { OpensCounted Self.rules Self.opens_fields presence_bits additions self.old result self.new };
 
     /// Closes a record in which its components were written and its additions given.
     fn close_record(&mut self, scope: Self::Scope) -> Result<(), Self::Error>
-        ensures { ClosesAny Self.rules Self.opens scope self.old result self.new };
+        ensures { ClosesAny Self.rules Self.opens_fields scope self.old result self.new };
 
     /// Opens a CHOICE (X.691 23) of so many alternatives, to write the one at a place: the calls from here to
     /// `close_alternative` write its value.

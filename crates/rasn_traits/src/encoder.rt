@@ -23,7 +23,8 @@ ghost use Rattle.rasn_traits.specs.Contents.{ClosesContents, OpensContents};
 ghost use Rattle.rasn_traits.specs.Lists.{Amid, OpensList, WritesNext, ClosesList};
 ghost use Rattle.rasn_traits.specs.Moments.{identifier_value};
 ghost use Rattle.rasn_traits.specs.Reals.{WritesNoReal};
-ghost use Rattle.rasn_traits.specs.Scopes.{OpensToWrite, ClosesWritten, WritesAround, deeper_of};
+ghost use Rattle.rasn_traits.specs.Scopes.{OpensToWrite, ClosesInTurn, ClosesWritten, IsInTurn, WritesAround};
+ghost use Rattle.rasn_traits.specs.Scopes.{deeper_of};
 ghost use Rattle.rasn_traits.specs.Sets.{SetsWritten, WritesSet};
 
 use crate::parts::{EncodeAdditions, EncodeParts};
@@ -68,6 +69,9 @@ pub trait Encoder: Sized {
 
     // A scope is opened to write a schema: what was before, what waits outside, and how it is inside.
     ghost opens: { Schema → Self → Self.Scope → Self → Type 0 };
+
+    // The same, where what comes in the scope isn't counted.
+    ghost opens_fields: { Schema → Self → Self.Scope → Self → Type 0 };
 
     // The open type of the next addition is opened: what was before, what waits outside, and how it is inside.
     ghost opens_addition: { Self → Self.Addition → Self → Type 0 };
@@ -277,9 +281,25 @@ pub trait Encoder: Sized {
     ) -> Result<Self::Scope, Self::Error>
         ensures { OpensToWrite rules opens listed C.parts C.IS_EXTENSIBLE C.additions self.old result self.new };
 
-    /// Closes a SEQUENCE in which its components were written and its additions given.
+    /// Closes a SEQUENCE in which its components were written and its additions given. Where one wasn't, or one too
+    /// many was, it refuses.
     fn close_sequence<C: Constructed>(&mut self, scope: Self::Scope) -> Result<(), Self::Error>
-        ensures { ClosesWritten rules opens listed C.parts C.IS_EXTENSIBLE C.additions scope
+        ensures { ClosesInTurn rules opens listed C.parts C.IS_EXTENSIBLE C.additions scope
+            self.old result self.new };
+
+    /// Opens a SEQUENCE as `open_sequence` does, but for `close_fields` alone: what is written in it isn't counted.
+    fn open_fields<C: Constructed>(
+        &mut self,
+        tag: Tag,
+        identifier: Identifier,
+    ) -> Result<Self::Scope, Self::Error>
+        ensures { OpensToWrite rules opens_fields listed C.parts C.IS_EXTENSIBLE C.additions self.old result self.new };
+
+    /// Closes a SEQUENCE that `open_fields` opened. The caller shows that each component was written as it is listed,
+    /// and each addition given, so that nothing need be counted.
+    fn close_fields<C: Constructed>(&mut self, scope: Self::Scope) -> Result<(), Self::Error>
+        requires in_turn { IsInTurn rules opens_fields listed C.parts C.IS_EXTENSIBLE C.additions scope self.old }
+        ensures { ClosesWritten rules opens_fields listed C.parts C.IS_EXTENSIBLE C.additions scope
             self.old result self.new };
 
     /// Opens a SET (X.691 21): the calls from here to `close_components` write its root components, in the order of
@@ -307,9 +327,10 @@ pub trait Encoder: Sized {
         ensures { OpensToWrite rules opens listed (canonised_at C.parts) C.IS_EXTENSIBLE C.additions
             self.old result self.new };
 
-    /// Closes a SET in which its components were written and its additions given.
+    /// Closes a SET in which its components were written and its additions given. Where one wasn't, or one too many
+    /// was, it refuses.
     fn close_set<C: Constructed>(&mut self, scope: Self::Scope) -> Result<(), Self::Error>
-        ensures { ClosesWritten rules opens listed (canonised_at C.parts) C.IS_EXTENSIBLE C.additions scope
+        ensures { ClosesInTurn rules opens listed (canonised_at C.parts) C.IS_EXTENSIBLE C.additions scope
             self.old result self.new };
 
     /// Opens a CHOICE (X.691 23): the calls from here to `close_choice` write the value of its alternative.
@@ -323,7 +344,7 @@ pub trait Encoder: Sized {
 
     /// Closes a CHOICE in which the value of an alternative was written, by the tag that this goes by: one of the root,
     /// or one behind the extension marker, which stands in an open type (X.691 23.8). A tag by which none goes is
-    /// refused.
+    /// refused, and so is a CHOICE in which no value was written, or more than one.
     fn close_choice<C: Choice>(
         &mut self,
         alternative: Self::Alternative,
@@ -359,12 +380,12 @@ pub trait Encoder: Sized {
     fn open_addition(&mut self) -> Result<Self::Addition, Self::Error>
         ensures { OpensAddition rules opens_addition self.old result self.new };
 
-    /// Closes an open type in which one value was written.
+    /// Closes an open type in which one value was written. Where none was, or more than one, it refuses.
     fn close_addition(&mut self, addition: Self::Addition) -> Result<(), Self::Error>
         ensures { ClosesAddition rules opens_addition addition self.old result self.new };
 
     /// Closes an open type in which an addition group was written: one that holds nothing is given as absent
-    /// (X.691 19.9).
+    /// (X.691 19.9). Where none was written, or more than one, it refuses.
     fn close_group<C: AdditionGroup>(&mut self, addition: Self::Addition) -> Result<(), Self::Error>
         ensures { ClosesGroup rules opens_addition (C.schema C.CONSTRAINTS) addition self.old result self.new };
 
@@ -582,10 +603,10 @@ pub trait Encoder: Sized {
             (suc (deeper_of (P.levels parts.now) (Q.levels additions.now)))
             (record_value (P.contents parts.now) (Q.contents additions.now)) self.old result self.new }
     {
-        let outside = self.open_sequence::<C>(tag, identifier.into())?;
+        let outside = self.open_fields::<C>(tag, identifier.into())?;
         parts.encode_parts(self)?;
         additions.encode_additions(self)?;
-        self.close_sequence::<C>(outside)
+        self.close_fields::<C>(outside)
     }
 
     // What holds of each encoder's relations.

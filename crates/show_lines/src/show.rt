@@ -86,7 +86,7 @@ impl<'a> Work for Octets<'a> {
 
 /// The value that all octets spell in the variant of a codec, or why they are refused, and where.
 fn read<T: Decode>(alloc: Global, codec: Codec, octets: &[u8]) -> Result<T, Refusal>
-    ensures decoded { Decoded codec (T.schema T.CONSTRAINTS) T.value octets.now (unplaced codec result) }
+    ensures decoded { Decoded codec (T.schema T.CONSTRAINTS) T.value octets.now (unplaced result) }
     ensures place { IfErr result (IsPlaced octets.now) }
 {
     match codec {

@@ -6,7 +6,7 @@ use Rattle.rasn_dynamic.specs.declared.types.ObjectSet.{ObjectSet}
 use Rattle.rasn_dynamic.specs.declared.types.Row.{Row}
 use Rattle.rasn_dynamic.specs.declared.values.Value.{Value}
 use Rattle.per_dynamic.specs.OpenTypes.{chosen, each, Each, IsOpenRead, IsOpenWritten, IsRowValue, none, read, set_of, Takes, TakesOneBy, unknown}
-use Rattle.per_dynamic.proofs.Taking.{bools, each_all, each_kept, each_map, each_put, no_level, ok_as, takes_below, takes_last, takes_told, unread_row, untaken}
+use Rattle.per_dynamic.proofs.Taking.{bools, each_all, each_kept, each_map, each_put, field_left, no_level, ok_as, takes_below, takes_last, takes_told, unread_row, untaken}
 use Rattle.per_dynamic.proofs.open_types.+taking.Goals as goal
 
 pub take_at-returns-in-Some-clause-taken : goal.take_at-returns-in-Some-clause-taken
@@ -51,6 +51,12 @@ take_fields-loop-index-preserved t c =
     let few : c.loop-index.index < length c.args.values.now = omega (arith, c.loop-index-test.true, c.loop-index.auto.values) in
     let fits : c.loop-index.index < length c.loop-index.values = omega (arith, c.loop-index-test.true, c.loop-index.auto.values) in
     each_put _ c.loop-index.index c.args.values.now c.loop-index.values _ _ few fits c.index-values-index.is c.loop-index.invariant h
+
+pub take_field-returns-then-not-has_parts-clause-taken : goal.take_field-returns-then-not-has_parts-clause-taken
+take_field-returns-then-not-has_parts-clause-taken t c =
+    let e = c.if-not-has_parts.true in
+    let no = c.has_parts.ensures in
+    field_left c.args.value (no.octets e) (no.elements e) (no.bag e) (no.fields e) (no.alternative e) c.args.way c.args.types.now.kinds.items c.args.levels c.args.told _
 
 pub take_record-returns-in_ok-take_fields-in-Fields-2-clause-taken : goal.take_record-returns-in_ok-take_fields-in-Fields-2-clause-taken
 take_record-returns-in_ok-take_fields-in-Fields-2-clause-taken t c =

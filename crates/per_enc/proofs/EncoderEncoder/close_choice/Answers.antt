@@ -1,23 +1,27 @@
 use Rattle.std.proofs.Common.{◌≡◌, ◌≤◌, ap, ◌∙◌, refl, sym, inl, inr, subst, length, true, false, None, Some, Option, List, arith}
 use Rattle.std.proofs.lemmas.Bool.{leb-true}
 use Rattle.std.proofs.lemmas.Result.{err_from_is_err_and}
-use Rattle.rasn_schema.specs.Choices.{StandsAt, VariantShape}
+use Rattle.rasn_schema.specs.Choices.{choices_of, StandsAt, VariantShape}
 use Rattle.rasn_schema.specs.Fields.{tag_of}
 use Rattle.rasn_schema.specs.declared.items.Place.{Place}
 use Rattle.rasn_schema.specs.Laws.Choices.{variants_counted}
 use Rattle.per_enc.specs.Rules.{noting}
 use Rattle.per_write.specs.State.{State}
+use Rattle.per_pieces.specs.Turns.{awaits}
 use Rattle.per_enc.proofs.Choices.{closes_choice, closes_well, none_found, some_found}
 use Rattle.per_enc.proofs.Inside.{value_inside}
 use Rattle.per_enc.proofs.Noting.{behaves_begun, written_noted}
+use Rattle.per_enc.proofs.Turns.{choice_opened_well, not_failed_since, one_untimely}
 use Rattle.per_enc.proofs.EncoderEncoder.close_choice.Goals as goal
 
 pub returns-in_err-check_unfailed : goal.returns-in_err-check_unfailed
 returns-in_err-check_unfailed g c =
     let p = err_from_is_err_and c.from_residual.result c.from_residual.ensures.1 in
+    let C = g.C.Choice in
     record {
       law = rw (← c.self.view_is) (λ x i n d k s v h f a w. absurd (let e : true ≡ false = sym c.in_err-check_unfailed.ensures.failed ∙ w.written.left in cc));
       unknown = rw (p.1, p.2, ← c.self.view_is) (λ e f. inl c.in_err-check_unfailed.ensures.err);
+      untimely = rw (← c.self.view_is) (λ x i n d k h f a came e. absurd (not_failed_since a (awaits 1) i _ h.inside (choice_opened_well (choices_of C.alternatives C.EXTENDED_VARIANTS C.added n) x i c.args.outside h).unfailed came c.in_err-check_unfailed.ensures.failed));
       behaves = rw (p.1, p.2, ← c.self.view_is) (record { again = λ q. c.in_err-check_unfailed.ensures.err; fails = c.in_err-check_unfailed.ensures.failed; kept = refl });
     }
 
@@ -33,6 +37,7 @@ returns-in_err-place g c =
     record {
       law = rw (← c.self.view_is) (λ x i n d k s v h f a w. absurd (none_found t C.VARIANTS C.EXTENDED_VARIANTS d k none f));
       unknown = rw (p.1, p.2, ← c.self.view_is) (λ e f. inr c.in_err-place.ensures.err);
+      untimely = rw (← c.self.view_is) (λ x i n d k h f a came e. absurd (none_found t C.VARIANTS C.EXTENDED_VARIANTS d k none f));
       behaves = rw (p.1, p.2, ← c.self.view_is) (behaves_begun c.in_ok-check_unfailed.ensures.ok c.in_err-place.ensures.fails c.in_err-place.ensures.kept);
     }
 
@@ -52,5 +57,6 @@ returns g c =
           (closes_choice C.EXTENDED_VARIANTS C.VARIANTS t (noting x).writer i.writer c.self.inside.writer c.checked_place.new.writer _ c.args.outside.0 (C.alternatives n) (C.added n) c.len.result c.in_ok-place.place d k s v c.close_choice.result
           (counted ∙ variants_counted (C.alternatives n) (C.described n)) few (C.extends n) stands c.in_ok-place.ensures.stays c.close_choice.ensures h.opened p a (value_inside i _ s v h.inside w).0) h.waits);
       unknown = λ e f. absurd (some_found t C.VARIANTS C.EXTENDED_VARIANTS c.in_ok-place.place stands e f);
+      untimely = rw (← c.self.view_is) (λ x i n d k h f. let o = choice_opened_well (choices_of C.alternatives C.EXTENDED_VARIANTS C.added n) x i c.args.outside h in one_untimely i _ c.close_choice.result h.inside o.presences o.additions (sym c.is_complete.ensures ∙ c.if-not-is_complete.false));
       behaves = rw (← c.self.view_is) (behaves_begun c.in_ok-check_unfailed.ensures.ok closes.0 (closes.1 ∙ ap (λ (z : State). z.codec) c.in_ok-place.ensures.stays));
     }

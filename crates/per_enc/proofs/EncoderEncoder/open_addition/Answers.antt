@@ -7,7 +7,7 @@ use Rattle.per_enc.proofs.EncoderEncoder.open_addition.Goals as goal
 
 pub returns : goal.returns
 returns g c = rw (← c.self.view_is) (record {
-  law = addition_opened (record { writer = c.self.inside.writer; set = c.self.inside.set }) (record { writer = c.open_addition.new.self; set = c.take.new.self }) c.in_ok-open_type.open_type c.take.result c.take.ensures.value c.take.ensures.after
+  law = addition_opened (record { writer = c.self.inside.writer; set = c.self.inside.set }) (record { writer = c.open_addition.new.self; set = c.awaiting.result }) c.in_ok-open_type.open_type c.take-set.result c.take-set.ensures.value c.awaiting.ensures
       (opened c.self.inside.writer c.open_addition.new.self (Ok c.in_ok-open_type.open_type) c.in_ok-open_type.ensures);
   behaves = behaves_begun c.in_ok-check_unfailed.ensures.ok tt c.in_ok-open_type.ensures.kept;
 })

@@ -17,7 +17,7 @@ returns g c =
     let C = g.C.Choice in
     let m = c.self.view_is ∙ c.in_ok-set.ensures.inside in
     record {
-      law = choice_opened (choices_of C.alternatives C.EXTENDED_VARIANTS C.added) c.args.self.now (record { writer = c.open_choice.new.writer; set = c.self.inside.set }) c.in_ok-choice.choice c.in_ok-set.set c.in_ok-set.ensures.waits (ap (λ (z : Encoding). z.set) m)
+      law = choice_opened (choices_of C.alternatives C.EXTENDED_VARIANTS C.added) c.args.self.now (record { writer = c.open_choice.new.writer; set = c.awaiting.result }) c.in_ok-choice.choice c.in_ok-set.set c.in_ok-set.ensures.waits c.awaiting.ensures
           (subst (λ (z : Encoding). OpenedChoice encoder_rules OpensChoice (choices_of C.alternatives C.EXTENDED_VARIANTS C.added) z.writer (Ok c.in_ok-choice.choice) c.open_choice.new.writer) m
           (opens_choice C.alternatives C.EXTENDED_VARIANTS C.added _ _ c.self.inside.writer _ (Ok c.in_ok-choice.choice)
           (λ n. c.len.ensures ∙ variants_counted (C.alternatives n) (c.VARIANTS.ensures ∙ C.described n))

@@ -1,18 +1,20 @@
-use Rattle.std.proofs.Common.{ap, inl, inr, ◌∙◌, subst, length, Ok}
+use Rattle.std.proofs.Common.{ap, inl, inr, ◌∙◌, subst, length, ℕ, Ok}
 use Rattle.std.specs.Prelude.{count_by}
 use Rattle.std.proofs.lemmas.Result.{err_from_is_err_and}
 use Rattle.rasn_schema.specs.Fields.{may_be_absent}
-use Rattle.rasn_schema.specs.Schemas.{listed}
+use Rattle.rasn_schema.specs.Schemas.{count, listed}
 use Rattle.rasn_traits.specs.Scopes.{OpenedToWrite}
 use Rattle.rasn_traits.proofs.Optionals.{bits_counted}
 use Rattle.per_write.specs.Components.{Encoding}
 use Rattle.per_write.specs.Rules.{encoder_rules}
+use Rattle.per_pieces.specs.Turns.{awaits, counts}
 use Rattle.per_enc.specs.Records.{behind_marker, Opens}
 use Rattle.per_enc.proofs.Around.{sequence_opened}
 use Rattle.per_enc.proofs.Given.{shapes_counted}
 use Rattle.per_enc.proofs.Noting.{behaves_begun, behaves_refused, noting_codec}
 use Rattle.per_enc.proofs.Presenting.{refuses_again}
 use Rattle.per_enc.proofs.Records.{opens_record}
+use Rattle.per_enc.proofs.SetCalls.{fields_counted}
 use Rattle.per_enc.proofs.EncoderEncoder.open_sequence.Goals as goal
 
 pub returns : goal.returns
@@ -20,10 +22,10 @@ returns g c =
     let C = g.C.Constructed in
     let m = c.self.view_is ∙ c.in_ok-set.ensures.inside in
     record {
-      law = sequence_opened C.parts C.IS_EXTENSIBLE C.additions c.args.self.now (record { writer = c.open_record.new.self; set = c.self.inside.set }) c.in_ok-scope.scope c.in_ok-set.set c.in_ok-set.ensures.waits (ap (λ (z : Encoding). z.set) m)
+      law = sequence_opened (λ n. awaits (count (C.parts n))) C.parts C.IS_EXTENSIBLE C.additions c.args.self.now (record { writer = c.open_record.new.self; set = c.awaiting.result }) c.in_ok-scope.scope c.in_ok-set.set c.in_ok-set.ensures.waits (λ n. c.awaiting.ensures ∙ ap (λ (k : ℕ). counts (awaits k)) (c.len.ensures ∙ ap length (c.FIELDS-fields.ensures ∙ C.described n) ∙ fields_counted 0 (C.parts n)))
           (subst (λ (z : Encoding). OpenedToWrite encoder_rules Opens listed C.parts C.IS_EXTENSIBLE C.additions z.writer (Ok c.in_ok-scope.scope) c.open_record.new.self) m
           (opens_record C.parts C.IS_EXTENSIBLE C.additions _ _ c.self.inside.writer _ (Ok c.in_ok-scope.scope)
-          (λ n. c.number_of_optional_and_default_fields-count.ensures ∙ ap (count_by may_be_absent) (c.FIELDS.ensures ∙ C.described n) ∙ bits_counted 0 (C.parts n))
+          (λ n. c.number_of_optional_and_default_fields-count.ensures ∙ ap (count_by may_be_absent) (c.FIELDS-fields.ensures ∙ C.described n) ∙ bits_counted 0 (C.parts n))
           (λ n. c.addition_count.ensures ∙ ap (behind_marker C.IS_EXTENSIBLE) (ap length (C.extends.described n) ∙ shapes_counted 0 (C.additions n))) C.extends.marked c.in_ok-scope.ensures));
       behaves = behaves_begun c.in_ok-set.ensures.ok tt (c.in_ok-scope.ensures.kept ∙ ap (λ (z : Encoding). z.writer.codec) m ∙ noting_codec c.args.self.now);
     }

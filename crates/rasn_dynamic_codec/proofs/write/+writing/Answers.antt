@@ -601,7 +601,7 @@ encode_fields-returns g t c =
     let a = rw c.behind-additions.ensures at c.in_ok-encode_additions.ensures in
     let d = c.close_record.ensures.closed ps (is_some r.additions) qs (unmarked_none ts r.additions) in
     record {
-      law = record_ended g.E.Encoder.rules g.E.Encoder.opens ps (is_some r.additions) qs (map slot_of vs) (map slot_of ws) _ c.args.encoder.now c.open_record.new.self c.encode_components.new.encoder c.encode_additions.new.encoder _ (λ n. (o.law n).0)
+      law = record_ended g.E.Encoder.rules g.E.Encoder.opens_fields ps (is_some r.additions) qs (map slot_of vs) (map slot_of ws) _ c.args.encoder.now c.open_record.new.self c.encode_components.new.encoder c.encode_additions.new.encoder _ (λ n. (o.law n).0)
           (λ n le. w.law.at n (le_trans (le-max_left (deepest levels_of vs) (deepest levels_of ws)) le)) (λ n le. a.law.at n (le_trans (le-max_right (deepest levels_of vs) (deepest levels_of ws)) le)) c.close_record.result c.close_record.new.self d;
       behaves = record { again = λ q. absurd (o.behaves.again q); fails = d.behaves.fails; kept = d.behaves.kept ∙ a.kept ∙ w.kept ∙ o.behaves.kept };
     }

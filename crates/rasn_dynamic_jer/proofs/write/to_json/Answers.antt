@@ -14,7 +14,7 @@ returns-clause-text c =
     let tokens = h.tokens ∙ ap (λ ts. ts ++ json_tokens h.json) c.new-writer.ensures.tokens in
     let printed : c.into_inner.result.items ≡ print (json_tokens h.json) =
     c.into_inner.ensures.items
-    ∙ ap₂ (λ bs ts. bs ++ print ts) (b ∙ c.new-writer.ensures.before ∙ c.new.ensures.items) tokens in
+    ∙ ap₂ (λ bs ts. bs ++ print ts) (b ∙ c.new-writer.ensures.before ∙ c.in_ok-with_capacity.ensures.items) tokens in
     record {
       json = h.json;
       shown = ap (λ ts. json_at ts max_depth c.args.place c.args.value.now) (sym c.deref.ensures.value) ∙ h.shown;

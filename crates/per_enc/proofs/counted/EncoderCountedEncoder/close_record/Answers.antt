@@ -1,5 +1,6 @@
 use Rattle.std.proofs.Common.{refl}
 use Rattle.std.proofs.lemmas.Result.{err_from_is_err_and}
+use Rattle.per_pieces.specs.Turns.{uncounted}
 use Rattle.per_enc.specs.Rules.{noting}
 use Rattle.per_enc.proofs.Around.{sequence_closed}
 use Rattle.per_enc.proofs.Inside.{fields_inside}
@@ -23,7 +24,7 @@ pub returns : goal.returns
 returns g c =
     record {
       closed = λ ps marker adds w. record {
-        law = rw (← c.self.view_is) (λ x i n rs xs h k. sequence_closed (ps n) marker (adds n) x i _ (record { writer = c.close_record.new.self; set = c.args.outside.1 }) rs xs c.args.outside c.close_record.result refl
+        law = rw (← c.self.view_is) (λ x i n rs xs h k. sequence_closed uncounted (ps n) marker (adds n) x i _ (record { writer = c.close_record.new.self; set = c.args.outside.1 }) rs xs c.args.outside c.close_record.result refl
             (λ f o. closes_record (ps n) marker (adds n) (noting x).writer i.writer c.self.inside.writer _ rs xs c.args.outside.0 c.close_record.result (λ m. w m n) o f c.close_record.ensures) h k);
         behaves = rw (← c.self.view_is) (behaves_begun c.in_ok-check_unfailed.ensures.ok c.close_record.ensures.fails c.close_record.ensures.kept);
       };

@@ -4,6 +4,7 @@ use Rattle.rasn_schema.specs.Schemas.{listed}
 use Rattle.rasn_traits.specs.Scopes.{OpenedToWrite}
 use Rattle.per_write.specs.Components.{Encoding}
 use Rattle.per_write.specs.Rules.{encoder_rules}
+use Rattle.per_pieces.specs.Turns.{uncounted}
 use Rattle.per_enc.specs.Records.{Opens}
 use Rattle.per_enc.proofs.Around.{sequence_opened}
 use Rattle.per_enc.proofs.Counting.{counted_behind, none_behind}
@@ -18,7 +19,7 @@ returns g c =
     let behaves = behaves_begun c.in_ok-set.ensures.ok tt (c.in_ok-scope.ensures.kept ∙ ap (λ (z : Encoding). z.writer.codec) m ∙ noting_codec c.args.self.now) in
     record {
       opened = λ ps marker adds k. record {
-        law = sequence_opened ps marker adds c.args.self.now (record { writer = c.open_record.new.self; set = c.self.inside.set }) c.in_ok-scope.scope c.in_ok-set.set c.in_ok-set.ensures.waits (ap (λ (z : Encoding). z.set) m)
+        law = sequence_opened (λ n. uncounted) ps marker adds c.args.self.now (record { writer = c.open_record.new.self; set = c.self.inside.set }) c.in_ok-scope.scope c.in_ok-set.set c.in_ok-set.ensures.waits (λ n. ap (λ (z : Encoding). z.set) m)
             (subst (λ (z : Encoding). OpenedToWrite encoder_rules Opens listed ps marker adds z.writer (Ok c.in_ok-scope.scope) c.open_record.new.self) m
             (opens_record ps marker adds _ _ c.self.inside.writer _ (Ok c.in_ok-scope.scope) k.bits_are
             (λ n. counted_behind c.args.additions marker (adds n) k.marked (k.added_are n))

@@ -47,9 +47,9 @@ returns g c =
           set_written g.Self.Encoder.rules g.met.Self.Encoder.sets C.parts C.IS_EXTENSIBLE C.additions rs cs xs k c.args.self.now c.close_set.result c.close_set.new.self order
           (record_closed g.Self.Encoder.rules g.Self.Encoder.opens listed (canonised_at C.parts) C.IS_EXTENSIBLE C.additions cs xs k
           c.args.self.now c.open_set.new.self c.scope.new.arg2 _ _ (λ n. (o n).0)
-          (rw c.in_default.is at (owed.keeps c.open_set.new.self c.scope.result c.scope.new.arg2 gave)) _ _ c.close_set.ensures);
-      swallowed = ends_left (rw c.in_default.is at gave) c.close_set.ensures.behaves.again;
+          (rw c.in_default.is at (owed.keeps c.open_set.new.self c.scope.result c.scope.new.arg2 gave)) _ _ c.close_set.ensures.closes);
+      swallowed = ends_left (rw c.in_default.is at gave) c.close_set.ensures.closes.behaves.again;
       again = search rules;
       fails = search rules;
-      kept = λ owed. c.close_set.ensures.behaves.kept ∙ owed.stays c.open_set.new.self c.scope.result c.scope.new.arg2 gave ∙ c.in_ok-outside.ensures.behaves.kept;
+      kept = λ owed. c.close_set.ensures.closes.behaves.kept ∙ owed.stays c.open_set.new.self c.scope.result c.scope.new.arg2 gave ∙ c.in_ok-outside.ensures.behaves.kept;
     }
