@@ -22,8 +22,19 @@ def static_library(folder, toolchain=None):
     return library
 
 
+def header():
+    """Returns the text of per.h."""
+    with open(f"{PER_C}/include/per.h", encoding="utf-8") as it:
+        return it.read()
+
+
+def pointers():
+    """Returns the calls of per.h that have pointers, and how many each has."""
+    calls = re.findall(r"^[\w ]+ (per_\w+)\((.*?)\);", header(), re.M | re.S)
+    return [(call, parameters.count("*")) for call, parameters in calls if "*" in parameters]
+
+
 def enumerators(name):
     """Returns the enumerators of an enum of per.h by their numbers."""
-    with open(f"{PER_C}/include/per.h", encoding="utf-8") as it:
-        body = re.search(rf"^enum {name} {{\n(.*?)\n}};", it.read(), re.M | re.S)[1]
+    body = re.search(rf"^enum {name} {{\n(.*?)\n}};", header(), re.M | re.S)[1]
     return {int(number): word for word, number in re.findall(r"^ +(PER_\w+) = (\d+)", body, re.M)}

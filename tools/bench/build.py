@@ -119,16 +119,22 @@ def build_this_project(folder):
     shutil.copy(f"{TOP}/HANDLES", f"{copy}/HANDLES")
     ran([f"{TOP}/tools/asn1/compile", "--schema", f"{folder.path}/Bench.schema", "--all", f"{HERE}/Bench.asn1"], folder.path)
     for name in LIBRARIES:
+        put_program(name, f"{copy}/crates/bench_{name}")
+    for name in LIBRARIES:
         build_program(folder, name, f"{copy}/crates/bench_{name}")
 
 
-def build_program(folder, name, crate):
-    """Proves and builds a program in Rattle in the folder of its crate."""
+def put_program(name, crate):
+    """Puts the sources of a program in Rattle in the folder of its crate."""
     for part, ending in (("src", ".rt"), ("specs", ".antt")):
         shutil.rmtree(f"{crate}/{part}", ignore_errors=True)
         os.makedirs(f"{crate}/{part}")
         for file in [file for it in FILES[name] for file in glob.glob(f"{HERE}/{it}{ending}.txt")]:
             shutil.copy(file, f"{crate}/{part}/{os.path.basename(file).removesuffix('.txt')}")
+
+
+def build_program(folder, name, crate):
+    """Proves and builds a program in Rattle in the folder of its crate."""
     words = folder.program(name, "uper", "check", "four", 1)
     with open(folder.input("uper", "four"), encoding="utf-8") as line:
         ran(["rt", "run", "--", *words[1:]], crate, stdin=line)

@@ -1,6 +1,7 @@
 //! Hexadecimal as people have it.
 
 ghost use Rattle.std.specs.Prelude.{◌≡◌, ◌⊎◌, IfErr, IfOk, None, Some};
+ghost use Rattle.std.specs.List.{list_any};
 ghost use Rattle.hex.specs.declared.error.FromHexError.TheVariants.{OutOfMemory};
 ghost use Rattle.message_lines.specs.Digits.{is_between, octets_in, octets_of, without_prefix};
 
@@ -10,6 +11,25 @@ use std::alloc::Global;
 /// The octets of hexadecimal digits in either case. Blanks, tabs, commas and colons may be between octets, and `0x` at
 /// the front of some.
 pub fn octets_in(alloc: Global, text: &[u8]) -> Result<Vec<u8>, FromHexError>
+    ensures ok { IfOk result (λ octets. octets_in text.now ≡ Some octets.items) }
+    ensures err { IfErr result (λ e. (e ≡ OutOfMemory) ⊎ (octets_in text.now ≡ None)) }
+{
+    if has_between(text) {
+        octets_of_words(alloc, text)
+    } else {
+        octets_of(alloc, text)
+    }
+}
+
+/// Whether a text has a character that may be between octets.
+fn has_between(text: &[u8]) -> bool
+    ensures { result ≡ list_any is_between text.now }
+{
+    text.iter().any(|octet| is_between(*octet))
+}
+
+/// The octets of the words of a text.
+fn octets_of_words(alloc: Global, text: &[u8]) -> Result<Vec<u8>, FromHexError>
     ensures ok { IfOk result (λ octets. octets_in text.now ≡ Some octets.items) }
     ensures err { IfErr result (λ e. (e ≡ OutOfMemory) ⊎ (octets_in text.now ≡ None)) }
 {

@@ -94,6 +94,9 @@ impl<'types> Messages<'types> {
         ensures ok { IfOk result (λ r. Replied self.now r.is_refused line.now r.text.items) }
         ensures err { IfErr result (λ f. f ≡ no_memory) }
     {
+        if !self.has_column {
+            return self.reply_to_text(alloc, line);
+        }
         let (column, text) = line.split_at(self.column_end(line));
         let told = self.reply_to_text(alloc, text)?;
         let mut reply = Vec::from_slice(alloc, column)?;

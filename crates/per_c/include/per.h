@@ -9,6 +9,10 @@
  * - A pointer with a count points to so many octets that nothing else changes during the call; with a count of 0 it may
  *   be NULL, and nothing is read there or written. A count is at most PTRDIFF_MAX. Each other pointer leads to what it
  *   is declared to. What a call writes to overlaps nothing else that it is given.
+ * - The installed library (`make install`: libper.so, libper.a) refuses any other NULL: before all else, a call returns
+ *   PER_NULL_POINTER, and reads and writes nothing then; `per_free(NULL)` does nothing. This is C, tried and not proved
+ *   (crates/per_c/pointers.c). The bare library (`rt lib`: libper_c.a) has the proved calls alone, to which no other
+ *   NULL may be given.
  * - Calls take memory by `malloc` and `realloc`, those of the C library, and give all of it back by `free` before they
  *   return. Where memory runs out, they answer PER_OUT_OF_MEMORY.
  * - Calls keep no state, so several threads may make them at once; but no signal handler may, nor the forked child of a
@@ -101,11 +105,14 @@ enum per_refusal {
     PER_FROM_JSON_BAD_CHARACTER = 54, /* A string has a character that its type can't have. */
     PER_FROM_JSON_BAD_TIME = 55, /* A string isn't the canonical text of a time. */
     PER_FROM_JSON_NO_TYPE = 56, /* No type stands at the place. */
-    PER_FROM_JSON_BAD_IDENTIFIER = 57 /* A string isn't the arcs of an object, such as `1.2.840`. */
+    PER_FROM_JSON_BAD_IDENTIFIER = 57, /* A string isn't the arcs of an object, such as `1.2.840`. */
+
+    /* Of what a call is given. The bare library doesn't answer it, and has no name for it. */
+    PER_NULL_POINTER = 58 /* A pointer is NULL that may not be. */
 };
 
 /** How many codes there are, PER_OK among them. */
-#define PER_REFUSALS 58
+#define PER_REFUSALS 59
 
 /** The version of these declarations. A later one may add to them, and changes none. */
 #define PER_VERSION 1

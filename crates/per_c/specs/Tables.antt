@@ -2,6 +2,7 @@
 use Rattle.std.specs.Prelude.{ℕ, ◌≡◌, ◌≢◌, ◌≤◌, ◌⊎◌, true, false, List, [], length, Option, Some, None}
 use Rattle.std.specs.Prelude.{IfSome, string_bytes}
 use Rattle.std.specs.Arc.{arc_value}
+use Rattle.std.specs.Option.{unwrap_or}
 use Rattle.std.specs.Str.{IsUtf8}
 use Rattle.std.specs.declared.alloc.Global.{Global}
 use Rattle.std.specs.declared.boxed.Box.{Box}
@@ -19,6 +20,7 @@ use Rattle.per_messages.specs.Messages.{IsMade, IsUnmade}
 use Rattle.per_messages.specs.Paths.{IsFaultOf}
 use Rattle.per_messages.specs.declared.error.MessageError.{MessageError}
 use Rattle.per_messages.specs.declared.located.Fault.{Fault}
+use Rattle.per_c.specs.Answers.{Puts}
 use Rattle.per_c.specs.Numbers.{code_of, message_refusal, options_number}
 use Rattle.per_c.specs.declared.handle.Table.{Table}
 use Rattle.per_c.specs.declared.refusal.Refusal.{Refusal}
@@ -127,6 +129,18 @@ path_of (Some fault) = string_bytes fault.path
 
 abbrev pub IsPathOf : Option Table → ℕ → List ℕ → List ℕ → Type 0
 IsPathOf held place text path = (fault : Option Fault) × IsTextFault held place text fault × (path ≡ path_of fault)
+
+-- how many octets stand in front of where a text stops to be JSON; all of them where it is JSON
+abbrev pub octet_of : List ℕ → Option Fault → ℕ
+octet_of text None = length text
+octet_of text (Some fault) = unwrap_or fault.octet (length text)
+
+-- that path is put in a room, and where the text stops to be JSON is told of the same fault
+pub record IsPut (held : Option Table) (place : ℕ) (text before after : List ℕ) (written octet : ℕ) : Type 0 where
+  pub fault : Option Fault
+  pub is_fault : IsTextFault held place text fault
+  pub is_put : Puts (λ path. path ≡ path_of fault) before after written
+  pub is_octet : octet ≡ octet_of text fault
 
 -- why it isn't told where a text is refused: no table is held, or memory ran out
 abbrev pub IsUntold : Option Table → Refusal → Type 0

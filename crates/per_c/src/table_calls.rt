@@ -1,12 +1,13 @@
 //! The calls that `include/per.h` declares over tables of types.
 
-ghost use Rattle.std.specs.Prelude.{◌≡◌, ◌≢◌, ◌≤◌, ◌*◌, ◌+◌, IfNone, IfOk, IfSome, List, None, Some, length, ℕ};
+ghost use Rattle.std.specs.Prelude.{◌≡◌, ◌≢◌, ◌≤◌, ◌<◌, ◌*◌, ◌+◌, IfNone, IfOk, IfSome, List, None, Some, length, ℕ};
 ghost use Rattle.std.specs.Arc.{arc_value};
 ghost use Rattle.std.specs.Str.{IsUtf8};
 ghost use Rattle.rasn_dynamic.specs.Names.{place_of};
 ghost use Rattle.per_c.specs.Answers.{IsUnputBy, Puts};
 ghost use Rattle.per_c.specs.Tables.{Holds, IsAnswered, IsBy, IsFirstOf, IsFound, IsHandle, IsLoaded, IsUnanswered};
-ghost use Rattle.per_c.specs.Tables.{IsPathOf, IsUnfirst, IsUnfound, IsUnloaded, IsUnlocated, IsUnshared, IsUntold};
+ghost use Rattle.per_c.specs.Tables.{IsPathOf, IsPut, IsUnfirst, IsUnfound, IsUnloaded, IsUnlocated, IsUnshared};
+ghost use Rattle.per_c.specs.Tables.{IsUntold};
 ghost use Rattle.per_c.specs.declared.handle.Table.{Table as a_table};
 ghost use Rattle.per_c.specs.declared.tables.Task.TheVariants.{FromJson, Recode, ToJson};
 
@@ -310,6 +311,7 @@ pub extern "C" fn per_refused_at(
     ensures same { Holds types.new types.old.handle.table }
     ensures put { result ≡ 0 → Puts (λ _. Unit {0}) path.old path.new written.new }
     ensures within { result ≡ 0 → 8 * bit.new.octet + bit.new.bit ≤ 8 * length octets.now }
+    ensures bit { result ≡ 0 → bit.new.bit < 8 }
     ensures refused { result ≢ 0 → IsUnputBy (λ _. Unit {0}) (IsUnlocated types.old.handle.table options)
         (length path.old) written.new result }
     ensures kept { result ≢ 0 → path.new ≡ path.old }
@@ -339,7 +341,7 @@ pub extern "C" fn per_json_refused_at(
 ) -> u32
     requires { IsHandle types.old }
     ensures same { Holds types.new types.old.handle.table }
-    ensures put { result ≡ 0 → Puts (IsPathOf types.old.handle.table place text.now) path.old path.new written.new }
+    ensures put { result ≡ 0 → IsPut types.old.handle.table place text.now path.old path.new written.new octet.new }
     ensures within { result ≡ 0 → octet.new ≤ length text.now }
     ensures refused { result ≢ 0 → IsUnputBy (IsPathOf types.old.handle.table place text.now)
         (IsUntold types.old.handle.table) (length path.old) written.new result }

@@ -17,7 +17,7 @@ use Rattle.per_read.proofs.Opened.{no_open}
 use Rattle.per_decoding.specs.Laws.Additions.{of_next}
 use Rattle.per_decoding.specs.Additions.{Adds, Asks, OpensAddition, OpensContents, Shown, OutsideAddition}
 use Rattle.per_decoding.specs.Faults.{IsInTail, behind_bitmap, in_bitmap, in_octets, in_open, in_unknown, refusal, unread, unskipped, IsOfNext, Unended}
-use Rattle.per_decoding.specs.Rules.{decoder_rules}
+use Rattle.per_decoding.specs.Rules.{plain_rules}
 use Rattle.per_decoding.specs.Scopes.{Closes, OutsideRecord, with_outside_record}
 use Rattle.per_decoding.specs.State.{Extension, State, ahead, settings_of, with_bits}
 use Rattle.per_decoding.specs.Laws.Tails.{asks_agree, shown_agree, tested_new}
@@ -108,7 +108,7 @@ pub opens_addition : (s m : State) (w : OutsideAddition) (i : State) → Asks s 
 opens_addition s m w i a h = record { middle = m; asks = a; octets = h.octets; took = subst (λ z. Took (Octets z h.octets) m.bits w.bits) (ap settings_of a.same) h.took; contents = h.enters.inside; waits = h.enters.waits; same = h.enters.same }
 
 -- no addition can be asked for
-pub no_addition : (s : State) (e : DecodeError) → (e ≡ refusal OutOfMemory s) ⊎ Unasked e s → (e ≡ refusal OutOfMemory s) ⊎ ReadsNoAddition decoder_rules e s
+pub no_addition : (s : State) (e : DecodeError) → (e ≡ refusal OutOfMemory s) ⊎ Unasked e s → (e ≡ refusal OutOfMemory s) ⊎ ReadsNoAddition plain_rules e s
 no_addition s e (inl h) = inl h
 no_addition s e (inr h) = inr (record { nothing = λ c r t a. go c r t a; stands = λ c. record { codec = h.codec; stands = h.stands c } })
   where
@@ -118,7 +118,7 @@ no_addition s e (inr h) = inr (record { nothing = λ c r t a. go c r t a; stands
     go c None t (inr a) = h.none None t a
 
 -- no open type stands where one is shown
-pub no_contents : (s m : State) (e : DecodeError) (t : State) → Asks s (Some true) m → RefusedAs (Stopped (NoneIn (Octets (settings_of m)) m.bits)) m e t → (e ≡ refusal OutOfMemory s) ⊎ ReadsNoAddition decoder_rules e s
+pub no_contents : (s m : State) (e : DecodeError) (t : State) → Asks s (Some true) m → RefusedAs (Stopped (NoneIn (Octets (settings_of m)) m.bits)) m e t → (e ≡ refusal OutOfMemory s) ⊎ ReadsNoAddition plain_rules e s
 no_contents s m e t asks h = go h.kind h.is h.because
   where
     at : (d : DecodeErrorKind) → refusal d m ≡ refusal d s
@@ -134,7 +134,7 @@ no_contents s m e t asks h = go h.kind h.is h.because
     nothing none c None u (inl a) = let g = (asks_agree s (Some false) (Some true) u m a asks).0 in absurd cc
     nothing none c None u (inr a) = let g = (asks_agree s None (Some true) u m a asks).0 in absurd cc
 
-    go : (d : DecodeErrorKind) → e ≡ refusal d m → Stopped (NoneIn (Octets (settings_of m)) m.bits) d → (e ≡ refusal OutOfMemory s) ⊎ ReadsNoAddition decoder_rules e s
+    go : (d : DecodeErrorKind) → e ≡ refusal d m → Stopped (NoneIn (Octets (settings_of m)) m.bits) d → (e ≡ refusal OutOfMemory s) ⊎ ReadsNoAddition plain_rules e s
     go d i (inl o) = inl (i ∙ ap (λ z. refusal z m) o ∙ at OutOfMemory)
     go d i (inr o) =
         let none : NoneIn (Octets (settings_of s)) m.bits = subst (λ z. NoneIn (Octets z) m.bits) same o.1 in

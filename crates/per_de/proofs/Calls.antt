@@ -24,7 +24,7 @@ use Rattle.per_read.proofs.Refusals.{faulty_map}
 use Rattle.per_decoding.specs.Laws.Spelled.{spelled}
 use Rattle.per_decoding.specs.State.{State, Spells, reader_of, settings_of}
 use Rattle.per_decoding.specs.Faults.{Answered, Fault, IsAt, IsOf, at_once, refusal}
-use Rattle.per_decoding.specs.Rules.{decoder_rules}
+use Rattle.per_decoding.specs.Rules.{plain_rules}
 use Rattle.per_de.specs.Steps.{TakesBit}
 use Rattle.per_de.proofs.Spans.{none_left, with_rest}
 
@@ -76,7 +76,7 @@ pub no_truth : (a : Settings) {s : Bits} → NoneIn bit s → NoneIn (basic a Sc
 unfolding basic_in
 no_truth a none v t h = none h.spelled.of t (record { front = h.front; joins = h.joins; spelled = h.spelled.spelled })
 
-pub bool_answers : (s : State) (r : Result Bool DecodeError) (t : State) → s.failed ≡ false → TakesBit s r t → Reads (freely_read decoder_rules) Schemas.boolean truth s r t
+pub bool_answers : (s : State) (r : Result Bool DecodeError) (t : State) → s.failed ≡ false → TakesBit s r t → Reads (freely_read plain_rules) Schemas.boolean truth s r t
 bool_answers s (Ok b) t live h = record {
   law = spelled live (reads_truth (settings_of s) b h.0) h.1;
   behaves = record { again = λ f. absurd cc; fails = tt; kept = ap (λ z. z.codec) h.1 };
@@ -150,7 +150,7 @@ module _ {T X : Type 0} {why : Reason} {form : Settings → X → Spelling} {of 
   pub reads : (c : Schema) (value : T → Value) → s.failed ≡ false → ((v : T) → of (λ w. Took (form (settings_of s) w) s.bits y.bits) v → Took (basic (settings_of s) c (value v)) s.bits y.bits)
       → x ≡ reader_of s → Takes why form of x taken y → left ≡ length y.bits → Answered taken left s result t
       → ((k : DecodeErrorKind) → why (settings_of s) s.bits (NoneIn (form (settings_of s)) s.bits) k → Faulty (IsAt (settings_of s) c s.bits) (NoneIn (basic (settings_of s) c) s.bits) k)
-      → Reads decoder_rules c value s result t
+      → Reads plain_rules c value s result t
   reads c value live ok i g l a err =
       let h : Takes why form of (reader_of s) taken y = subst (λ z. Takes why form of z taken y) i g in
       record {
@@ -162,7 +162,7 @@ module _ {T X : Type 0} {why : Reason} {form : Settings → X → Spelling} {of 
   pub reads_freely : (c : Schema) (value : T → Value) → s.failed ≡ false → ((v : T) → of (λ w. Took (form (settings_of s) w) s.bits y.bits) v → Took (basic (settings_of s) c (value v)) s.bits y.bits)
       → x ≡ reader_of s → Takes why form of x taken y → left ≡ length y.bits → Answered taken left s result t
       → ((k : DecodeErrorKind) → why (settings_of s) s.bits (NoneIn (form (settings_of s)) s.bits) k → IsAt (settings_of s) c s.bits k × NoneIn (basic (settings_of s) c) s.bits)
-      → Reads (freely_read decoder_rules) c value s result t
+      → Reads (freely_read plain_rules) c value s result t
   reads_freely c value live ok i g l a err =
       let h : Takes why form of (reader_of s) taken y = subst (λ z. Takes why form of z taken y) i g in
       record {
@@ -171,10 +171,10 @@ module _ {T X : Type 0} {why : Reason} {form : Settings → X → Spelling} {of 
       }
 
 -- an answer that is made of another, and an error that is handed on
-pub reads_ok : {T U : Type 0} {c : Schema} {value : T → Value} {made : U → Value} {s t : State} (v : T) (u : U) → made u ≡ value v → Reads decoder_rules c value s (Ok v) t → Reads decoder_rules c made s (Ok u) t
+pub reads_ok : {T U : Type 0} {c : Schema} {value : T → Value} {made : U → Value} {s t : State} (v : T) (u : U) → made u ≡ value v → Reads plain_rules c value s (Ok v) t → Reads plain_rules c made s (Ok u) t
 reads_ok {c = c} {s = s} {t = t} v u e a = record { law = subst (λ z. Spells c s z t) (sym e) a.law; behaves = record { again = a.behaves.again; fails = tt; kept = a.behaves.kept } }
 
-pub reads_err : {T U : Type 0} {c : Schema} {value : T → Value} {made : U → Value} {s t : State} (e : DecodeError) (r : Result U DecodeError) → IsErrAnd r (λ f. f ≡ e) → Reads decoder_rules c value s (Err e) t → Reads decoder_rules c made s r t
+pub reads_err : {T U : Type 0} {c : Schema} {value : T → Value} {made : U → Value} {s t : State} (e : DecodeError) (r : Result U DecodeError) → IsErrAnd r (λ f. f ≡ e) → Reads plain_rules c value s (Err e) t → Reads plain_rules c made s r t
 reads_err e (Ok v) h a = absurd h
 reads_err {c = c} {made = made} {s = s} {t = t} e (Err f) h a =
-    subst (λ z. Reads decoder_rules c made s (Err z) t) (sym h) (record { law = a.law; behaves = record { again = a.behaves.again; fails = a.behaves.fails; kept = a.behaves.kept } })
+    subst (λ z. Reads plain_rules c made s (Err z) t) (sym h) (record { law = a.law; behaves = record { again = a.behaves.again; fails = a.behaves.fails; kept = a.behaves.kept } })

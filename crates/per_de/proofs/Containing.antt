@@ -3,21 +3,20 @@ use Rattle.std.proofs.Common.{◌≡◌, ◌⊎◌, inl, inr, refl, sym, ◌∙�
 use Rattle.std.specs.Prelude.{Result, Ok, Err}
 use Rattle.rasn_schema.specs.Schemas.{Schema}
 use Rattle.rasn_traits.specs.Calls.{Refuses}
-use Rattle.rasn_traits.specs.Contents.{OpensContentsToRead}
+use Rattle.rasn_traits.specs.Contents.{OpenedContentsToRead}
 use Rattle.per_core.specs.Basic.{Fills, Octets, basic}
 use Rattle.per_read.specs.Kinds.{NoneIn, Stopped}
 use Rattle.per_read.specs.declared.error.DecodeError.{DecodeError}
 use Rattle.per_read.specs.declared.error.DecodeErrorKind.{DecodeErrorKind}
 use Rattle.per_read.specs.declared.error.DecodeErrorKind.TheVariants.{OutOfMemory}
 use Rattle.per_read.proofs.Opened.{no_open}
-use Rattle.per_decoding.specs.Additions.{OpensContaining}
 use Rattle.per_decoding.specs.Faults.{Fault, in_containing, in_octets, refusal}
 use Rattle.per_decoding.specs.Laws.Contents.{took_containing}
 use Rattle.per_decoding.specs.Laws.Records.{of_bits}
 use Rattle.per_decoding.specs.Laws.Tails.{tested_new}
-use Rattle.per_decoding.specs.Rules.{decoder_rules}
+use Rattle.per_decoding.specs.Rules.{plain_rules}
 use Rattle.per_decoding.specs.State.{State, Spells, settings_of}
-use Rattle.per_de.specs.Outsides.{outside_addition_of}
+use Rattle.per_de.specs.InTurn.{Owes, are_open}
 use Rattle.per_de.specs.Steps.{EntersOpen, RefusedAs}
 use Rattle.per_de.specs.declared.Addition.{Addition}
 
@@ -37,12 +36,8 @@ no_octets s e t h = go h.kind h.is h.because
       });
     })
 
--- octets that contain a value are open, and what waits outside
-abbrev pub are_open : State → Addition → State → Type 0
-are_open s o i = OpensContaining s (outside_addition_of i.source o) i
-
 -- an open type is entered as what contains a value
-pub contents_opened : (s i : State) (result : Result Addition DecodeError) → s.failed ≡ false → EntersOpen s result i → OpensContentsToRead decoder_rules are_open s result i
+pub contents_opened : (s i : State) (result : Result Addition DecodeError) → s.failed ≡ false → EntersOpen s result i → Owes (OpenedContentsToRead plain_rules are_open s result i) s result i
 contents_opened s i (Ok o) live h = record {
   law = record { live = live; opens = h };
   behaves = record { again = λ f. absurd cc; fails = tt; kept = ap (λ z. z.codec) h.enters.same };

@@ -32,8 +32,8 @@ use Rattle.per_read.specs.declared.error.DecodeError.{DecodeError}
 use Rattle.per_read.specs.declared.error.DecodeErrorKind.{DecodeErrorKind}
 use Rattle.per_read.specs.Stands.{LastTaken}
 use Rattle.per_decoding.specs.Faults.{refusal}
-use Rattle.per_decoding.specs.Rules.{decoder_rules}
-use Rattle.per_decoding.specs.State.{State, reader_of, settings_of, with_last}
+use Rattle.per_decoding.specs.Rules.{plain_rules}
+use Rattle.per_decoding.specs.State.{State, reader_of, refused, settings_of, with_last}
 use Rattle.per_de.specs.Lending.{AreLent, AreRead, CanBeLent, ComeAlone, is_counted_once, is_extended}
 use Rattle.per_de.specs.Sources.{bits_of, place_of, span_of, up_to, AreInInput, AreOctetsIn, AreOctetsOf, IsWithin}
 use Rattle.per_de.specs.declared.source.Source.{Source}
@@ -160,8 +160,8 @@ owned_not (Slice.Borrowed r) o b = o
 owned_not (Slice.Owned v) o b = b
 
 -- a refusal to read an OCTET STRING, whatever its octets would have been kept in
-pub refused_so : {T U : Type 0} (size : Size) (mark : Bool) (f : T → Value) (g : U → Value) (s t : State) (e : DecodeError) → Reads decoder_rules (Schemas.octet_string size mark) f s (Err e) t
-    → Reads decoder_rules (Schemas.octet_string size mark) g s (Err e) t
+pub refused_so : {T U : Type 0} (size : Size) (mark : Bool) (f : T → Value) (g : U → Value) (s t : State) (e : DecodeError) → Reads plain_rules (Schemas.octet_string size mark) f s (Err e) t
+    → Reads plain_rules (Schemas.octet_string size mark) g s (Err e) t
 refused_so size mark f g s t e h = record { law = h.law; behaves = record { again = h.behaves.again; fails = h.behaves.fails; kept = h.behaves.kept } }
 
 -- an OCTET STRING that a reader skips
@@ -176,7 +176,7 @@ module _ (s : State) (size : Size) (mark : Bool) {x y : Taking} (left : ℕ) (i 
   }
 
   pub skip_refused : (live : s.failed ≡ false) (t : State) (k : DecodeErrorKind) (e : DecodeError) → Takes (memory_or (λ a. IsOfItems a size mark Octet)) (λ a. Counted a size mark octet_items octet) HasCount x (Err k) y
-      → e ≡ refusal k s → t ≡ record s { failed = true } → Reads decoder_rules (Schemas.octet_string size mark) octets s (Err e) t
+      → e ≡ refusal k s → t ≡ refused s → Reads plain_rules (Schemas.octet_string size mark) octets s (Err e) t
   skip_refused live t k e g f h =
       let r : Takes (memory_or (λ a. IsOfItems a size mark Octet)) (λ a. Counted a size mark octet_items octet) (λ P (os : List ℕ). P os) x (Err k) y = record { ok = tt; err = g.err; kept = g.kept } in
       reads s (Schemas.octet_string size mark) octets live (λ v. reads_octets (settings_of s) size mark v) i r l (ap Err f, h) (λ d. faulty_octets (settings_of s) size mark s.bits d)
@@ -205,7 +205,7 @@ module _ (s : State) (size : Size) (mark : Bool) (left : ℕ) (t : State) (live 
       unpack_same part g.items p.are w.1 (p.same ∙ ap (λ z. take m z) d ∙ take_at (unpack g.items) g.rest m many)
 
   pub alone_read : (v : CowSlice ℕ Global) → ComeAlone size mark s.bits n → AreOctetsOf s.bits (length s.bits - left) n (cow_slice_items v) → t ≡ with_last s left
-      → Reads decoder_rules (Schemas.octet_string size mark) (λ (v : CowSlice ℕ Global). octets (cow_slice_items v)) s (Ok v) t
+      → Reads plain_rules (Schemas.octet_string size mark) (λ (v : CowSlice ℕ Global). octets (cow_slice_items v)) s (Ok v) t
   alone_read v a p h =
       let after : Taking = record { bits = g.rest; options = (reader_of s).options } in
       let k : Took (Counted (settings_of s) size mark octet_items octet (cow_slice_items v)) s.bits g.rest = subst (λ z. Took (Counted (settings_of s) size mark octet_items octet z) s.bits g.rest) (sym (part_is (cow_slice_items v) a p)) g.took in
@@ -228,7 +228,7 @@ module _ (s : State) (size : Size) (mark : Bool) (left : ℕ) (t : State) (live 
       )
 
   -- what is copied isn't lent
-  pub copied_unlent : (r : Result (CowSlice ℕ Global) DecodeError) → Reads decoder_rules (Schemas.octet_string size mark) (λ (v : CowSlice ℕ Global). octets (cow_slice_items v)) s r t → IfOk r (λ v. IsOwnedSlice v)
+  pub copied_unlent : (r : Result (CowSlice ℕ Global) DecodeError) → Reads plain_rules (Schemas.octet_string size mark) (λ (v : CowSlice ℕ Global). octets (cow_slice_items v)) s r t → IfOk r (λ v. IsOwnedSlice v)
       → (AreLent size mark s left n → ⊥) → IfOk r (λ v. IsBorrowedSlice v ↔ AreLent size mark s (length t.bits) (length (cow_slice_items v)))
   copied_unlent (Err e) h o none = tt
   copied_unlent (Ok v) h o none =

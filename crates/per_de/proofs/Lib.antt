@@ -12,3 +12,4 @@ pub mod Steps
 pub mod MomentCalls
 pub mod Lending
 pub mod AtPlaces
+pub mod InTurn

@@ -25,7 +25,7 @@ use Rattle.per_read.proofs.Miscounts.{tested_size}
 use Rattle.per_decoding.specs.Laws.Contents.{moved}
 use Rattle.per_decoding.specs.Faults.{Answered, IsOf, in_element, refusal}
 use Rattle.per_de.specs.Lists.{IsOpenList}
-use Rattle.per_decoding.specs.Rules.{decoder_rules}
+use Rattle.per_decoding.specs.Rules.{plain_rules}
 use Rattle.per_decoding.specs.Laws.Spelled.{spelled}
 use Rattle.per_decoding.specs.State.{State, Spells, reader_of, settings_of, with_bits, with_last}
 use Rattle.per_de.specs.declared.ListScope.{ListScope}
@@ -45,7 +45,7 @@ module _ (a : Settings) (e : Schema) (size : Size) (mark : Bool) where
 
 -- a list that isn't read
 unread : (e : Schema) (size : Size) (mark : Bool) (s : State) (k : DecodeErrorKind) (d : DecodeError) → d ≡ refusal k s
-    → IsOfSize (settings_of s) size mark list_items (basic (settings_of s) e) s.bits k → NoneIn (list_form (list_rule (settings_of s) size mark e)) s.bits → ListUnread decoder_rules (Schemas.list e size mark) d s
+    → IsOfSize (settings_of s) size mark list_items (basic (settings_of s) e) s.bits k → NoneIn (list_form (list_rule (settings_of s) size mark e)) s.bits → ListUnread plain_rules (Schemas.list e size mark) d s
 unread e size mark s k d i says none = inr (refuses (Schemas.list e size mark) s k d i says (no_list (settings_of s) e size mark none))
 
 module _ (size : Size) (mark : Bool) (s : State) (x y : Taking) (left m : ℕ) (taken : Result UnreadElements DecodeErrorKind) (deeper : s.levels ≡ suc m) (is : x ≡ reader_of s) (g : OpensList size mark x taken y) where
@@ -54,13 +54,13 @@ module _ (size : Size) (mark : Bool) (s : State) (x y : Taking) (left m : ℕ) (
 
   -- a list is opened
   pub list_begun : (o : ListScope) (t i : State) → s.failed ≡ false → left ≡ length y.bits → Answered taken left s (Ok o.list) t → o.levels ≡ t.levels → i ≡ record t { levels = m }
-      → ListOpenedToRead decoder_rules IsOpenList size mark s (Ok o) i
+      → ListOpenedToRead plain_rules IsOpenList size mark s (Ok o) i
   list_begun o t i live l a outside same =
       let r = answered_ok taken left s o.list t a in
       let items = rw r.0 at begun.ok in
       let leaves : Leaves s.bits y.bits = rw r.0 at begun.leaves in
       let f : t ≡ with_bits s y.bits = r.1 ∙ with_rest s leaves.front y.bits left leaves.joins l in
-      subst (λ z. ListOpenedToRead decoder_rules IsOpenList size mark s (Ok o) z) (sym (same ∙ ap (λ (z : State). record z { levels = m }) f)) (
+      subst (λ z. ListOpenedToRead plain_rules IsOpenList size mark s (Ok o) z) (sym (same ∙ ap (λ (z : State). record z { levels = m }) f)) (
         deeper,
         λ e. record {
           live = live;
@@ -73,11 +73,11 @@ module _ (size : Size) (mark : Bool) (s : State) (x y : Taking) (left m : ℕ) (
       )
 
   -- a list isn't opened
-  pub no_list_begun : (d : DecodeError) (t i : State) → Answered taken left s (Err d) t → ListOpenedToRead {L = ListScope} decoder_rules IsOpenList size mark s (Err d) i
+  pub no_list_begun : (d : DecodeError) (t i : State) → Answered taken left s (Err d) t → ListOpenedToRead {L = ListScope} plain_rules IsOpenList size mark s (Err d) i
   no_list_begun d t i a element =
       let r = answered_err taken left s d t a in
       let k = rw r.1 at begun.err in
-      subst (λ l. ListUnread decoder_rules (list_at element size mark l) d s) (sym deeper)
+      subst (λ l. ListUnread plain_rules (list_at element size mark l) d s) (sym deeper)
       (unread (element m) size mark s r.0 d r.2
       (tested_size (settings_of s) size mark list_items (basic (settings_of s) (element m)) s.bits r.0 k.0) (k.1 (element m)))
 
@@ -115,7 +115,7 @@ module _ {e : Schema} {size : Size} {mark : Bool} {s : State} {vs : List Value} 
       (spelled a.live (list_took (settings_of s) e size mark vs w) refl)
 
   -- it isn't read
-  pub list_refused : (d : DecodeError) (t : State) → Answered taken left i (Err d) t → ListUnread decoder_rules (Schemas.list e size mark) d s
+  pub list_refused : (d : DecodeError) (t : State) → Answered taken left i (Err d) t → ListUnread plain_rules (Schemas.list e size mark) d s
   list_refused d t b =
       let r = answered_err taken left i d t b in
       let w : RefusesList (list_rule (settings_of s) size mark e) s.bits r.0 = rw r.1 at found in
@@ -127,7 +127,7 @@ module _ {e : Schema} {size : Size} {mark : Bool} {s : State} {vs : List Value} 
   of_element _ w g = in_element vs w.behind (moved same_settings g)
 
   -- a further element stands here
-  pub element_follows : (t : State) → left ≡ length y.bits → Answered taken left i (Ok true) t → HasElement decoder_rules IsOpenList e size mark s vs (record { list = m; levels = o }) t
+  pub element_follows : (t : State) → left ≡ length y.bits → Answered taken left i (Ok true) t → HasElement plain_rules IsOpenList e size mark s vs (record { list = m; levels = o }) t
   element_follows t n b =
       let r = answered_ok taken left i true t b in
       let w : AwaitsItem (list_rule (settings_of s) size mark e) s.bits vs m y.bits = rw r.0 at found in
@@ -135,7 +135,7 @@ module _ {e : Schema} {size : Size} {mark : Bool} {s : State} {vs : List Value} 
       let f : t ≡ with_bits i y.bits = r.1 ∙ with_rest i leaves.front y.bits left leaves.joins n in
       let g : with_bits i y.bits ≡ record s { bits = y.bits; levels = i.levels } = ap (λ z. with_bits z y.bits) a.same in
       let live : i.failed ≡ false = ap (λ z. z.failed) a.same ∙ a.live in
-      subst (λ z. HasElement decoder_rules IsOpenList e size mark s vs (record { list = m; levels = o }) z) (sym f) (record {
+      subst (λ z. HasElement plain_rules IsOpenList e size mark s vs (record { list = m; levels = o }) z) (sym f) (record {
         deeper = a.deeper;
         element_read = λ v j c. record {
           live = a.live;

@@ -19,7 +19,7 @@ use Rattle.per_read.specs.declared.error.DecodeErrorKind.{DecodeErrorKind}
 use Rattle.per_read.specs.declared.error.DecodeErrorKind.TheVariants.{ExceedsMaxParseDepth, OutOfMemory}
 use Rattle.per_read.proofs.Refusals.{faulty_map}
 use Rattle.per_decoding.specs.Faults.{Fault, IsAt, refusal}
-use Rattle.per_decoding.specs.Rules.{decoder_rules}
+use Rattle.per_decoding.specs.Rules.{plain_rules}
 use Rattle.per_decoding.specs.State.{Spells, State}
 use Rattle.per_de.proofs.Calls.{too_deep}
 
@@ -61,5 +61,5 @@ date_too_deep s e h i = too_deep (λ n. date_at s.levels) s e 0 (date_cut s.leve
 
 -- with two levels left a DATE is read
 pub date_within : {D : Type 0} (value : D → Value) (s : State) (result : Result D DecodeError) (t : State) → 2 ≤ s.levels
-    → Reads decoder_rules Schemas.date value s result t → Reads decoder_rules (date_at s.levels) value s result t
-date_within value s result t h = subst (λ (c : Schema). Reads decoder_rules c value s result t) (sym (date_whole s.levels h))
+    → Reads plain_rules Schemas.date value s result t → Reads plain_rules (date_at s.levels) value s result t
+date_within value s result t h = subst (λ (c : Schema). Reads plain_rules c value s result t) (sym (date_whole s.levels h))

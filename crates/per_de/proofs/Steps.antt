@@ -28,7 +28,7 @@ use Rattle.per_read.specs.declared.open_types.Contents.TheVariants as Open
 use Rattle.per_decoding.specs.Laws.Additions.{of_next}
 use Rattle.per_decoding.specs.Additions.{EntersContents, OpensContents, Shown, OutsideAddition}
 use Rattle.per_decoding.specs.Faults.{Answered, IsOfNext, at_bitmap, refusal}
-use Rattle.per_decoding.specs.State.{Extension, State, ahead, reader_of, settings_of, shown, with_bits}
+use Rattle.per_decoding.specs.State.{Extension, State, ahead, reader_of, refused, settings_of, shown, with_bits}
 use Rattle.per_decoding.specs.Laws.Tails.{tested_new}
 use Rattle.per_de.specs.Sources.{flags_in, span_of, IsWithin}
 use Rattle.per_de.specs.Steps.{AsksNext, IsOfBitmap, RefusedAs, SkipsUnknown, TakesBit, TakesBitmap, TakesExtensionBit, TakesFlags, TakesIndex, Unasked}
@@ -37,7 +37,7 @@ use Rattle.per_de.specs.declared.source.Span.{Span}
 use Rattle.per_de.proofs.Opening.{answered_ok, answered_err}
 use Rattle.per_de.proofs.Spans.{in_front_of, none_left, span_length, with_rest}
 
-answered_failed : {T : Type 0} (taken : Result T DecodeErrorKind) (left : ℕ) (s : State) (e : DecodeError) (t : State) → Answered taken left s (Err e) t → t ≡ record s { failed = true }
+answered_failed : {T : Type 0} (taken : Result T DecodeErrorKind) (left : ℕ) (s : State) (e : DecodeError) (t : State) → Answered taken left s (Err e) t → t ≡ refused s
 answered_failed (Ok w) left s e t a = let i = a.0 in absurd cc
 answered_failed (Err k) left s e t a = a.1
 

@@ -10,7 +10,7 @@ use Rattle.per_core.specs.Basic.{Counted, octet}
 use Rattle.per_core.specs.Counts.{octet_items}
 use Rattle.per_core.specs.Took.{Took}
 use Rattle.per_read.specs.declared.error.DecodeError.{DecodeError}
-use Rattle.per_decoding.specs.Rules.{decoder_rules}
+use Rattle.per_decoding.specs.Rules.{plain_rules}
 use Rattle.per_decoding.specs.State.{State, settings_of}
 
 -- X.691 11.9.3.3, 11.9.4.1: whether a size with these bounds has octets behind a constrained count, or behind none
@@ -63,4 +63,4 @@ pub record SkipsOctets (size : Size) (mark : Bool) (s : State) (result : Result 
     : Type 0 where
   pub ok : IfOk result (λ x. AreRead size mark s x.0 x.1)
   pub stays : OnOk result (t ≡ s)
-  pub err : IfErr result (λ e. Reads decoder_rules (Schemas.octet_string size mark) octets s (Err e) t)
+  pub err : IfErr result (λ e. Reads plain_rules (Schemas.octet_string size mark) octets s (Err e) t)

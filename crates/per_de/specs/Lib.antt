@@ -4,3 +4,6 @@ pub mod Sources
 pub mod Steps
 pub mod Openings
 pub mod Lending
+pub mod Turns
+pub mod InTurn
+pub mod Laws

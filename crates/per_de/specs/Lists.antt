@@ -5,9 +5,12 @@ use Rattle.rasn_constraints.specs.Bounds.{Size}
 use Rattle.rasn_constraints.specs.LawfulConstraints.{is_lawful_size}
 use Rattle.rasn_schema.specs.Schemas.{Schema}
 use Rattle.per_read.specs.Lists.{AreOpenItems, list_rule}
-use Rattle.per_decoding.specs.State.{State, settings_of}
+use Rattle.per_decoding.specs.State.{State, settings_of, with_turn}
+use Rattle.per_decoding.specs.Turns.{next, uncounted, within_list}
 use Rattle.per_core.specs.FewItems.{most_items}
+use Rattle.per_de.specs.Turns.{turn_of}
 use Rattle.per_de.specs.declared.ListScope.{ListScope}
+use Rattle.per_de.specs.declared.turns.Around.{Around}
 
 -- A list is open, which began at s: some elements were read, and what is left of it is read from i on, one level
 -- deeper. The elements are few for the bits that were taken since the list began, where its size is lawful (X.691
@@ -20,3 +23,10 @@ pub record IsOpenList (e : Schema) (size : Size) (mark : Bool) (s : State) (vs :
   pub same : i ≡ record s { bits = i.bits; levels = i.levels }
   pub few : is_lawful_size size.least size.most ≡ true → length vs ≤ most_items (length s.bits - length i.bits)
   pub items : AreOpenItems (list_rule (settings_of s) size mark e) s.bits vs l.list i.bits
+
+-- A list is open, which is a component of what is around it; what is still to come there waits until it ends.
+pub record IsListInTurn (e : Schema) (size : Size) (mark : Bool) (s : State) (vs : List Value) (l : Around ListScope)
+    (i : State) : Type 0 where
+  pub list : IsOpenList e size mark (with_turn uncounted s) vs l.scope (with_turn uncounted i)
+  pub waiting : turn_of l.turn ≡ next s.turn
+  pub within : i.turn ≡ within_list (next s.turn)

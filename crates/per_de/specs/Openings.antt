@@ -4,7 +4,7 @@ use Rattle.rasn_schema.specs.Lawful.{presence_bits}
 use Rattle.rasn_schema.specs.Schemas.{Parts, Schema}
 use Rattle.rasn_traits.specs.Scopes.{OpensToRead}
 use Rattle.per_read.specs.declared.error.DecodeError.{DecodeError}
-use Rattle.per_decoding.specs.Rules.{decoder_rules}
+use Rattle.per_decoding.specs.Rules.{plain_rules}
 use Rattle.per_decoding.specs.Scopes.{Opens}
 use Rattle.per_decoding.specs.State.{State}
 use Rattle.per_de.specs.Outsides.{outside_record_of}
@@ -18,4 +18,4 @@ is_open c s o i = Opens c s (outside_record_of i.source o) i
 pub record OpensRecord (parts : ℕ → Parts) (marker : Bool) (additions : ℕ → Parts) (s : State)
     (result : Result Scope DecodeError) (t : State) : Type 0 where
   pub to_read : (ps : ℕ → Parts) → ((n : ℕ) → presence_bits (ps n) ≡ presence_bits (parts n))
-      → OpensToRead decoder_rules is_open ps marker additions s result t
+      → OpensToRead plain_rules is_open ps marker additions s result t

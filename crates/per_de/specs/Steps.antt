@@ -21,7 +21,7 @@ use Rattle.per_read.specs.Ends.{EndsAs, IsOfEnd}
 use Rattle.per_decoding.specs.Additions.{Asks, OpensContents, Shown, OutsideAddition, with_outside_addition}
 use Rattle.per_decoding.specs.Choices.{StandsFrom}
 use Rattle.per_decoding.specs.Faults.{IsOfNext, refusal}
-use Rattle.per_decoding.specs.State.{State, ahead, settings_of, shown, with_bits}
+use Rattle.per_decoding.specs.State.{State, ahead, refused, settings_of, shown, with_bits}
 use Rattle.per_de.specs.Outsides.{outside_contents_of, outside_addition_of}
 use Rattle.per_de.specs.Sources.{flags_in, span_of}
 use Rattle.per_de.specs.declared.Addition.{Addition}
@@ -39,19 +39,19 @@ pub record RefusedAs (why : DecodeErrorKind → Type 0) (s : State) (e : DecodeE
 -- Two levels are left, as many as a DATE takes (X.691 32); with fewer left the decoder refuses.
 abbrev pub HasTwoLevels : State → Result (Unit {0}) DecodeError → State → Type 0
 HasTwoLevels s (Ok u) t = (2 ≤ s.levels) × (t ≡ s)
-HasTwoLevels s (Err e) t = (s.levels < 2) × (e ≡ refusal ExceedsMaxParseDepth s) × (t ≡ record s { failed = true })
+HasTwoLevels s (Err e) t = (s.levels < 2) × (e ≡ refusal ExceedsMaxParseDepth s) × (t ≡ refused s)
 
 -- So many presence bits are taken off the bits left, and stand in a part of the source; where fewer are left the
 -- decoder refuses (X.691 19.2).
 abbrev pub TakesPresences : ℕ → State → Result Span DecodeError → State → Type 0
 TakesPresences n s (Ok p) t = Took (Front n (span_of p s.source.bits)) s.bits t.bits × (t ≡ with_bits s t.bits)
 TakesPresences n s (Err e) t = (length s.bits < n) × (e ≡ refusal (Incomplete (count_of (n - length s.bits))) s)
-    × (t ≡ record s { failed = true })
+    × (t ≡ refused s)
 
 -- A bit is taken off the bits left; where none is left the decoder refuses.
 abbrev pub TakesBit : State → Result Bool DecodeError → State → Type 0
 TakesBit s (Ok b) t = Took (bit b) s.bits t.bits × (t ≡ with_bits s t.bits)
-TakesBit s (Err e) t = (s.bits ≡ []) × (e ≡ refusal (Incomplete (count_of 1)) s) × (t ≡ record s { failed = true })
+TakesBit s (Err e) t = (s.bits ≡ []) × (e ≡ refusal (Incomplete (count_of 1)) s) × (t ≡ refused s)
 
 -- The extension bit is taken off the bits left, where there is a marker (X.691 19.1).
 abbrev pub TakesExtensionBit : Bool → State → Result Bool DecodeError → State → Type 0
@@ -123,7 +123,7 @@ pub record EndsContents (s : State) (n : ℕ) (result : Result (Unit {0}) Decode
 -- each presence bit of the root components was read; else the decoder refuses
 abbrev pub IsRootRead : State → Result (Unit {0}) DecodeError → State → Type 0
 IsRootRead s (Ok u) t = (s.presences ≡ []) × (t ≡ s)
-IsRootRead s (Err e) t = (s.presences ≡ [] → ⊥) × (e ≡ refusal MissingTag s) × (t ≡ record s { failed = true })
+IsRootRead s (Err e) t = (s.presences ≡ [] → ⊥) × (e ≡ refusal MissingTag s) × (t ≡ refused s)
 
 -- The index of a choice of so many alternatives is taken off the bits left (X.691 23.5 to 23.8).
 abbrev pub TakesIndex : (roots addeds : ℕ) → (extensible : Bool) → State → Result Place DecodeError → State → Type 0

@@ -3,10 +3,12 @@
 ghost use Rattle.rasn_schema.specs.Enumerations.{addeds_of, is_extensible, items_of};
 ghost use Rattle.rasn_traits.specs.Calls.{Reads, freely_read};
 ghost use Rattle.rasn_traits.specs.Counted.{item_at};
-ghost use Rattle.per_decoding.specs.Rules.{decoder_rules};
+ghost use Rattle.per_decoding.specs.Rules.{plain_rules};
+ghost use Rattle.per_de.specs.InTurn.{EntersPlaced, EntersRecord};
 ghost use Rattle.per_de.specs.Steps.{TakesIndex};
 
 use crate::source::Extension;
+use crate::turns::{Around, Turn};
 use crate::{Alternative, Decoder, Scope};
 use per_read::error::DecodeError;
 use per_read_types::choices::{take_choice_index, take_root_index};
@@ -17,7 +19,7 @@ use rasn_types::types::Tag;
 
 impl<'input> CountedDecoder for Decoder<'input> {
     fn decode_item(&mut self, _tag: Tag, items: ItemCounts) -> Result<Place, DecodeError> {
-        self.check_unfailed()?;
+        self.begin_value()?;
         let mut reader = self.reader();
         let taken = take_short_item(&mut reader, items.roots, items.addeds);
         let left = reader.bits().len();
@@ -33,30 +35,24 @@ impl<'input> CountedDecoder for Decoder<'input> {
         _tag: Tag,
         presence_bits: usize,
         additions: Option<usize>,
-    ) -> Result<Scope, DecodeError> {
-        self.check_unfailed()?;
-        let levels = self.level_inside()?;
-        let extends = self.take_extension_bit(additions.is_some())?;
-        let presences = self.take_presences(presence_bits as u128)?;
-        Ok(self.enter(Scope {
-            presences,
-            extension: Extension::of_bit(extends),
-            expected: additions.unwrap_or(0),
-            levels,
-        }))
+    ) -> Result<Around<Scope>, DecodeError> {
+        self.begin_value()?;
+        let turn = self.turn();
+        let scope = self.enter_record(presence_bits, additions)?;
+        self.set_turn(Turn::Uncounted);
+        Ok(Around { scope, turn })
     }
 
     fn open_alternative(
         &mut self,
         _tag: Tag,
         alternatives: ItemCounts,
-    ) -> Result<(Place, Alternative<'input>), DecodeError> {
-        self.check_unfailed()?;
-        let levels = self.level_inside()?;
-        let place = self.take_place(alternatives)?;
-        let scope = self.enter(Scope::without_record(levels));
-        let contents = Decoder::open_alternative(self, place)?;
-        Ok((place, Alternative { scope, contents }))
+    ) -> Result<(Place, Around<Alternative<'input>>), DecodeError> {
+        self.begin_value()?;
+        let turn = self.turn();
+        let (place, scope) = self.enter_alternative(alternatives)?;
+        self.set_turn(Turn::Awaiting(1));
+        Ok((place, Around { scope, turn }))
     }
 }
 
@@ -64,7 +60,7 @@ impl<'input> Decoder<'input> {
     /// Reads an item of an ENUMERATED in whichever form it is written (X.691 14), and answers where it stands.
     #[inline(never)]
     fn read_item(&mut self, items: ItemCounts) -> Result<Place, DecodeError>
-        ensures { Reads (freely_read decoder_rules) (items_of items) item_at self.old result self.new }
+        ensures { Reads (freely_read plain_rules) (items_of items) item_at self.old result self.new }
     {
         self.check_unfailed()?;
         let mut reader = self.reader();
@@ -100,5 +96,44 @@ impl<'input> Decoder<'input> {
         let taken = take_choice_index(&mut reader, alternatives.roots, alternatives.addeds);
         let left = reader.bits().len();
         self.answer(taken, left)
+    }
+
+    /// Enters a record of which so many root components have a presence bit, and that has so many additions behind its
+    /// extension marker, where it has one, whatever was counted.
+    #[inline(always)]
+    fn enter_record(
+        &mut self,
+        presence_bits: usize,
+        additions: Option<usize>,
+    ) -> Result<Scope, DecodeError>
+        ensures { EntersRecord presence_bits additions self.old result self.new }
+    {
+        self.check_unfailed()?;
+        let levels = self.level_inside()?;
+        let extends = self.take_extension_bit(additions.is_some())?;
+        let presences = self.take_presences(presence_bits as u128)?;
+        Ok(self.enter(Scope {
+            presences,
+            extension: Extension::of_bit(extends),
+            expected: additions.unwrap_or(0),
+            levels,
+        }))
+    }
+
+    /// Reads the index of a CHOICE of so many alternatives, and enters the open type of one behind the extension
+    /// marker, whatever was counted.
+    #[inline(always)]
+    fn enter_alternative(
+        &mut self,
+        alternatives: ItemCounts,
+    ) -> Result<(Place, Alternative<'input>), DecodeError>
+        ensures { EntersPlaced alternatives self.old result self.new }
+    {
+        self.check_unfailed()?;
+        let levels = self.level_inside()?;
+        let place = self.take_place(alternatives)?;
+        let scope = self.enter(Scope::without_record(levels));
+        let contents = Decoder::open_alternative(self, place)?;
+        Ok((place, Alternative { scope, contents }))
     }
 }

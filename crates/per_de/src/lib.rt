@@ -18,35 +18,33 @@ ghost use Rattle.rasn_traits.specs.Calls.{Reads, freely_read};
 ghost use Rattle.per_read.specs.declared.error.DecodeErrorKind.TheVariants.{AlreadyFailed};
 ghost use Rattle.per_read_types.specs.Choices.{index_of};
 ghost use Rattle.per_read.specs.Lists.{most};
-ghost use Rattle.per_decoding.specs.Laws.Additions.{additions_well};
-ghost use Rattle.per_decoding.specs.Additions.{ClosesAddition, EntersContents, OpensAddition, OpensContaining};
+ghost use Rattle.per_decoding.specs.Additions.{ClosesAddition, EntersContents};
 ghost use Rattle.per_decoding.specs.Additions.{with_outside_addition};
-ghost use Rattle.per_decoding.specs.Laws.Choices.{choices_well};
-ghost use Rattle.per_decoding.specs.Laws.Contents.{contents_well};
-ghost use Rattle.per_decoding.specs.Choices.{ClosesChoice, OpensChoice, UnendedChoice};
+ghost use Rattle.per_decoding.specs.Choices.{ClosesChoice, UnendedChoice};
 ghost use Rattle.per_decoding.specs.Faults.{refusal, Answered, Unended, UnendedAddition};
-ghost use Rattle.per_decoding.specs.Laws.Relations.{decodes_well};
-ghost use Rattle.per_decoding.specs.Rules.{decoder_rules};
-ghost use Rattle.per_decoding.specs.Laws.Bags.{bags_well};
-ghost use Rattle.per_decoding.specs.Laws.Errors.{errors_well};
-ghost use Rattle.per_decoding.specs.Laws.Scopes.{scopes_well};
-ghost use Rattle.per_decoding.specs.Laws.Sets.{sets_well};
-ghost use Rattle.per_decoding.specs.Scopes.{Closes, Enters, LevelInside, Opens, no_record, with_outside_record};
-ghost use Rattle.per_decoding.specs.State.{State, Options, fresh, fresh_of, from_octet, reader_of, shown, with_last};
-ghost use Rattle.per_de.specs.Lists.{IsOpenList};
+ghost use Rattle.per_decoding.specs.Rules.{decoder_rules, plain_rules};
+ghost use Rattle.per_decoding.specs.InTurn.{AddsInTurn, ChoosesInTurn, ContainsInTurn, Leaves, OpensInTurn, Unfinished};
+ghost use Rattle.per_decoding.specs.Laws.InTurn.{additions_well, bags_well, choices_well, contents_well, decodes_well};
+ghost use Rattle.per_decoding.specs.Laws.InTurn.{errors_well, scopes_well, sets_well};
+ghost use Rattle.per_decoding.specs.Scopes.{Closes, Enters, LevelInside, no_record, with_outside_record};
+ghost use Rattle.per_decoding.specs.State.{State, Options, fresh, fresh_of, from_octet, reader_of, refused, shown};
+ghost use Rattle.per_decoding.specs.State.{with_last};
+ghost use Rattle.per_de.specs.Lists.{IsListInTurn};
+ghost use Rattle.per_de.specs.Laws.{lists_well};
 ghost use Rattle.per_de.specs.Openings.{OpensRecord};
 ghost use Rattle.per_de.specs.Outsides.{outside_choice_of, outside_record_of, outside_addition_of};
 ghost use Rattle.per_de.specs.Lending.{AreCountedOnce, AreLent, CanBeLent, ComeAlone, SkipsOctets};
-ghost use Rattle.per_de.specs.Sources.{bits_of, extension_in, flags_in, place_left, span_of, up_to, unread_of};
+ghost use Rattle.per_de.specs.Sources.{bits_of, extension_in, place_left, span_of, up_to, unread_of};
 ghost use Rattle.per_de.specs.Sources.{AreOctetsOf, IsWithin};
 ghost use Rattle.per_de.specs.Steps.{AsksNext, EndsContents, EntersOpen, HasTwoLevels, IsRootRead};
-ghost use Rattle.per_de.specs.Steps.{ClosesContents, EntersAlternative, SkipsRest, SkipsUnknown, TakesIndex};
+ghost use Rattle.per_de.specs.Steps.{ClosesContents, EntersAlternative, TakesIndex};
+ghost use Rattle.per_de.specs.Turns.{is_failed, turn_in, turn_of};
 ghost use Rattle.per_de.specs.Steps.{TakesBit, TakesBitmap, TakesExtensionBit, TakesFlags, TakesPresences};
 
 use per_bits::{BitList, BitReader};
 use per_core::lengths::FRAGMENT;
 use per_errors::count::Count;
-use per_read::bitmaps::{PresenceBits, skip_unknown, take_bitmap};
+use per_read::bitmaps::{PresenceBits, take_bitmap};
 pub use per_read::error;
 pub use per_read::error::{DecodeError, DecodeErrorKind, ParserFailCause};
 use per_read::lists::UnreadElements;
@@ -78,9 +76,12 @@ use std::mem;
 pub mod counted;
 pub mod elements;
 pub mod open_lists;
+mod scopes;
 mod source;
+pub mod turns;
 
 use source::{Extension, Flags, Source, Span};
+use turns::{Around, Mode, Turn};
 
 /// What a decoder is told: the variant of the rules, how deep values may stand inside one another, and whether padding
 /// must be zero.
@@ -208,7 +209,8 @@ pub struct Decoder<'input> {
     options: ReaderOptions,
     alloc: Global,
     levels: u32,
-    failed: bool,
+    /// Whether a call has refused, and how many components are still to come in the open scope.
+    mode: Mode,
 }
 
 impl<'input> Model for Decoder<'input> {
@@ -217,13 +219,14 @@ impl<'input> Model for Decoder<'input> {
     ghost view = { λ d. record {
       source = up_to d.bits d.source;
       bits = span_of d.bits (bits_of d.source);
-      failed = d.failed;
+      failed = is_failed d.mode;
       levels = d.levels;
       codec = d.options.codec;
       zero_padding = d.options.zero_padding;
       presences = span_of d.presences (bits_of d.source);
       extension = extension_in (bits_of d.source) d.extension;
       expected = d.expected;
+      turn = turn_in d.mode;
     } };
 
     ghost invariant = { λ d. IsWithin d.bits (bits_of d.source) };
@@ -274,7 +277,7 @@ impl<'input> Decoder<'input> {
             options: options.reader(),
             alloc,
             levels: options.levels,
-            failed: false,
+            mode: Mode::Live(Turn::Uncounted),
         }
     }
 
@@ -305,6 +308,22 @@ impl<'input> Decoder<'input> {
         constraints: &Constraints,
     ) -> Result<CowSlice<'input, u8>, DecodeError>
         ensures read { Reads decoder_rules (octet_schema constraints.now) (λ x. octets (cow_slice_items x))
+            self.old result self.new }
+        ensures lent { let size = size_of constraints.now in let mark = is_size_marked constraints.now in
+            let left = length self.new.bits in
+            IfOk result (λ x. IsBorrowedSlice x ↔ AreLent size mark self.old left (length (cow_slice_items x))) }
+    {
+        self.begin_value()?;
+        self.read_octet_string(constraints)
+    }
+
+    /// What `decode_octet_string` answers, behind what it notes.
+    #[inline(always)]
+    fn read_octet_string(
+        &mut self,
+        constraints: &Constraints,
+    ) -> Result<CowSlice<'input, u8>, DecodeError>
+        ensures read { Reads plain_rules (octet_schema constraints.now) (λ x. octets (cow_slice_items x))
             self.old result self.new }
         ensures lent { let size = size_of constraints.now in let mark = is_size_marked constraints.now in
             let left = length self.new.bits in
@@ -365,7 +384,7 @@ impl<'input> Decoder<'input> {
 
     /// Reads an OCTET STRING under constraints, and answers a copy of its octets, which may come in fragments.
     fn gathered(&mut self, constraints: &Constraints) -> Result<CowSlice<'static, u8>, DecodeError>
-        ensures read { Reads decoder_rules (octet_schema constraints.now) (λ x. octets (cow_slice_items x))
+        ensures read { Reads plain_rules (octet_schema constraints.now) (λ x. octets (cow_slice_items x))
             self.old result self.new }
         ensures owned { IfOk result (λ x. IsOwnedSlice x) }
     {
@@ -380,7 +399,7 @@ impl<'input> Decoder<'input> {
     /// Reads an ENUMERATED in whichever form it is written (X.691 14).
     #[inline(never)]
     fn read_enumerated<E: Enumerated>(&mut self) -> Result<E, DecodeError>
-        ensures { Reads (freely_read decoder_rules) (Schema.items E.roots E.addeds E.EXTENSIBLE) E.value
+        ensures { Reads (freely_read plain_rules) (Schema.items E.roots E.addeds E.EXTENSIBLE) E.value
             self.old result self.new }
     {
         self.check_unfailed()?;
@@ -393,7 +412,7 @@ impl<'input> Decoder<'input> {
     /// Reads an INTEGER under constraints in whichever form it is written (X.691 13).
     #[inline(never)]
     fn read_integer<I: IntegerType>(&mut self, constraints: &Constraints) -> Result<I, DecodeError>
-        ensures { Reads decoder_rules (number_schema constraints.now I.range) (λ i. whole (I.number i))
+        ensures { Reads plain_rules (number_schema constraints.now I.range) (λ i. whole (I.number i))
             self.old result self.new }
     {
         self.check_unfailed()?;
@@ -449,18 +468,18 @@ impl<'input> Decoder<'input> {
         ensures err { IfErr result (λ e. e ≡ refusal AlreadyFailed self.now) }
         ensures failed { OnErr result (self.now.failed ≡ true) }
     {
-        if self.failed {
-            return Err(self.error(DecodeErrorKind::AlreadyFailed));
+        match self.mode {
+            Mode::Live(_) => Ok(()),
+            Mode::Failed => Err(self.error(DecodeErrorKind::AlreadyFailed)),
         }
-        Ok(())
     }
 
     /// The error of a refused call, after which every call is refused.
     fn refuse(&mut self, kind: DecodeErrorKind) -> DecodeError
         ensures error { result ≡ refusal kind self.old }
-        ensures state { self.new ≡ record self.old { failed = true } }
+        ensures state { self.new ≡ refused self.old }
     {
-        self.failed = true;
+        self.mode = Mode::Failed;
         self.error(kind)
     }
 
@@ -798,39 +817,6 @@ impl<'input> Decoder<'input> {
             Place::Added(_) => Ok(Some(self.enter_open_type()?)),
         }
     }
-
-    /// Skips the additions that the open SEQUENCE's type doesn't know, of which these are the presence bits (X.691
-    /// 19.9).
-    #[inline(always)]
-    fn skip_additions(&mut self, flags: Flags) -> Result<(), DecodeError>
-        ensures { SkipsUnknown (flags_in self.old.source.bits flags) self.old result self.new }
-    {
-        let bitmap = flags.into_bitmap(self.source.bits());
-        let mut reader = self.reader();
-        let taken = skip_unknown(&mut reader, bitmap);
-        let left = reader.bits().len();
-        self.answer(taken, left)
-    }
-
-    /// Skips what is left of the open SEQUENCE's additions, which its type doesn't know, behind their bitmap where that
-    /// is still ahead (X.691 19.7 to 19.9).
-    fn skip_left(&mut self) -> Result<(), DecodeError>
-        ensures { SkipsRest self.old result self.new }
-    {
-        let flags = self.take_extension()?;
-        self.skip_additions(flags)
-    }
-
-    /// Skips what is left of the open SEQUENCE's additions, where anything may be left.
-    #[inline(always)]
-    fn skip_rest(&mut self) -> Result<(), DecodeError>
-        ensures { SkipsRest self.old result self.new }
-    {
-        if self.extension.is_over() {
-            return Ok(());
-        }
-        self.skip_left()
-    }
 }
 
 /// Whether octets under a size, which stand at the front of bits, come with one count or with none, however many they
@@ -943,45 +929,50 @@ impl<'input> decoder::Decoder for Decoder<'input> {
 
     type Octets = CowSlice<'input, u8>;
 
-    type Scope = Scope;
+    type Scope = Around<Scope>;
 
-    type List = ListScope;
+    type List = Around<ListScope>;
 
-    type Addition = Addition<'input>;
+    type Addition = Around<Addition<'input>>;
 
-    type Alternative = Alternative<'input>;
+    type Alternative = Around<Alternative<'input>>;
 
-    type Contents = Addition<'input>;
+    type Contents = Around<Addition<'input>>;
 
     ghost rules = { decoder_rules };
 
-    ghost opens = { λ c s o i. Opens c s (outside_record_of i.source o) i };
+    ghost opens = { λ c s o i. OpensInTurn c s (outside_record_of i.source o.scope) (turn_of o.turn) i };
 
-    ghost closes = { λ s o t. Closes s (outside_record_of s.source o) t };
+    ghost closes = { λ s o t. Leaves (λ a b. Closes a (outside_record_of s.source o.scope) b) s (turn_of o.turn) t };
 
-    ghost unended = { λ o e s. Unended e s };
+    ghost unended = { λ o e s. Unfinished Unended e s };
 
-    ghost opens_addition = { λ s o i. OpensAddition s (outside_addition_of i.source o) i };
+    ghost opens_addition = { λ s o i. AddsInTurn s (outside_addition_of i.source o.scope) (turn_of o.turn) i };
 
-    ghost closes_addition = { λ s o t. ClosesAddition s (outside_addition_of s.source o) t };
+    ghost closes_addition = { λ s o t.
+        Leaves (λ a b. ClosesAddition a (outside_addition_of s.source o.scope) b) s (turn_of o.turn) t };
 
-    ghost unended_addition = { λ o e s. UnendedAddition (outside_addition_of s.source o) e s };
+    ghost unended_addition = { λ o e s. Unfinished (UnendedAddition (outside_addition_of s.source o.scope)) e s };
 
-    ghost opens_choice = { λ c d k s o i. OpensChoice c d k s (outside_choice_of i.source o) i };
+    ghost opens_choice = { λ c d k s o i.
+        ChoosesInTurn c d k s (outside_choice_of i.source o.scope) (turn_of o.turn) i };
 
-    ghost closes_choice = { λ s o t. ClosesChoice s (outside_choice_of s.source o) t };
+    ghost closes_choice = { λ s o t.
+        Leaves (λ a b. ClosesChoice a (outside_choice_of s.source o.scope) b) s (turn_of o.turn) t };
 
-    ghost unended_choice = { λ o e s. UnendedChoice (outside_choice_of s.source o).contents e s };
+    ghost unended_choice = { λ o e s.
+        Unfinished (UnendedChoice (outside_choice_of s.source o.scope).contents) e s };
 
-    ghost opens_contents = { λ s o i. OpensContaining s (outside_addition_of i.source o) i };
+    ghost opens_contents = { λ s o i. ContainsInTurn s (outside_addition_of i.source o.scope) (turn_of o.turn) i };
 
-    ghost closes_contents = { λ s o t. ClosesAddition s (outside_addition_of s.source o) t };
+    ghost closes_contents = { λ s o t.
+        Leaves (λ a b. ClosesAddition a (outside_addition_of s.source o.scope) b) s (turn_of o.turn) t };
 
-    ghost unended_contents = { λ o e s. UnendedAddition (outside_addition_of s.source o) e s };
+    ghost unended_contents = { λ o e s. Unfinished (UnendedAddition (outside_addition_of s.source o.scope)) e s };
 
-    ghost amid = { IsOpenList };
+    ghost amid = { IsListInTurn };
 
-    ghost most = { λ l. most l.list };
+    ghost most = { λ l. most l.scope.list };
 
     ghost lends = { λ size mark s t n. AreLent size mark s (length t.bits) n };
 
@@ -999,7 +990,7 @@ impl<'input> decoder::Decoder for Decoder<'input> {
 
     #[inline(always)]
     fn decode_bool(&mut self, _tag: Tag) -> Result<bool, DecodeError> {
-        self.check_unfailed()?;
+        self.begin_value()?;
         self.take_bit()
     }
 
@@ -1009,7 +1000,7 @@ impl<'input> decoder::Decoder for Decoder<'input> {
         _tag: Tag,
         constraints: &Constraints,
     ) -> Result<I, DecodeError> {
-        self.check_unfailed()?;
+        self.begin_value()?;
         let mut reader = self.reader();
         let taken = take_short_integer(&mut reader, constraints);
         let left = reader.bits().len();
@@ -1021,17 +1012,17 @@ impl<'input> decoder::Decoder for Decoder<'input> {
     }
 
     fn decode_real(&mut self, _tag: Tag, _constraints: &Constraints) -> Result<(), DecodeError> {
-        self.check_unfailed()?;
+        self.begin_value()?;
         Err(self.refuse(DecodeErrorKind::RealNotSupported))
     }
 
     #[inline(always)]
     fn decode_null(&mut self, _tag: Tag) -> Result<(), DecodeError> {
-        self.check_unfailed()
+        self.begin_value()
     }
 
     fn decode_enumerated<E: Enumerated>(&mut self, _tag: Tag) -> Result<E, DecodeError> {
-        self.check_unfailed()?;
+        self.begin_value()?;
         let mut reader = self.reader();
         let taken = take_root_item(&mut reader);
         let left = reader.bits().len();
@@ -1043,7 +1034,7 @@ impl<'input> decoder::Decoder for Decoder<'input> {
     }
 
     fn decode_any(&mut self, _tag: Tag) -> Result<Any, DecodeError> {
-        self.check_unfailed()?;
+        self.begin_value()?;
         let mut reader = self.reader();
         let taken = reader.take_octets();
         let left = reader.bits().len();
@@ -1065,7 +1056,7 @@ impl<'input> decoder::Decoder for Decoder<'input> {
         _tag: Tag,
         constraints: &Constraints,
     ) -> Result<BitString, DecodeError> {
-        self.check_unfailed()?;
+        self.begin_value()?;
         let mut reader = self.reader();
         let taken = reader.take_bit_string(constraints);
         let left = reader.bits().len();
@@ -1077,7 +1068,7 @@ impl<'input> decoder::Decoder for Decoder<'input> {
         _tag: Tag,
         constraints: &Constraints,
     ) -> Result<BitString, DecodeError> {
-        self.check_unfailed()?;
+        self.begin_value()?;
         let mut reader = self.reader();
         let named = reader.take_bit_string(constraints);
         let left = reader.bits().len();
@@ -1090,7 +1081,7 @@ impl<'input> decoder::Decoder for Decoder<'input> {
         _tag: Tag,
         constraints: &Constraints,
     ) -> Result<S, DecodeError> {
-        self.check_unfailed()?;
+        self.begin_value()?;
         let mut reader = self.reader();
         let taken = reader.take_characters(constraints);
         let left = reader.bits().len();
@@ -1102,7 +1093,7 @@ impl<'input> decoder::Decoder for Decoder<'input> {
         _tag: Tag,
         _constraints: &Constraints,
     ) -> Result<Utf8String, DecodeError> {
-        self.check_unfailed()?;
+        self.begin_value()?;
         let mut reader = self.reader();
         let taken = reader.take_utf8();
         let left = reader.bits().len();
@@ -1114,7 +1105,7 @@ impl<'input> decoder::Decoder for Decoder<'input> {
         _tag: Tag,
         _constraints: &Constraints,
     ) -> Result<GeneralString, DecodeError> {
-        self.check_unfailed()?;
+        self.begin_value()?;
         let mut reader = self.reader();
         let taken = reader.take_octets();
         let left = reader.bits().len();
@@ -1127,7 +1118,7 @@ impl<'input> decoder::Decoder for Decoder<'input> {
         _tag: Tag,
         _constraints: &Constraints,
     ) -> Result<GraphicString, DecodeError> {
-        self.check_unfailed()?;
+        self.begin_value()?;
         let mut reader = self.reader();
         let taken = reader.take_octets();
         let left = reader.bits().len();
@@ -1140,7 +1131,7 @@ impl<'input> decoder::Decoder for Decoder<'input> {
         _tag: Tag,
         _constraints: &Constraints,
     ) -> Result<TeletexString, DecodeError> {
-        self.check_unfailed()?;
+        self.begin_value()?;
         let mut reader = self.reader();
         let taken = reader.take_octets();
         let left = reader.bits().len();
@@ -1149,7 +1140,7 @@ impl<'input> decoder::Decoder for Decoder<'input> {
     }
 
     fn decode_object_identifier(&mut self, _tag: Tag) -> Result<Vec<u32>, DecodeError> {
-        self.check_unfailed()?;
+        self.begin_value()?;
         let mut reader = self.reader();
         let taken = take_object_identifier(&mut reader);
         let left = reader.bits().len();
@@ -1157,7 +1148,7 @@ impl<'input> decoder::Decoder for Decoder<'input> {
     }
 
     fn decode_utc_time<M: UtcMoment>(&mut self, _tag: Tag) -> Result<M, DecodeError> {
-        self.check_unfailed()?;
+        self.begin_value()?;
         let mut reader = self.reader();
         let taken = take_utc_time(&mut reader);
         let left = reader.bits().len();
@@ -1168,7 +1159,7 @@ impl<'input> decoder::Decoder for Decoder<'input> {
         &mut self,
         _tag: Tag,
     ) -> Result<M, DecodeError> {
-        self.check_unfailed()?;
+        self.begin_value()?;
         let mut reader = self.reader();
         let taken = take_generalized_time(&mut reader);
         let left = reader.bits().len();
@@ -1176,7 +1167,7 @@ impl<'input> decoder::Decoder for Decoder<'input> {
     }
 
     fn decode_date<D: CivilDate>(&mut self, _tag: Tag) -> Result<D, DecodeError> {
-        self.check_unfailed()?;
+        self.begin_value()?;
         self.check_date_levels()?;
         let mut reader = self.reader();
         let taken = take_date(&mut reader);
@@ -1185,133 +1176,131 @@ impl<'input> decoder::Decoder for Decoder<'input> {
     }
 
     #[inline(always)]
-    fn open_sequence<C: Constructed>(&mut self, _tag: Tag) -> Result<Scope, DecodeError> {
-        self.open_record::<C>()
+    fn open_sequence<C: Constructed>(&mut self, _tag: Tag) -> Result<Around<Scope>, DecodeError> {
+        self.open_counted::<C>()
     }
 
-    fn open_set<C: Constructed>(&mut self, _tag: Tag) -> Result<Scope, DecodeError> {
-        self.open_record::<C>()
+    fn open_set<C: Constructed>(&mut self, _tag: Tag) -> Result<Around<Scope>, DecodeError> {
+        self.open_counted::<C>()
     }
 
     #[inline(always)]
-    fn close_sequence(&mut self, scope: Scope) -> Result<(), DecodeError> {
-        self.check_unfailed()?;
-        self.check_root_read()?;
-        if self.expected > 0 {
-            return Err(self.refuse(DecodeErrorKind::MissingTag));
-        }
-        self.skip_rest()?;
-        self.leave(scope);
+    fn close_sequence(&mut self, outside: Around<Scope>) -> Result<(), DecodeError> {
+        self.close_in_turn(outside)
+    }
+
+    #[inline(always)]
+    fn open_fields<C: Constructed>(&mut self, _tag: Tag) -> Result<Around<Scope>, DecodeError> {
+        self.begin_value()?;
+        let turn = self.turn();
+        let scope = self.open_record::<C>()?;
+        self.set_turn(Turn::Uncounted);
+        Ok(Around { scope, turn })
+    }
+
+    #[inline(always)]
+    fn close_fields<C: Constructed>(&mut self, outside: Around<Scope>) -> Result<(), DecodeError> {
+        self.close_in_turn(outside)
+    }
+
+    #[inline(always)]
+    fn open_addition(&mut self) -> Result<Option<Around<Addition<'input>>>, DecodeError> {
+        let turn = self.turn();
+        let Some(scope) = self.enter_addition()? else {
+            return Ok(None);
+        };
+        self.set_turn(Turn::Awaiting(1));
+        Ok(Some(Around { scope, turn }))
+    }
+
+    #[inline(always)]
+    fn close_addition(&mut self, outside: Around<Addition<'input>>) -> Result<(), DecodeError> {
+        self.check_complete()?;
+        self.leave_open(outside.scope)?;
+        self.set_turn(outside.turn);
         Ok(())
     }
 
     #[inline(always)]
-    fn open_addition(&mut self) -> Result<Option<Addition<'input>>, DecodeError> {
-        self.check_unfailed()?;
-        match self.next_addition()? {
-            Some(true) => Ok(Some(self.enter_open_type()?)),
-            _ => Ok(None),
-        }
+    fn open_choice<C: Choice>(
+        &mut self,
+    ) -> Result<(Tag, Around<Alternative<'input>>), DecodeError> {
+        self.begin_value()?;
+        let turn = self.turn();
+        let (tag, scope) = self.enter_choice::<C>()?;
+        self.set_turn(Turn::Awaiting(1));
+        Ok((tag, Around { scope, turn }))
     }
 
     #[inline(always)]
-    fn close_addition(&mut self, addition: Addition<'input>) -> Result<(), DecodeError> {
-        self.check_unfailed()?;
-        self.close_open_type(addition)
-    }
-
-    #[inline(always)]
-    fn open_choice<C: Choice>(&mut self) -> Result<(Tag, Alternative<'input>), DecodeError> {
-        self.check_unfailed()?;
-        let levels = self.level_inside()?;
-        let place = self.take_index::<C>()?;
-        let scope = self.enter(Scope::without_record(levels));
-        let contents = self.open_alternative(place)?;
-        Ok((tag_at::<C>(place), Alternative { scope, contents }))
-    }
-
-    #[inline(always)]
-    fn close_choice(&mut self, alternative: Alternative<'input>) -> Result<(), DecodeError> {
-        self.check_unfailed()?;
-        let scope = alternative.scope;
-        let contents = alternative.contents;
-        if let Some(contents) = contents {
-            self.close_open_type(contents)?;
-        }
-        self.leave(scope);
+    fn close_choice(&mut self, outside: Around<Alternative<'input>>) -> Result<(), DecodeError> {
+        self.check_complete()?;
+        self.leave_choice(outside.scope)?;
+        self.set_turn(outside.turn);
         Ok(())
     }
 
-    fn open_contents(&mut self, _tag: Tag) -> Result<Addition<'input>, DecodeError> {
-        self.check_unfailed()?;
-        self.enter_open_type()
+    fn open_contents(&mut self, _tag: Tag) -> Result<Around<Addition<'input>>, DecodeError> {
+        self.begin_value()?;
+        let turn = self.turn();
+        let scope = self.enter_containing()?;
+        self.set_turn(Turn::Awaiting(1));
+        Ok(Around { scope, turn })
     }
 
-    fn close_contents(&mut self, contents: Addition<'input>) -> Result<(), DecodeError> {
-        self.check_unfailed()?;
-        self.close_open_type(contents)
+    fn close_contents(&mut self, outside: Around<Addition<'input>>) -> Result<(), DecodeError> {
+        self.check_complete()?;
+        self.leave_open(outside.scope)?;
+        self.set_turn(outside.turn);
+        Ok(())
     }
 
     fn open_list(
         &mut self,
         _tag: Tag,
         constraints: &Constraints,
-    ) -> Result<ListScope, DecodeError> {
-        self.check_unfailed()?;
-        let levels = self.level_inside()?;
-        let mut reader = self.reader();
-        let taken = reader.open_list(constraints);
-        let left = reader.bits().len();
-        let list = self.answer(taken, left)?;
-        let outside = mem::replace(&mut self.levels, levels);
-        Ok(ListScope {
-            list,
-            levels: outside,
-        })
+    ) -> Result<Around<ListScope>, DecodeError> {
+        self.begin_value()?;
+        let turn = self.turn();
+        let scope = self.enter_list(constraints)?;
+        self.set_turn(turn.within_list());
+        Ok(Around { scope, turn })
     }
 
-    fn next_element(&mut self, scope: &mut ListScope) -> Result<bool, DecodeError> {
-        self.check_unfailed()?;
-        if scope.list.go_on() {
-            return Ok(true);
-        }
-        let mut reader = self.reader();
-        let taken = reader.next_element(&mut scope.list);
-        let left = reader.bits().len();
-        let follows = self.answer(taken, left)?;
+    fn next_element(&mut self, outside: &mut Around<ListScope>) -> Result<bool, DecodeError> {
+        let follows = self.next_item(&mut outside.scope)?;
         if !follows {
-            self.levels = scope.levels;
+            self.set_turn(outside.turn);
         }
         Ok(follows)
     }
 
     #[inline(always)]
     fn next_presence(&mut self) -> Result<bool, DecodeError> {
-        self.check_unfailed()?;
-        match self.first_presence() {
-            Some(bit) => {
-                self.presences = self.presences.behind(1);
-                Ok(bit)
-            }
-            None => Err(self.refuse(DecodeErrorKind::MissingTag)),
+        let bit = self.take_presence()?;
+        if !bit {
+            self.note();
         }
+        Ok(bit)
     }
 
     fn fail(&mut self) {
-        self.failed = true;
+        self.mode = Mode::Failed;
     }
 
     ghost lawful = { decodes_well };
 
     ghost errors = { errors_well };
 
-    ghost scopes = { scopes_well outside_record_of };
+    ghost scopes = { scopes_well (λ b o. outside_record_of b o.scope) (λ o. turn_of o.turn) };
 
-    ghost additions = { additions_well outside_addition_of };
+    ghost additions = { additions_well (λ b o. outside_addition_of b o.scope) (λ o. turn_of o.turn) };
 
-    ghost contents = { contents_well outside_addition_of };
+    ghost contents = { contents_well (λ b o. outside_addition_of b o.scope) (λ o. turn_of o.turn) };
 
-    ghost choices = { choices_well outside_choice_of };
+    ghost choices = { choices_well (λ b o. outside_choice_of b o.scope) (λ o. turn_of o.turn) };
+
+    ghost lists = { lists_well };
 
     ghost sets = { sets_well };
 

@@ -9,7 +9,7 @@ use Rattle.per_core.specs.FewItems.{most_items}
 use Rattle.per_core.proofs.FewWithin.{Few}
 use Rattle.per_decoding.specs.Rules.{decoder_rules}
 use Rattle.per_decoding.specs.Additions.{Adds, AddsValue}
-use Rattle.per_decoding.specs.State.{State, Spells, Marks}
+use Rattle.per_decoding.specs.State.{State, Spells, Marks, noting}
 
 -- a value's own items, and those of each value within it
 few_of : (c : Schema) (s : State) (v : Value) (t : State) → Spells c s v t → Few (most_items (length s.bits - length t.bits)) c v
@@ -25,11 +25,11 @@ FewOrLeftOut p c s v t = Few (most_items (length s.bits - length t.bits)) c v �
 
 pub part_few : (p : Presence) (c : Schema) (s : State) (r : Option Value) (t : State) (v : Value) → ReadsPart decoder_rules p c s r t → r ≡ Some v → FewOrLeftOut p c s v t
 part_few _ c s _ t v (reads_required {v = w} h) e =
-    let f : w ≡ v = cc in inl (subst (λ z. Few (most_items (length s.bits - length t.bits)) c z) f (few_of c s w t h))
+    let f : w ≡ v = cc in inl (subst (λ z. Few (most_items (length s.bits - length t.bits)) c z) f (few_of c (noting s) w t h))
 part_few p c s _ t v (reads_there {m = m} {v = w} l b h) e =
     let f : w ≡ v = cc in
     let n = marks_no_bits s m b in
-    inl (subst (λ z. Few (most_items (length s.bits - length t.bits)) c z) f (subst (λ (k : ℕ). Few (most_items (k - length t.bits)) c w) n (few_of c m w t h)))
+    inl (subst (λ z. Few (most_items (length s.bits - length t.bits)) c z) f (subst (λ (k : ℕ). Few (most_items (k - length t.bits)) c w) n (few_of c (noting m) w t h)))
 part_few p c s r t v (reads_left_out l b) e = inr (cc)
 
 pub default_few : {T A : Type 0} (c : Schema) (value : T → Value) (returns : Result T A → Type 0) (s t : State) (x : T) (d : Value) → MakesDefault value d returns →

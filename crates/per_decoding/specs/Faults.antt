@@ -34,7 +34,7 @@ use Rattle.per_read.specs.Bitmaps.{skipped_unknown}
 use Rattle.per_read.specs.Ends.{IsOfEnd}
 use Rattle.per_decoding.specs.Additions.{Asks, Shown, OutsideAddition}
 use Rattle.per_read_types.specs.Dates.{IsOfDate}
-use Rattle.per_decoding.specs.State.{Extension, ahead, State, extension_of, settings_of, with_last}
+use Rattle.per_decoding.specs.State.{Extension, ahead, State, extension_of, refused, settings_of, with_last}
 
 -- what a kind says where no level is left
 abbrev pub IsOfCut : DecodeErrorKind → Type 0
@@ -159,7 +159,7 @@ refusal k s = record { kind = k; codec = s.codec }
 -- the refusal of its kind, after which the decoder has failed.
 abbrev pub Answered : {T : Type 0} → Result T DecodeErrorKind → ℕ → State → Result T DecodeError → State → Type 0
 Answered (Ok v) left s result t = (result ≡ Ok v) × (t ≡ with_last s left)
-Answered (Err k) left s result t = (result ≡ Err (refusal k s)) × (t ≡ record s { failed = true })
+Answered (Err k) left s result t = (result ≡ Err (refusal k s)) × (t ≡ refused s)
 
 -- an error by which a presence bit is refused: none is left, or the decoder had failed
 abbrev pub IsUnmarked : DecodeError → State → Type 0

@@ -3,6 +3,7 @@ pub mod Bags
 pub mod Choices
 pub mod Contents
 pub mod Errors
+pub mod InTurn
 pub mod Records
 pub mod Relations
 pub mod Scopes

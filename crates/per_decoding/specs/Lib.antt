@@ -4,4 +4,6 @@ pub mod Faults
 pub mod Rules
 pub mod Scopes
 pub mod State
+pub mod Turns
+pub mod InTurn
 pub mod Laws

@@ -1,14 +1,17 @@
 -- The rules of a decoder that takes what spells a value off the front of the bits left.
-use Rattle.std.specs.Prelude.{◌≡◌}
+use Rattle.std.specs.Prelude.{◌≡◌, ℕ, false, length}
+use Rattle.rasn_traits.specs.Amounts.{Amount}
 use Rattle.rasn_traits.specs.Calls.{DecoderRules}
 use Rattle.per_read.specs.declared.error.DecodeError.{DecodeError}
-use Rattle.per_read.specs.declared.error.DecodeErrorKind.TheVariants.{OutOfMemory, AlreadyFailed}
+use Rattle.per_read.specs.declared.error.DecodeErrorKind.TheVariants.{AlreadyFailed, MissingTag, OutOfMemory}
 use Rattle.per_decoding.specs.Additions.{Adds}
-use Rattle.per_decoding.specs.State.{State, Marks, Spells}
+use Rattle.per_decoding.specs.State.{State, Marks, Spells, noting, noting_bit}
+use Rattle.per_decoding.specs.Turns.{awaiting, next, within_list}
 use Rattle.per_decoding.specs.Faults.{Fault, IsUnmarked, Lacks, Misadds, refusal}
 
-abbrev pub decoder_rules : DecoderRules DecodeError State
-decoder_rules = record {
+-- The rules of a decoder as though it counted nothing of what comes in a scope.
+abbrev pub plain_rules : DecoderRules DecodeError State
+plain_rules = record {
   levels = λ s. s.levels;
   spells = Spells;
   marks = Marks;
@@ -16,9 +19,35 @@ decoder_rules = record {
   fault = Fault;
   unmarked = IsUnmarked;
   misadds = Misadds;
+  awaits = λ due s. ⊥;
+  amidst = λ s t. ⊥;
+  untimely = λ e s. e ≡ refusal MissingTag s;
   lacking = Lacks;
   memory = λ e s. e ≡ refusal OutOfMemory s;
   already = λ e s. e ≡ refusal AlreadyFailed s;
   failed = λ s. s.failed;
   codec = λ s. s.codec;
+}
+
+-- So much is still to come in the open scope, which counts the components; the presence bits and the additions that are
+-- still to be read are known.
+pub record Awaits (due : Amount) (s : State) : Type 0 where
+  pub live : s.failed ≡ false
+  pub components : s.turn ≡ awaiting due.components
+  pub bits : length s.presences ≡ due.bits
+  pub additions : s.expected ≡ due.additions
+
+-- A list is still open here, which is a component of what is around it.
+pub record Amidst (s t : State) : Type 0 where
+  pub live : t.failed ≡ false
+  pub within : t.turn ≡ within_list (next s.turn)
+
+-- The rules of a decoder: each component is noted, where its value begins or where its presence bit is 0.
+abbrev pub decoder_rules : DecoderRules DecodeError State
+decoder_rules = record plain_rules {
+  spells = λ c s v t. Spells c (noting s) v t;
+  marks = λ s b t. Marks (noting_bit b s) b t;
+  fault = λ c e s. Fault c e (noting s);
+  awaits = Awaits;
+  amidst = Amidst;
 }

@@ -14,8 +14,8 @@ use Rattle.per_read.specs.declared.error.DecodeError.{DecodeError}
 use Rattle.per_read.specs.declared.error.DecodeErrorKind.TheVariants.{ExceedsMaxParseDepth}
 use Rattle.per_decoding.specs.Additions.{Shown}
 use Rattle.per_decoding.specs.Faults.{refusal}
-use Rattle.per_decoding.specs.Rules.{decoder_rules}
-use Rattle.per_decoding.specs.State.{Extension, State, extension_of, settings_of, shown, with_bits}
+use Rattle.per_decoding.specs.Rules.{plain_rules}
+use Rattle.per_decoding.specs.State.{Extension, State, extension_of, refused, settings_of, shown, with_bits}
 
 -- What waits outside while a scope is open: the levels that may be entered there, and what is still to be read of the
 -- record there.
@@ -46,7 +46,7 @@ no_record n = record { levels = n; presences = []; extension = shown []; expecte
 -- how many levels may be entered one level deeper; at no level left the decoder refuses
 abbrev pub LevelInside : State → Result ℕ DecodeError → State → Type 0
 LevelInside s (Ok n) t = (s.levels ≡ suc n) × (t ≡ s)
-LevelInside s (Err e) t = (s.levels ≡ 0) × (e ≡ refusal ExceedsMaxParseDepth s) × (t ≡ record s { failed = true })
+LevelInside s (Err e) t = (s.levels ≡ 0) × (e ≡ refusal ExceedsMaxParseDepth s) × (t ≡ refused s)
 
 -- A scope is entered with other levels and another record to read: those from before wait outside, and all else is as
 -- before.
@@ -88,5 +88,5 @@ pub record InScope (ps qs : Parts) (i : State) (w : OutsideRecord) (v : Value) (
   pub additions : List (Option Value)
   pub end : State
   pub is : v ≡ record_value roots additions
-  pub reads : ReadsFields decoder_rules ps qs i roots additions end
+  pub reads : ReadsFields plain_rules ps qs i roots additions end
   pub closes : Closes end w t

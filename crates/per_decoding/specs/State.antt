@@ -13,6 +13,7 @@ use Rattle.per_core.specs.Within.{HasAtMost}
 use Rattle.per_read.specs.Options.{settings}
 use Rattle.per_read.specs.State.{State as Taking}
 use Rattle.per_read.specs.declared.ReaderOptions.{ReaderOptions}
+use Rattle.per_decoding.specs.Turns.{Turn, next, uncounted}
 
 -- What a decoder is told: the codec, how many levels of values it may enter, and whether padding must be zero.
 pub record Options : Type 0 where
@@ -53,7 +54,7 @@ from_octet bits = record { bits = bits; place = 0 }
 -- codec in use, whether padding must be zero, and of the open record the presence bits of the root components that are
 -- still to be read, the bitmap of its additions, and how many additions of its type are still to be asked for. `source`
 -- is where the bits that are left come from. The position in an octet follows from the number of bits that are left
--- (`place`).
+-- (`place`). `turn` is how many components are still to come in the open scope.
 pub record State : Type 0 where
   pub bits : Bits
   pub failed : Bool
@@ -64,6 +65,7 @@ pub record State : Type 0 where
   pub source : Source
   pub extension : Extension
   pub expected : ℕ
+  pub turn : Turn
 
 -- what has read nothing of a source
 abbrev pub fresh_of : Source → Options → State
@@ -77,6 +79,7 @@ fresh_of source options = record {
   source = source;
   extension = shown [];
   expected = 0;
+  turn = uncounted;
 }
 
 -- what has read nothing of an input
@@ -102,6 +105,23 @@ with_bits s b = record s { bits = b }
 -- a decoder's state with the last so many bits left
 abbrev pub with_last : State → ℕ → State
 with_last s n = with_bits s (drop (length s.bits - n) s.bits)
+
+-- a decoder's state with so much to come in the open scope
+abbrev pub with_turn : Turn → State → State
+with_turn x s = record s { turn = x }
+
+-- a component is noted, as a value begins, or where its presence bit says that it is left out
+abbrev pub noting : State → State
+noting s = with_turn (next s.turn) s
+
+-- where a presence bit is read: one that is 0 is a component
+abbrev pub noting_bit : Bool → State → State
+noting_bit true s = s
+noting_bit false s = noting s
+
+-- what has refused
+abbrev pub refused : State → State
+refused s = record s { failed = true; turn = uncounted }
 
 -- A front of the bits that are left spells a value, and the bits behind it are left. The value has at most 65535 items,
 -- and 8192 for each bit that was taken, and so has each value within it, but for a default that stands for an absent

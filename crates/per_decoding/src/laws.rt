@@ -1,7 +1,7 @@
 //! The laws by which a decoder reads records and their additions (X.691 11.2, 19): each is the contract of a function
 //! that does nothing.
 
-ghost use Rattle.std.specs.Prelude.{◌≡◌, ◌↔◌, ℕ, suc, Bool, List, Option, Some};
+ghost use Rattle.std.specs.Prelude.{◌≡◌, ◌↔◌, ℕ, suc, Bool, true, List, [], Option, Some};
 ghost use Rattle.rasn_types.specs.Bits.{Bits};
 ghost use Rattle.rasn_types.specs.Values.{Side, Value, alternative};
 ghost use Rattle.rasn_schema.specs.Canonised.{canonised, canonised_slots};
@@ -9,13 +9,19 @@ ghost use Rattle.rasn_schema.specs.Choices.{alternative_in};
 ghost use Rattle.rasn_schema.specs.Records.{record_value};
 ghost use Rattle.rasn_schema.specs.Schemas.{Parts, Schema, by_tag};
 ghost use Rattle.rasn_traits.specs.Additions.{extended};
+ghost use Rattle.rasn_traits.specs.Amounts.{Amount};
+ghost use Rattle.rasn_traits.specs.Scopes.{ReadsFields};
+ghost use Rattle.rasn_traits.specs.TurnsRead.{CameRead};
 ghost use Rattle.per_core.specs.Spellings.{Settings};
 ghost use Rattle.per_read.specs.declared.error.DecodeErrorKind.{DecodeErrorKind};
 ghost use Rattle.per_decoding.specs.Additions.{AddsValue, InOpen, OpensAddition, OpensContaining, OutsideAddition};
 ghost use Rattle.per_decoding.specs.Choices.{OutsideChoice, OpensChoice, Stands};
 ghost use Rattle.per_decoding.specs.Faults.{IsInBits};
+ghost use Rattle.per_decoding.specs.InTurn.{OpensInTurn};
+ghost use Rattle.per_decoding.specs.Rules.{Awaits, decoder_rules};
 ghost use Rattle.per_decoding.specs.Scopes.{InScope, Opens, OutsideRecord};
 ghost use Rattle.per_decoding.specs.State.{Spells, State};
+ghost use Rattle.per_decoding.specs.Turns.{Turn, is_complete};
 
 /// Where a record was opened, a value of its schema is read exactly where its root components and its additions are
 /// read in turn and the record is closed behind them (X.691 19).
@@ -37,6 +43,22 @@ pub fn record_can_be_opened()
 pub fn addition_is_what_stands_in_its_open_type()
     ensures { (c : Schema) (s i t : State) (w : OutsideAddition) (v : Value) → OpensAddition s w i
         → AddsValue c s v t ↔ InOpen c i w v t }
+{}
+
+/// Where a record was opened that counts its components, and these and its additions were read as they are listed, all
+/// that is due came (X.691 19).
+pub fn record_read_in_turn_is_complete()
+    ensures { (ps qs : Parts) (marker : Bool) (s i j : State) (w : OutsideRecord) (around : Turn)
+        (rs xs : List (Option Value))
+        → OpensInTurn (extended ps marker qs) s w around i → ReadsFields decoder_rules ps qs i rs xs j
+        → is_complete j.turn ≡ true }
+{}
+
+/// Where another amount came in a scope than was awaited there, it isn't all that is due: a component, a presence bit
+/// or an addition is still to come, or one too many came (X.691 19).
+pub fn another_amount_is_not_complete()
+    ensures { (due came : Amount) (i j : State) → Awaits due i → CameRead decoder_rules came i j → (came ≡ due → ⊥)
+        → is_complete j.turn ≡ true → j.presences ≡ [] → j.expected ≡ 0 → ⊥ }
 {}
 
 /// Each addition that is there can be opened (X.691 19.9).

@@ -7,7 +7,7 @@ pub mod aper;
 pub mod codecs;
 pub mod located;
 pub mod open_types;
-mod rows;
+pub mod rows;
 pub mod table;
 pub mod uper;
 pub mod versions;

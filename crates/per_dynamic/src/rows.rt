@@ -2,13 +2,17 @@
 
 ghost use Rattle.std.specs.Prelude.{◌≡◌, IfOk, IfSome, Some, option_map, position, slice_get, string_bytes};
 ghost use Rattle.std.specs.List.{list_any};
+ghost use Rattle.std.specs.Option.{option_and_then};
 ghost use Rattle.std.specs.Str.{bytes_eq};
+ghost use Rattle.rasn_types.specs.Values.{same, whole};
+ghost use Rattle.rasn_dynamic.specs.Types.{default_value};
 ghost use Rattle.per_dynamic.specs.OpenTypes.{AreTold, first_named, has_value, is_open, IsRowAt, of_one_type, row_of};
 ghost use Rattle.per_dynamic.specs.OpenTypes.{row_told, set_of, told_at, told_in};
 
-use rasn_dynamic::types::{Component, Kind, ObjectSet, Row, kind_at};
+use rasn_dynamic::types::{Component, DefaultValue, Kind, ObjectSet, Row, kind_at};
 use rasn_dynamic::values::Value;
 use rasn_schema::items::Place;
+use rasn_types::types::Integer;
 use std::alloc::{AllocError, Global};
 
 /// By each component of a record that is an open type, the index of the row of its object set that the record tells, by
@@ -80,16 +84,19 @@ fn row_told(kinds: &[Kind], rows: &[Row], of: usize, value: &Value) -> Option<us
     ensures { result ≡ row_told kinds.now rows.now of value.now }
 {
     let index = row_with(kinds, rows, of, value)?;
-    let row = rows.get(index)?;
-    first_named(rows, row)
+    first_named(rows, index)
 }
 
-/// The index of the first row with the name of one, where both are of one type.
-fn first_named(rows: &[Row], row: &Row) -> Option<usize>
-    ensures { result ≡ first_named rows.now row.now }
+/// The index of the first row with the name of the one at an index, where both are of one type.
+fn first_named(rows: &[Row], index: usize) -> Option<usize>
+    ensures { result ≡ option_and_then (first_named rows.now) (slice_get rows.now index) }
 {
-    let index = index_named(rows, &row.name)?;
-    of_one_type(rows, row, index)
+    let row = rows.get(index)?;
+    let (front, _) = rows.split_at(index);
+    match index_named(front, &row.name) {
+        Some(before) => of_one_type(rows, row, before),
+        None => Some(index),
+    }
 }
 
 /// The index of a row, where it is of the type of another.
@@ -106,19 +113,47 @@ fn of_one_type(rows: &[Row], row: &Row, index: usize) -> Option<usize>
 fn row_with(kinds: &[Kind], rows: &[Row], of: usize, value: &Value) -> Option<usize>
     ensures { result ≡ position (has_value kinds.now of value.now) rows.now }
 {
-    rows.iter()
-        .position(|row| value.is_default_at(kinds, of, &row.value))
+    match value.as_integer() {
+        Some(number) => row_of_number(rows, number),
+        None => rows
+            .iter()
+            .position(|row| value.is_default_at(kinds, of, &row.value)),
+    }
+}
+
+/// The index of the first row whose value is a number.
+fn row_of_number(rows: &[Row], number: &Integer) -> Option<usize>
+    ensures { result ≡ position (λ r. same (whole number.now) (default_value r.value)) rows.now }
+{
+    rows.iter().position(|row| is_number(&row.value, number))
+}
+
+/// Whether the value of a row is a number.
+fn is_number(told: &DefaultValue, number: &Integer) -> bool
+    ensures { result ≡ same (whole number.now) (default_value told.now) }
+{
+    match told {
+        DefaultValue::Integer(own) => number == own,
+        _ => false,
+    }
 }
 
 /// The index of the first row with a name.
 fn index_named(rows: &[Row], name: &str) -> Option<usize>
     ensures { result ≡ position (λ q. bytes_eq (string_bytes q.name) name.now) rows.now }
 {
-    rows.iter().position(|row| row.name.as_str() == name)
+    rows.iter().position(|row| is_named(row, name))
+}
+
+/// Whether a row has a name. Most names differ in their lengths.
+fn is_named(row: &Row, name: &str) -> bool
+    ensures { result ≡ bytes_eq (string_bytes row.now.name) name.now }
+{
+    row.name.len() == name.len() && row.name.as_str() == name
 }
 
 /// The object set of the open type at a place, where one is there.
-pub(crate) fn set_at(kinds: &[Kind], place: usize) -> Option<&ObjectSet>
+pub fn set_at(kinds: &[Kind], place: usize) -> Option<&ObjectSet>
     ensures { option_map (λ s. s.now) result ≡ set_of (slice_get kinds.now place) }
 {
     match kind_at(kinds, place)? {
@@ -128,7 +163,7 @@ pub(crate) fn set_at(kinds: &[Kind], place: usize) -> Option<&ObjectSet>
 }
 
 /// The component at an index.
-pub(crate) fn component_at(components: &[Component], index: usize) -> Option<&Component>
+pub fn component_at(components: &[Component], index: usize) -> Option<&Component>
     ensures { option_map (λ c. c.now) result ≡ slice_get components.now index }
 {
     components.get(index)

@@ -8,7 +8,8 @@ use Rattle.rasn_traits.specs.Additions.{extended}
 use Rattle.rasn_traits.specs.Calls.{Behaves}
 use Rattle.rasn_traits.specs.Lists.{Mistimed}
 use Rattle.rasn_traits.specs.Scopes.{PresentsFields}
-use Rattle.rasn_traits.specs.Turns.{Amount, amount_of, Came, came_added, came_bit, came_nothing, came_skipped, came_value, one_value, RefusesOther}
+use Rattle.rasn_traits.specs.Amounts.{Amount, amount_of, one_value}
+use Rattle.rasn_traits.specs.Turns.{Came, came_added, came_bit, came_nothing, came_skipped, came_value, RefusesOther}
 use Rattle.per_write.specs.Additions.{OutsideAddition, with_next}
 use Rattle.per_write.specs.Components.{Encoding}
 use Rattle.per_write.specs.declared.error.EncodeError.{EncodeError}

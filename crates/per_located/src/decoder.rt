@@ -337,6 +337,23 @@ impl<D: Positioned> Decoder for Located<D> {
         self.seen(answer)
     }
 
+    fn open_fields<C: Constructed>(&mut self, tag: Tag) -> Result<D::Scope, D::Error> {
+        self.trail.begin();
+        let extended = C::IS_EXTENSIBLE && self.inner.is_extended();
+        let answer = self.inner.open_fields::<C>(tag);
+        self.enter_record(&answer, RecordFrame::new::<C>(false, extended));
+        self.seen(answer)
+    }
+
+    fn close_fields<C: Constructed>(&mut self, scope: D::Scope) -> Result<(), D::Error> {
+        self.trail.pause();
+        let answer = self.inner.close_fields::<C>(scope);
+        if answer.is_ok() {
+            self.trail.leave();
+        }
+        self.seen(answer)
+    }
+
     fn open_set<C: Constructed>(&mut self, tag: Tag) -> Result<D::Scope, D::Error> {
         self.trail.begin();
         let extended = C::IS_EXTENSIBLE && self.inner.is_extended();
@@ -451,6 +468,8 @@ impl<D: Positioned> Decoder for Located<D> {
     ghost contents = { D.contents };
 
     ghost choices = { D.choices };
+
+    ghost lists = { D.lists };
 
     ghost sets = { D.sets };
 

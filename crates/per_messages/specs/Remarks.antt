@@ -1,6 +1,6 @@
 -- Where values depart from the object sets of their open types (ITU-T X.681, 14; X.682, 10).
 use Rattle.std.specs.Prelude.{ℕ, zero, suc, ◌≡◌, ◌+◌, ◌==◌, ◌&&◌, not, if◌then◌else◌, Bool, true, false, List, []}
-use Rattle.std.specs.Prelude.{◌∷◌, ◌++◌, length, map, take, find, codes, decimal, Option, Some, None, slice_get}
+use Rattle.std.specs.Prelude.{◌∷◌, ◌++◌, length, map, take, find, decimal, Option, Some, None, slice_get}
 use Rattle.std.specs.Prelude.{string_bytes}
 use Rattle.std.specs.List.{list_any}
 use Rattle.std.specs.Option.{unwrap_or}
@@ -25,6 +25,7 @@ use Rattle.rasn_dynamic.specs.declared.values.Value.{Value}
 use Rattle.rasn_dynamic.specs.declared.values.Value.TheOpen.{Value-F, Elements, Bag, Fields, Alternative}
 use Rattle.rasn_dynamic.specs.declared.values.Value.TheViews.{out-Value}
 use Rattle.per_dynamic.specs.OpenTypes.{set_of}
+use Rattle.per_messages.specs.Paths.{onward}
 use Rattle.per_messages.specs.declared.remarks.Remark.{Remark}
 use Rattle.per_messages.specs.declared.remarks.RemarkKind.{RemarkKind}
 use Rattle.per_messages.specs.declared.remarks.RemarkKind.TheVariants.{Missing, Repeated, Criticality}
@@ -55,8 +56,7 @@ each_of f = each_from f 0
 
 -- X.680 15: the path to a part by its identifier, where it has one
 abbrev pub joined : List ℕ → List ℕ → List ℕ
-joined path step =
-    if length path == 0 then step else if length step == 0 then path else path ++ (codes "." ++ step)
+joined path step = if length step == 0 then path else onward path step
 
 -- the path to an element of a list: its number is from 1 on
 abbrev pub element_path : List ℕ → ℕ → List ℕ

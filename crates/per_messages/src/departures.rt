@@ -9,8 +9,9 @@ ghost use Rattle.per_messages.specs.Remarks.{joined, of_all, of_criticality, of_
 ghost use Rattle.per_messages.specs.Remarks.{of_set, one_remark, root_values, row_held, tells};
 
 use crate::remarks::{Remark, RemarkKind};
+use per_dynamic::rows::set_at;
 use rasn_dynamic::types::{
-    Component, DefaultValue, ElementPresence, Kind, ObjectSet, Row, kind_at, kind_within,
+    Component, DefaultValue, ElementPresence, Kind, ObjectSet, Row, kind_within,
 };
 use rasn_dynamic::values::Value;
 use std::alloc::{AllocError, Global};
@@ -310,16 +311,6 @@ fn departs(kinds: &[Kind], root: &[Component], values: &[Value], set: &ObjectSet
     }
 }
 
-/// The object set of the open type at a place, where one is there.
-pub(crate) fn set_at(kinds: &[Kind], place: usize) -> Option<&ObjectSet>
-    ensures { option_map (λ s. s.now) result ≡ set_of (slice_get kinds.now place) }
-{
-    match kind_at(kinds, place)? {
-        Kind::Open(set) => Some(set),
-        _ => None,
-    }
-}
-
 /// The values of a record's root components.
 pub(crate) fn root_values(value: &Value) -> &[Value]
     ensures { result.now ≡ root_values value.now }
@@ -343,11 +334,11 @@ pub(crate) fn element_path(alloc: Global, path: &str, index: usize) -> Result<St
 pub(crate) fn joined(alloc: Global, path: &str, step: &str) -> Result<String, AllocError>
     ensures { IfOk result (λ text. string_bytes text ≡ joined path.now step.now) }
 {
-    if path.is_empty() {
-        return String::from_str(alloc, step);
-    }
     if step.is_empty() {
         return String::from_str(alloc, path);
+    }
+    if path.is_empty() {
+        return String::from_str(alloc, step);
     }
     format!(in alloc; "{path}.{step}")
 }

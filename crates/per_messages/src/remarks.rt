@@ -6,7 +6,8 @@ ghost use Rattle.per_messages.specs.Remarks.{Adds, added_values, chosen_of, elem
 ghost use Rattle.per_messages.specs.Remarks.{of_field, of_fields, of_list, of_open, of_record, of_type, remarks_at};
 ghost use Rattle.per_messages.specs.Remarks.{told};
 
-use crate::departures::{element_path, joined, push_criticality, push_on_all, root_values, set_at};
+use crate::departures::{element_path, joined, push_criticality, push_on_all, root_values};
+use per_dynamic::rows::{component_at, set_at};
 use rasn_dynamic::types::{Choice, Component, Kind, ObjectSet, Record, Types, kind_within};
 use rasn_dynamic::values::Value;
 use rasn_schema::items::Place;
@@ -327,13 +328,6 @@ fn push_choice(
         }
         None => Ok(()),
     }
-}
-
-/// The component at an index.
-fn component_at(components: &[Component], index: usize) -> Option<&Component>
-    ensures { option_map (λ c. c.now) result ≡ slice_get components.now index }
-{
-    components.get(index)
 }
 
 /// The elements of a SEQUENCE OF or a SET OF.

@@ -62,7 +62,7 @@ pub enum DecodeErrorKind {
     #[error("{0} octets are left over")]
     UnexpectedExtraData(Count),
 
-    /// An optional part or an addition was asked for out of turn, or was left unread.
+    /// A part was asked for out of turn, left unread or one too many, or a scope was closed within an open list.
     #[error("a part was read out of turn")]
     MissingTag,
 

@@ -1,13 +1,15 @@
-//! Records and a CHOICE that are closed before all of their components came, or behind too many, over any encoder.
+//! Records and a CHOICE that are closed before all of their components came, or behind too many, over any encoder and
+//! any decoder.
 
-use crate::calls::{Part, encoding_of};
-use crate::expected::{expect_octets, expect_unwritten};
+use crate::calls::{Part, encoding_of, unaligned};
+use crate::expected::{expect_octets, expect_unread, expect_unwritten};
 use per_enc::{EncodeError, EncodeErrorKind, EncoderOptions};
+use per_read::error::{DecodeError, DecodeErrorKind};
 use per_samples_a::pair::Pair;
 use per_samples_b::alt1::Alt1;
-use rasn_below::codec::Encoder as AnyEncoder;
+use rasn_below::codec::{Decoder as AnyDecoder, Encoder as AnyEncoder};
 use rasn_below::types::{Identifier, Tag};
-use rasn_below::{AsnType, context_tag};
+use rasn_below::{AsnType, Constraints, context_tag};
 use std::alloc::Global;
 
 const NONE: Identifier = Identifier::EMPTY;
@@ -68,4 +70,73 @@ fn writes_neither_fewer_nor_more(rt: HostRuntime) {
         let refused = written_of(rt.alloc(), &InChoice(count)).err();
         expect_unwritten(&rt, refused, EncodeErrorKind::OutOfTurn);
     }
+}
+
+/// Reads so many BOOLEANs.
+fn take_truths<D: AnyDecoder>(decoder: &mut D, count: usize) -> Result<(), D::Error> {
+    for _ in 0..count {
+        decoder.decode_bool(Tag::BOOL)?;
+    }
+    Ok(())
+}
+
+/// Reads a record of two components as one of so many.
+fn take_pair<D: AnyDecoder>(decoder: &mut D, count: usize) -> Result<(), D::Error> {
+    let scope = decoder.open_sequence::<Pair>(Pair::TAG)?;
+    take_truths(decoder, count)?;
+    decoder.close_sequence(scope)
+}
+
+/// Reads CHOICE { a BOOLEAN, ... } as one of so many values.
+fn take_choice<D: AnyDecoder>(decoder: &mut D, count: usize) -> Result<(), D::Error> {
+    let opened = decoder.open_choice::<Alt1>()?;
+    take_truths(decoder, count)?;
+    decoder.close_choice(opened.1)
+}
+
+/// Closes a record within a list that was opened in it.
+fn leave_list<D: AnyDecoder>(decoder: &mut D) -> Result<(), D::Error> {
+    let scope = decoder.open_sequence::<Pair>(Pair::TAG)?;
+    drop(decoder.open_list(Tag::SEQUENCE, &Constraints::NONE)?);
+    decoder.close_sequence(scope)
+}
+
+/// Why a record isn't read as one of so many components.
+fn refusal_of_pair(alloc: Global, count: usize) -> Option<DecodeError> {
+    take_pair(&mut unaligned(alloc, &[0xc0]), count).err()
+}
+
+/// Why a CHOICE isn't read as one of so many values.
+fn refusal_of_choice(alloc: Global, count: usize) -> Option<DecodeError> {
+    take_choice(&mut unaligned(alloc, &[0x40]), count).err()
+}
+
+#[test]
+fn reads_as_many_components_as_there_are(rt: HostRuntime) {
+    assert!(rt; refusal_of_pair(rt.alloc(), 2).is_none());
+    assert!(rt; refusal_of_choice(rt.alloc(), 1).is_none());
+}
+
+#[test]
+fn reads_neither_fewer_nor_more(rt: HostRuntime) {
+    for count in [0, 1, 3] {
+        expect_unread(
+            &rt,
+            refusal_of_pair(rt.alloc(), count),
+            DecodeErrorKind::MissingTag,
+        );
+    }
+    for count in [0, 2] {
+        expect_unread(
+            &rt,
+            refusal_of_choice(rt.alloc(), count),
+            DecodeErrorKind::MissingTag,
+        );
+    }
+}
+
+#[test]
+fn closes_no_record_within_an_open_list(rt: HostRuntime) {
+    let refused = leave_list(&mut unaligned(rt.alloc(), &[0x02, 0x00, 0x00])).err();
+    expect_unread(&rt, refused, DecodeErrorKind::MissingTag);
 }

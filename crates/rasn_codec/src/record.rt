@@ -37,12 +37,12 @@ impl<T: Record> EncodeKind<T> for SequenceKind {
 
 impl<T: Record> DecodeKind<T> for SequenceKind {
     fn decode_value<D: Decoder>(decoder: &mut D, tag: Tag) -> Result<T, D::Error> {
-        let outside = decoder.open_sequence::<T>(tag)?;
+        let outside = decoder.open_fields::<T>(tag)?;
         let decoded = T::decode_components(decoder);
         if decoded.is_err() {
             return decoded;
         }
-        decoder.close_sequence(outside)?;
+        decoder.close_fields::<T>(outside)?;
         decoded
     }
 }

@@ -31,7 +31,7 @@ use std::alloc::Global;
 /// How deep arrays and objects may nest.
 const MOST_LEVELS: usize = 128;
 /// How many octets of a text there is room for at first.
-const FIRST_ROOM: usize = 1024;
+const FIRST_ROOM: usize = 4096;
 
 /// A value as JSON in UTF-8, without white space, by the type at a place of a table. Members are in the order of the
 /// type's components; one that is absent, or whose value is the default, isn't there.

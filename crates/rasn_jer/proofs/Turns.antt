@@ -5,7 +5,8 @@ use Rattle.rasn_types.specs.Values.{Value}
 use Rattle.rasn_schema.specs.Schemas.{count, Order, Parts, Schema}
 use Rattle.rasn_traits.specs.Lists.{Mistimed}
 use Rattle.rasn_traits.specs.Scopes.{PresentsFields}
-use Rattle.rasn_traits.specs.Turns.{Amount, amount_of, Came, came_added, came_bit, came_nothing, came_skipped, came_value, no_amount, one_value, RefusesOther}
+use Rattle.rasn_traits.specs.Amounts.{Amount, amount_of, no_amount, one_value}
+use Rattle.rasn_traits.specs.Turns.{Came, came_added, came_bit, came_nothing, came_skipped, came_value, RefusesOther}
 use Rattle.rasn_traits.proofs.Turns.{fields_came, same_amount}
 use Rattle.rasn_jer.proofs.Refusing.{Inside}
 use Rattle.rasn_jer.specs.Places.{are_done, behind, fewer, inside, is_complete, is_complete_of, is_done, is_full, is_full_of, past_added, past_bit, past_root, Place, Rest, State, unfailed_at, with_value}

@@ -15,8 +15,9 @@ use Rattle.per_core.proofs.Took.{took_agree}
 use Rattle.per_core.proofs.Laws.{one_value, one_front}
 use Rattle.per_core.proofs.Filling.{fills_read, fills_back}
 use Rattle.per_decoding.specs.Laws.Spelled.{spelled}
-use Rattle.per_decoding.specs.State.{State, Options, Spells, from_octet, with_bits, fresh as from_input}
-use Rattle.per_decoding.specs.Faults.{Fault, refusal}
+use Rattle.per_decoding.specs.Rules.{decoder_rules}
+use Rattle.per_decoding.specs.State.{State, Options, from_octet, with_bits, fresh as from_input}
+use Rattle.per_decoding.specs.Faults.{refusal}
 use Rattle.per_read.specs.declared.error.DecodeError.{DecodeError}
 use Rattle.per_read.specs.declared.error.DecodeErrorKind.TheVariants.{OutOfMemory}
 use Rattle.rasn_per.specs.Complete.{reading, basically, AreReadBy, AreUnreadBy, BeginWith, BeginWithNone}
@@ -56,67 +57,67 @@ module _ (a : Codec) (strict : Bool) (schema : ℕ → Schema) (octets : List �
   pub so : (end : Bits → ℕ → Type 0) (t : State) (b : Bits) → Ended end t b → end t.bits (length (unpack octets))
   so end t b h = subst (λ z. end t.bits z) (h.total_is ∙ ap length h.all) (subst (λ z. end z h.total) h.left_is h.ends)
 
-  pub decoded : (v : Value) (s t : State) (b : Bits) → s ≡ fresh a strict octets → AreOctets octets → Spells (schema s.levels) s v t → Ended (Ends strict) t b → AreReadBy (reading strict (variant_of a)) schema v octets
+  pub decoded : (v : Value) (s t : State) (b : Bits) → s ≡ fresh a strict octets → AreOctets octets → decoder_rules.spells (schema s.levels) s v t → Ended (Ends strict) t b → AreReadBy (reading strict (variant_of a)) schema v octets
   decoded v s t b e o h d = record { are_read = r; only = λ w x. one_value (reading strict (variant_of a)) (schema 128) w v octets x r }
     where
       r : fills (reading strict (variant_of a)) (schema 128) v octets
-      r = fills_read (reading strict (variant_of a)) (schema 128) v octets t.bits o (subst (λ z. Spells (schema z.levels) z v t) e h).took (so (Ends strict) t b d)
+      r = fills_read (reading strict (variant_of a)) (schema 128) v octets t.bits o (subst (λ z. decoder_rules.spells (schema z.levels) z v t) e h).took (so (Ends strict) t b d)
 
   -- where the decoder reads nothing, the octets are read as nothing
-  unread : ((v : Value) (t : State) → Spells (schema 128) (fresh a strict octets) v t → ⊥) → AreUnreadBy (reading strict (variant_of a)) schema octets
+  unread : ((v : Value) (t : State) → decoder_rules.spells (schema 128) (fresh a strict octets) v t → ⊥) → AreUnreadBy (reading strict (variant_of a)) schema octets
   unread none v x =
       let k = fills_back (reading strict (variant_of a)) (schema 128) v octets x in
       none v (with_bits (fresh a strict octets) k.0) (spelled refl k.1 refl)
 
-  pub refused_so : {T : Type 0} (X : Type 0) → (((v : Value) (t : State) → Spells (schema 128) (fresh a strict octets) v t → ⊥) → X) → (result : Result T DecodeError) (f : DecodeError) (s : State)
+  pub refused_so : {T : Type 0} (X : Type 0) → (((v : Value) (t : State) → decoder_rules.spells (schema 128) (fresh a strict octets) v t → ⊥) → X) → (result : Result T DecodeError) (f : DecodeError) (s : State)
       → s ≡ fresh a strict octets → result ≡ Err f
-      → ((f ≡ refusal OutOfMemory s) ⊎ Refuses (Spells (schema s.levels)) (Fault (schema s.levels)) f s) → IfErr result (λ e. e.kind ≢ OutOfMemory → X)
+      → ((f ≡ refusal OutOfMemory s) ⊎ Refuses (decoder_rules.spells (schema s.levels)) (decoder_rules.fault (schema s.levels)) f s) → IfErr result (λ e. e.kind ≢ OutOfMemory → X)
   refused_so X so result f s e g h = rw g (λ n. go n h)
     where
-      go : f.kind ≢ OutOfMemory → ((f ≡ refusal OutOfMemory s) ⊎ Refuses (Spells (schema s.levels)) (Fault (schema s.levels)) f s) → X
+      go : f.kind ≢ OutOfMemory → ((f ≡ refusal OutOfMemory s) ⊎ Refuses (decoder_rules.spells (schema s.levels)) (decoder_rules.fault (schema s.levels)) f s) → X
       go n (inl m) = absurd (n (ap (λ (z : DecodeError). z.kind) m))
-      go n (inr r) = so (λ v t k. (subst (λ z. (v : Value) (t : State) → Spells (schema z.levels) z v t → ⊥) e r.nothing) v t k)
+      go n (inr r) = so (λ v t k. (subst (λ z. (v : Value) (t : State) → decoder_rules.spells (schema z.levels) z v t → ⊥) e r.nothing) v t k)
 
   pub refused : {T : Type 0} (result : Result T DecodeError) (f : DecodeError) (s : State) → s ≡ fresh a strict octets → result ≡ Err f
-      → ((f ≡ refusal OutOfMemory s) ⊎ Refuses (Spells (schema s.levels)) (Fault (schema s.levels)) f s) → IfErr result (λ e. e.kind ≢ OutOfMemory → AreUnreadBy (reading strict (variant_of a)) schema octets)
+      → ((f ≡ refusal OutOfMemory s) ⊎ Refuses (decoder_rules.spells (schema s.levels)) (decoder_rules.fault (schema s.levels)) f s) → IfErr result (λ e. e.kind ≢ OutOfMemory → AreUnreadBy (reading strict (variant_of a)) schema octets)
   refused = refused_so (AreUnreadBy (reading strict (variant_of a)) schema octets) unread
 
   -- nor are they where what was read doesn't end so
-  pub unended : (v : Value) (s t : State) (b : Bits) → s ≡ fresh a strict octets → Spells (schema s.levels) s v t → Ended (λ l n. Ends strict l n → ⊥) t b → AreUnreadBy (reading strict (variant_of a)) schema octets
+  pub unended : (v : Value) (s t : State) (b : Bits) → s ≡ fresh a strict octets → decoder_rules.spells (schema s.levels) s v t → Ended (λ l n. Ends strict l n → ⊥) t b → AreUnreadBy (reading strict (variant_of a)) schema octets
   unended v s t b e h d w x =
       let k = fills_back (reading strict (variant_of a)) (schema 128) w octets x in
-      let g = (subst (λ z. Spells (schema z.levels) z v t) e h).took in
+      let g = (subst (λ z. decoder_rules.spells (schema z.levels) z v t) e h).took in
       let m = took_agree (one_reading (reading strict (variant_of a)) (schema 128) v w) g k.1 in
       so (λ l n. Ends strict l n → ⊥) t b d (subst (λ z. Ends strict z (length (unpack octets))) (sym m.1) k.2)
 
 module _ (a : Codec) (schema : ℕ → Schema) (octets : List ℕ) where
   -- where the decoder reads nothing, the octets begin with nothing
-  none_begun : ((v : Value) (t : State) → Spells (schema 128) (fresh a false octets) v t → ⊥) → BeginWithNone (variant_of a) schema octets
+  none_begun : ((v : Value) (t : State) → decoder_rules.spells (schema 128) (fresh a false octets) v t → ⊥) → BeginWithNone (variant_of a) schema octets
   none_begun none v rest x =
       let k = front_back (variant_of a) (schema 128) v octets rest x in
       none v (with_bits (fresh a false octets) k.0) (spelled refl k.1 refl)
 
   pub refused_front : {T : Type 0} (result : Result T DecodeError) (f : DecodeError) (s : State) → s ≡ fresh a false octets → result ≡ Err f
-      → ((f ≡ refusal OutOfMemory s) ⊎ Refuses (Spells (schema s.levels)) (Fault (schema s.levels)) f s) → IfErr result (λ e. e.kind ≢ OutOfMemory → BeginWithNone (variant_of a) schema octets)
+      → ((f ≡ refusal OutOfMemory s) ⊎ Refuses (decoder_rules.spells (schema s.levels)) (decoder_rules.fault (schema s.levels)) f s) → IfErr result (λ e. e.kind ≢ OutOfMemory → BeginWithNone (variant_of a) schema octets)
   refused_front = refused_so a false schema octets (BeginWithNone (variant_of a) schema octets) none_begun
 
   -- what was read, and the octets behind it
-  pub decoded_front : (v : Value) (s t : State) (rest : List ℕ) → s ≡ fresh a false octets → Spells (schema s.levels) s v t → IsRemainder (length t.bits) octets rest → BeginWith (variant_of a) schema v octets rest
+  pub decoded_front : (v : Value) (s t : State) (rest : List ℕ) → s ≡ fresh a false octets → decoder_rules.spells (schema s.levels) s v t → IsRemainder (length t.bits) octets rest → BeginWith (variant_of a) schema v octets rest
   decoded_front v s t rest e h d = record { are_read = r; only = λ w after x. one_front (basically (variant_of a)) (schema 128) w v octets after rest x r }
     where
       r : front (basically (variant_of a)) (schema 128) v octets rest
-      r = front_read (variant_of a) (schema 128) v octets rest t.bits (subst (λ z. Spells (schema z.levels) z v t) e h).took d
+      r = front_read (variant_of a) (schema 128) v octets rest t.bits (subst (λ z. decoder_rules.spells (schema z.levels) z v t) e h).took d
 
   -- they begin with nothing where no octets are behind what was read
-  pub unended_front : (v : Value) (s t : State) → s ≡ fresh a false octets → Spells (schema s.levels) s v t → ((rest : List ℕ) → IsRemainder (length t.bits) octets rest → ⊥) → BeginWithNone (variant_of a) schema octets
+  pub unended_front : (v : Value) (s t : State) → s ≡ fresh a false octets → decoder_rules.spells (schema s.levels) s v t → ((rest : List ℕ) → IsRemainder (length t.bits) octets rest → ⊥) → BeginWithNone (variant_of a) schema octets
   unended_front v s t e h none w rest x =
       let k = front_back (variant_of a) (schema 128) w octets rest x in
-      let g = (subst (λ z. Spells (schema z.levels) z v t) e h).took in
+      let g = (subst (λ z. decoder_rules.spells (schema z.levels) z v t) e h).took in
       let m = took_agree (one_reading (basically (variant_of a)) (schema 128) v w) g k.1 in
       none rest (subst (λ z. IsRemainder (length z) octets rest) (sym m.1) k.2)
 
   -- as many bits are left as the octets have, at most
-  pub left_within : (v : Value) (s t : State) → s ≡ fresh a false octets → Spells (schema s.levels) s v t → length t.bits ≤ 8 * length octets
+  pub left_within : (v : Value) (s t : State) → s ≡ fresh a false octets → decoder_rules.spells (schema s.levels) s v t → length t.bits ≤ 8 * length octets
   left_within v s t e h =
-      let g = (subst (λ z. Spells (schema z.levels) z v t) e h).took in
+      let g = (subst (λ z. decoder_rules.spells (schema z.levels) z v t) e h).took in
       omega (arith, ap length g.joins, length-append g.front t.bits, length-unpack octets)

@@ -412,9 +412,9 @@ fn record_of<
     ensures { Reads D.rules (sequence_at C.components.0 (D.rules.levels decoder.old))
         (λ values. sequence_value (P.contents values)) decoder.old result decoder.new }
 {
-    let outside = decoder.open_sequence::<C>(tag)?;
+    let outside = decoder.open_fields::<C>(tag)?;
     let values = cells.decode_cells::<D, F>(decoder, held)?;
-    decoder.close_sequence(outside)?;
+    decoder.close_fields::<C>(outside)?;
     Ok(values)
 }
 

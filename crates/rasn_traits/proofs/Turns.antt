@@ -6,7 +6,8 @@ use Rattle.rasn_schema.specs.Schemas.{count, default, group, no_parts, optional,
 use Rattle.rasn_traits.specs.Additions.{PresentsAddition, presents_added, presents_skipped, PresentsAdditions, presents_no_more, presents_further}
 use Rattle.rasn_traits.specs.Calls.{EncoderRules}
 use Rattle.rasn_traits.specs.Scopes.{PresentsPart, presents_required, presents_there, presents_left_out, PresentsParts, presents_end, presents_next, PresentsFields, presents_fields}
-use Rattle.rasn_traits.specs.Turns.{Amount, amount_of, Came, came_added, came_bit, came_nothing, came_skipped, came_value, no_amount, with_addition, with_bit, with_component}
+use Rattle.rasn_traits.specs.Amounts.{Amount, amount_of, no_amount, with_addition, with_bit, with_component}
+use Rattle.rasn_traits.specs.Turns.{Came, came_added, came_bit, came_nothing, came_skipped, came_value}
 
 -- a part more, with its presence bit, where it has one
 abbrev pub with_part : Presence → Amount → Amount

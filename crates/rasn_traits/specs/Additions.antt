@@ -8,7 +8,8 @@ use Rattle.rasn_schema.specs.Records.{AtParts}
 use Rattle.rasn_schema.specs.AtDepths.{AtDepths}
 use Rattle.rasn_traits.specs.Calls.{Behaves, EncoderRules}
 use Rattle.rasn_traits.specs.Presences.{presence_bit}
-use Rattle.rasn_traits.specs.Turns.{one_value, RefusesOther}
+use Rattle.rasn_traits.specs.Amounts.{one_value}
+use Rattle.rasn_traits.specs.Turns.{RefusesOther}
 
 -- a record of these root components, with or without an extension marker, and these additions behind it
 abbrev pub extended : Parts → Bool → Parts → Schema

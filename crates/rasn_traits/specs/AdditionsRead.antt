@@ -1,9 +1,11 @@
 -- What additions owe that a decoder reads behind the extension marker of a record (ITU-T X.691, 19.7 to 19.9), stated
 -- over any codec's relations.
 use Rattle.std.specs.Prelude.{◌≡◌, ℕ, ◌⊎◌, true, false, Result, Ok, Err, OnErr, List, [], ◌∷◌, Option, Some, None}
+use Rattle.std.specs.Prelude.{IfOk, IfSome}
 use Rattle.rasn_types.specs.Values.{Value}
 use Rattle.rasn_schema.specs.Fields.{field_tag}
 use Rattle.rasn_schema.specs.Schemas.{TagTree, Presence, required, Schema, Parts, no_parts, part}
+use Rattle.rasn_traits.specs.Amounts.{one_value}
 use Rattle.rasn_traits.specs.Calls.{Behaves, DecoderRules, Answers}
 use Rattle.rasn_traits.specs.Presences.{left_out}
 
@@ -70,10 +72,11 @@ AdditionOpenedToRead rules opens s (Ok (Some o)) i = opens s o i
 AdditionOpenedToRead rules opens s (Ok None) t = (c : Schema) → rules.adds c s None t
 AdditionOpenedToRead rules opens s (Err e) t = rules.memory e s ⊎ ReadsNoAddition rules e s
 
--- A call that opens the open type of the next addition to read.
+-- A call that opens the open type of the next addition to read, where it is there: one value is to come.
 pub record OpensAdditionToRead {E S O : Type 0} (rules : DecoderRules E S) (opens : S → O → S → Type 0) (s : S)
     (result : Result (Option O) E) (t : S) : Type 0 where
   pub law : AdditionOpenedToRead rules opens s result t
+  pub counts : IfOk result (λ r. IfSome r (λ o. rules.awaits one_value t))
   pub behaves : Behaves rules.already rules.failed rules.codec s result t
 
 -- What holds of a decoder's open types. An addition is the value in its open type, up to its end: what is read there is

@@ -6,6 +6,7 @@ use Rattle.rasn_schema.specs.AtDepths.{AtDepths}
 use Rattle.rasn_schema.specs.Schemas.{Schema, Tag}
 use Rattle.rasn_schema.specs.Lawful.{is_group_schema}
 use Rattle.rasn_schema.specs.Normal.{normal, is_vacant}
+use Rattle.rasn_traits.specs.Amounts.{Amount}
 
 -- of a call that takes no memory: no error says that there was none
 abbrev pub takes_none : {E X : Type 0} → E → X → Type 0
@@ -114,6 +115,12 @@ pub record DecoderRules (E S : Type 0) : Type 1 where
   pub unmarked : E → S → Type 0
   -- the fault that an error names stands in the next addition, as a schema reads it
   pub misadds : Schema → E → S → Type 0
+  -- so much is still to come in the open scope, which counts what comes
+  pub awaits : Amount → S → Type 0
+  -- a list that was opened at the first state is still open at the second
+  pub amidst : S → S → Type 0
+  -- an error that says that a call came out of turn
+  pub untimely : E → S → Type 0
   -- an error that says that a required addition isn't there, and names its tag
   pub lacking : Tag → E → S → Type 0
   -- an error that says that memory ran out

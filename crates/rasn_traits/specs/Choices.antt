@@ -1,7 +1,7 @@
 -- What a call owes that writes or reads a choice (X.680 29), and what stands in it, stated over any codec's relations.
 -- `choice` is the choice by the number of levels of its alternatives, `vs` and `xs` are its variants before an
 -- extension marker and behind one, and `d` and `k` are the list and the place there in which an alternative stands.
-use Rattle.std.specs.Prelude.{◌≡◌, ℕ, suc, ◌≤◌, ◌⊎◌, true, false, Result, Ok, Err, OnErr, IsErrAnd, IfSome}
+use Rattle.std.specs.Prelude.{◌≡◌, ℕ, suc, ◌≤◌, ◌⊎◌, true, false, Result, Ok, Err, OnErr, IsErrAnd, IfOk, IfSome}
 use Rattle.std.specs.Prelude.{List, Option, Some, None}
 use Rattle.rasn_types.specs.Values.{Value, alternative, Side, root, added}
 use Rattle.rasn_types.specs.declared.types.Tag.{Tag}
@@ -15,7 +15,8 @@ use Rattle.rasn_schema.specs.Normal.{normal}
 use Rattle.rasn_schema.specs.AtDepths.{AtDepths}
 use Rattle.rasn_traits.specs.Calls.{Behaves, EncoderRules, Encodes, Written, DecoderRules, Refuses, Answers}
 use Rattle.rasn_traits.specs.Scopes.{KeepsCodec}
-use Rattle.rasn_traits.specs.Turns.{one_value, RefusesOther}
+use Rattle.rasn_traits.specs.Amounts.{one_value}
+use Rattle.rasn_traits.specs.Turns.{RefusesOther}
 
 -- a fact on the schema of the alternative at a place, at each unfolding that is deep enough for a value of so many
 -- levels
@@ -177,11 +178,13 @@ OpenedToChoose rules opens choice vs xs s (Ok r) i = IsChosen rules opens choice
 OpenedToChoose rules opens choice vs xs s (Err e) i =
     let c = one_level_in choice (rules.levels s) in rules.memory e s ⊎ Refuses (rules.spells c) (rules.fault c) e s
 
--- A call that reads the index of a choice, and opens the open type of an alternative behind an extension marker.
+-- A call that reads the index of a choice, and opens the open type of an alternative behind an extension marker: one
+-- value is to come.
 pub record OpensToChoose {E S O : Type 0} (rules : DecoderRules E S) (opens : Schema → Side → ℕ → S → O → S → Type 0)
     (choice : ℕ → Schema) (vs : List VariantShape) (xs : Option (List VariantShape)) (s : S)
     (result : Result (Tag × O) E) (t : S) : Type 0 where
   pub law : OpenedToChoose rules opens choice vs xs s result t
+  pub counts : IfOk result (λ r. rules.awaits one_value t)
   pub behaves : Behaves rules.already rules.failed rules.codec s result t
 
 -- What holds of a decoder's choices. A choice is the alternative behind its index, up to the end of its open type: what

@@ -1,8 +1,9 @@
 -- What a call owes that writes or reads a value within octets that contain it (ITU-T X.682, 11; X.691, 11.2), stated
 -- over any codec's relations.
-use Rattle.std.specs.Prelude.{◌≡◌, ◌⊎◌, false, Result, Ok, Err}
+use Rattle.std.specs.Prelude.{◌≡◌, ◌⊎◌, false, Result, Ok, Err, IfOk}
 use Rattle.rasn_types.specs.Values.{Value}
 use Rattle.rasn_schema.specs.Schemas.{Schema}
+use Rattle.rasn_traits.specs.Amounts.{one_value}
 use Rattle.rasn_traits.specs.Calls.{Behaves, DecoderRules, EncoderRules, Refuses, Written}
 
 -- What passes out of octets that were opened at x, and inside which it is i: want of memory, and the refusal of a
@@ -38,10 +39,11 @@ OpenedContentsToRead rules opens s (Ok o) i = opens s o i
 OpenedContentsToRead rules opens s (Err e) i = rules.memory e s
     ⊎ ((c : Schema) → Refuses (rules.spells (Schema.containing c)) (rules.fault (Schema.containing c)) e s)
 
--- A call that opens octets that contain a value, to read it.
+-- A call that opens octets that contain a value, to read it: one value is to come.
 pub record OpensContentsToRead {E S O : Type 0} (rules : DecoderRules E S) (opens : S → O → S → Type 0) (s : S)
     (result : Result O E) (i : S) : Type 0 where
   pub law : OpenedContentsToRead rules opens s result i
+  pub counts : IfOk result (λ o. rules.awaits one_value i)
   pub behaves : Behaves rules.already rules.failed rules.codec s result i
 
 -- What holds of a decoder's octets that contain a value, up to their end: what is read there is what they contain, it

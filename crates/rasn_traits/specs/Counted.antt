@@ -14,6 +14,7 @@ use Rattle.rasn_schema.specs.Schemas.{count, listed, no_parts, part, Parts, Pres
 use Rattle.rasn_schema.specs.declared.items.ItemCounts.{ItemCounts}
 use Rattle.rasn_schema.specs.declared.items.Place.{Place}
 use Rattle.rasn_schema.specs.declared.items.Place.TheVariants.{Root, Added}
+use Rattle.rasn_traits.specs.Amounts.{one_value}
 use Rattle.rasn_traits.specs.Calls.{Behaves, DecoderRules, EncoderRules, Refuses, Written}
 use Rattle.rasn_traits.specs.Additions.{ClosesGroup}
 use Rattle.rasn_traits.specs.Scopes.{ClosesWritten, OpensToRead, OpensToWrite}
@@ -182,12 +183,13 @@ PlacedToRead rules opens choice s (Err e) i =
     let c = one_level_in choice (rules.levels s) in rules.memory e s ⊎ Refuses (rules.spells c) (rules.fault c) e s
 
 -- A call that reads the index of any choice of so many alternatives, and opens the open type of one behind the
--- extension marker.
+-- extension marker: one value is to come.
 pub record OpensPlacedToRead {E S O : Type 0} (rules : DecoderRules E S)
     (opens : Schema → Side → ℕ → S → O → S → Type 0) (alternatives : ItemCounts) (s : S)
     (result : Result (Place × O) E) (t : S) : Type 0 where
   pub opened : (choice : ℕ → Schema) → ((n : ℕ) → IsChoiceOf alternatives (choice n))
       → PlacedToRead rules opens choice s result t
+  pub counts : IfOk result (λ r. rules.awaits one_value t)
   pub place : IfOk result (λ r. stands_in alternatives r.0 ≡ true)
   pub deeper : IfOk result (λ r. rules.levels s ≡ suc (rules.levels t))
   pub behaves : Behaves rules.already rules.failed rules.codec s result t

@@ -1,6 +1,7 @@
 pub mod Absent
 pub mod Additions
 pub mod AdditionsRead
+pub mod Amounts
 pub mod Bags
 pub mod BagsRead
 pub mod Boxes
@@ -17,3 +18,4 @@ pub mod Optionals
 pub mod Presences
 pub mod Reals
 pub mod Turns
+pub mod TurnsRead

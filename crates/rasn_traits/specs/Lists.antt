@@ -125,3 +125,8 @@ pub record ReadsNext {E S L : Type 0} (rules : DecoderRules E S) (amid : AmidRea
       → ElementFound rules amid e size mark s vs result m j
   pub falls : IfOk result (λ follows. follows ≡ true → most m < most l)
   pub behaves : Behaves rules.already rules.failed rules.codec i result j
+
+-- What holds of a decoder's lists: one that is open is still open.
+pub record ListsWell {E S L : Type 0} (rules : DecoderRules E S) (amid : AmidRead S L) : Type 0 where
+  pub still : (e : Schema) (size : Size) (mark : Bool) (s : S) (vs : List Value) (l : L) (i : S)
+      → amid e size mark s vs l i → rules.amidst s i

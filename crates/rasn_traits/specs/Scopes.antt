@@ -1,7 +1,7 @@
 -- What stands in a scope, component after component, and what opening and closing one owe, stated over any codec's
 -- relations.
 use Rattle.std.specs.Prelude.{◌≡◌, ℕ, zero, suc, max, ◌≤◌, ◌⊎◌, Bool, true, false, Result, Ok, Err, OnErr, IsErr}
-use Rattle.std.specs.Prelude.{IsErrAnd, List, [], ◌∷◌, length, Option, Some}
+use Rattle.std.specs.Prelude.{IfOk, IsErrAnd, List, [], ◌∷◌, length, Option, Some}
 use Rattle.rasn_types.specs.Values.{Value}
 use Rattle.rasn_schema.specs.Schemas.{TagTree, Presence, required, listed, by_tag, count, Order, Schema, Parts}
 use Rattle.rasn_schema.specs.Schemas.{no_parts, part}
@@ -11,7 +11,9 @@ use Rattle.rasn_traits.specs.Calls.{Behaves, EncoderRules, Written, DecoderRules
 use Rattle.rasn_traits.specs.Additions.{extended, PresentsAdditions, RefusesAdditions}
 use Rattle.rasn_traits.specs.AdditionsRead.{ReadsAdditions, FaultyAdditions}
 use Rattle.rasn_traits.specs.Presences.{presence_bit, left_out}
-use Rattle.rasn_traits.specs.Turns.{amount_of, RefusesOther}
+use Rattle.rasn_traits.specs.Amounts.{Amount, amount_of, one_value}
+use Rattle.rasn_traits.specs.Turns.{RefusesOther}
+use Rattle.rasn_traits.specs.TurnsRead.{RefusesInList, RefusesOtherRead}
 use Rattle.rasn_schema.specs.Records.{record_at, record_value, AtParts}
 
 -- a record of these root components, without an extension marker
@@ -315,11 +317,42 @@ ClosedRead rules unended closes o s (Ok u) t = closes s o t
 ClosedRead {S = S} rules unended closes o s (Err e) t = rules.memory e s
     ⊎ (((u : S) → closes s o u → ⊥) × unended o e s)
 
--- A call that closes one.
+-- A call that opens a record to read, which counts what comes in it: each component, a presence bit of each that may be
+-- absent, and each addition.
+pub record OpensInTurn {E S O : Type 0} (rules : DecoderRules E S) (opens : Schema → S → O → S → Type 0)
+    (parts : ℕ → Parts) (marker : Bool) (additions : ℕ → Parts) (s : S) (result : Result O E) (t : S) : Type 0 where
+  pub law : OpenedToRead rules opens parts marker additions s result t
+  pub counts : IfOk result (λ o. (n : ℕ) → rules.awaits (amount_of (parts n) (additions n)) t)
+  pub behaves : Behaves rules.already rules.failed rules.codec s result t
+
+-- A call that closes a record. Where what comes in it is counted, another amount than is due is refused, and so is a
+-- list that is still open.
 pub record ClosesRead {E S O : Type 0} (rules : DecoderRules E S) (unended : O → E → S → Type 0)
     (closes : S → O → S → Type 0) (o : O) (s : S) (result : Result (Unit {0}) E) (t : S) : Type 0 where
   pub law : rules.failed s ≡ false → ClosedRead rules unended closes o s result t
+  pub untimely : (due : Amount) → RefusesOtherRead rules due s result
+  pub in_list : RefusesInList rules s result
   pub behaves : Behaves rules.already rules.failed rules.codec s result t
+
+-- A call that closes what holds one value. Where what comes in it is counted, all but one value are refused, and so is
+-- a list that is still open.
+pub record ClosesOneRead {E S O : Type 0} (rules : DecoderRules E S) (unended : O → E → S → Type 0)
+    (closes : S → O → S → Type 0) (o : O) (s : S) (result : Result (Unit {0}) E) (t : S) : Type 0 where
+  pub law : rules.failed s ≡ false → ClosedRead rules unended closes o s result t
+  pub untimely : RefusesOtherRead rules one_value s result
+  pub in_list : RefusesInList rules s result
+  pub behaves : Behaves rules.already rules.failed rules.codec s result t
+
+-- A record was opened at s, and all its components were read as they are listed.
+pub record IsReadInTurn {E S O : Type 0} (rules : DecoderRules E S) (opens : Schema → S → O → S → Type 0)
+    (parts : ℕ → Parts) (marker : Bool) (additions : ℕ → Parts) (o : O) (j : S) : Type 0 where
+  pub before : S
+  pub inside : S
+  pub levels : ℕ
+  pub root : List (Option Value)
+  pub added : List (Option Value)
+  pub opened : opens (extended (parts levels) marker (additions levels)) before o inside
+  pub read : ReadsFields rules (parts levels) (additions levels) inside root added j
 
 -- What a function owes that is lent a decoder, with `outer` levels before the scope, to read components.
 pub record ReadsScope {E S T : Type 0} (rules : DecoderRules E S) (parts additions : ℕ → Parts)

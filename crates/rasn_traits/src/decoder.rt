@@ -22,9 +22,10 @@ ghost use Rattle.rasn_traits.specs.Choices.{ChoicesWell, OpensToChoose};
 ghost use Rattle.rasn_traits.specs.Contents.{ContentsWell, OpensContentsToRead};
 ghost use Rattle.rasn_traits.specs.Errors.{ErrorsWell};
 ghost use Rattle.rasn_traits.specs.Reals.{ReadsNoReal};
-ghost use Rattle.rasn_traits.specs.Lists.{AmidRead, OpensListToRead, ReadsNext};
+ghost use Rattle.rasn_traits.specs.Lists.{AmidRead, ListsWell, OpensListToRead, ReadsNext};
 ghost use Rattle.rasn_traits.specs.Moments.{date_at, identifier_value};
-ghost use Rattle.rasn_traits.specs.Scopes.{OpensToRead, ClosesRead, ReadsAround, ScopesWell};
+ghost use Rattle.rasn_traits.specs.Scopes.{ClosesOneRead, ClosesRead, IsReadInTurn, OpensInTurn, OpensToRead};
+ghost use Rattle.rasn_traits.specs.Scopes.{ReadsAround, ScopesWell};
 ghost use Rattle.rasn_traits.specs.Sets.{ReadsSet, SetsWell};
 
 use crate::de;
@@ -255,17 +256,29 @@ pub trait Decoder: Sized {
     /// components, in the order of `FIELDS`, and then its additions, in the order of `EXTENDED_FIELDS`. At no level
     /// left it refuses.
     fn open_sequence<C: Constructed>(&mut self, tag: Tag) -> Result<Self::Scope, Self::Error>
+        ensures { OpensInTurn rules opens C.parts C.IS_EXTENSIBLE C.additions self.old result self.new };
+
+    /// Closes a SEQUENCE, skips the additions that its type doesn't know (X.691 19.9), and gives its level back. Where
+    /// a component, a presence bit or an addition wasn't read, or one too many, and where a list is still open, it is
+    /// refused.
+    fn close_sequence(&mut self, scope: Self::Scope) -> Result<(), Self::Error>
+        ensures { ClosesRead rules unended closes scope self.old result self.new };
+
+    /// Opens a SEQUENCE (X.691 19), as `open_sequence` does, of which all components are read before `close_fields`, so
+    /// that they needn't be counted.
+    fn open_fields<C: Constructed>(&mut self, tag: Tag) -> Result<Self::Scope, Self::Error>
         ensures { OpensToRead rules opens C.parts C.IS_EXTENSIBLE C.additions self.old result self.new };
 
-    /// Closes a SEQUENCE, skips the additions that its type doesn't know (X.691 19.9), and gives its level back.
-    fn close_sequence(&mut self, scope: Self::Scope) -> Result<(), Self::Error>
+    /// Closes a SEQUENCE, all of whose components were read as they are listed, as `close_sequence` does.
+    fn close_fields<C: Constructed>(&mut self, scope: Self::Scope) -> Result<(), Self::Error>
+        requires in_turn { IsReadInTurn rules opens C.parts C.IS_EXTENSIBLE C.additions scope self.old }
         ensures { ClosesRead rules unended closes scope self.old result self.new };
 
     /// Opens a SET (X.691 21), which takes a level: the calls from here to `close_sequence` read its root components,
     /// in ascending order of their smallest tags, and then its additions, in the order of `EXTENDED_FIELDS`. At no
     /// level left it refuses.
     fn open_set<C: Constructed>(&mut self, tag: Tag) -> Result<Self::Scope, Self::Error>
-        ensures { OpensToRead rules opens (canonised_at C.parts) C.IS_EXTENSIBLE C.additions
+        ensures { OpensInTurn rules opens (canonised_at C.parts) C.IS_EXTENSIBLE C.additions
             self.old result self.new };
 
     /// Reads the index of a CHOICE (X.691 23), which takes a level, and opens the open type of an alternative behind
@@ -275,19 +288,20 @@ pub trait Decoder: Sized {
         ensures { OpensToChoose rules opens_choice (choices_of C.alternatives C.EXTENDED_VARIANTS C.added) C.VARIANTS
             C.EXTENDED_VARIANTS self.old result self.new };
 
-    /// Closes a CHOICE of which the alternative was read, and gives its level back. An open type with whole octets left
-    /// over is refused.
+    /// Closes a CHOICE of which the alternative was read, and gives its level back. All but one value are refused, and
+    /// so is a list that is still open, and an open type with whole octets left over.
     fn close_choice(&mut self, alternative: Self::Alternative) -> Result<(), Self::Error>
-        ensures { ClosesRead rules unended_choice closes_choice alternative self.old result self.new };
+        ensures { ClosesOneRead rules unended_choice closes_choice alternative self.old result self.new };
 
     /// Opens octets that contain a value (X.682 11; X.691 11.2): the calls from here to `close_contents` read it, by
     /// itself.
     fn open_contents(&mut self, tag: Tag) -> Result<Self::Contents, Self::Error>
         ensures { OpensContentsToRead rules opens_contents self.old result self.new };
 
-    /// Closes octets of which the value that they contain was read. Whole octets that are left over are refused.
+    /// Closes octets of which the value that they contain was read. All but one value are refused, and so is a list
+    /// that is still open, and whole octets that are left over.
     fn close_contents(&mut self, contents: Self::Contents) -> Result<(), Self::Error>
-        ensures { ClosesRead rules unended_contents closes_contents contents self.old result self.new };
+        ensures { ClosesOneRead rules unended_contents closes_contents contents self.old result self.new };
 
     /// Reads the presence bit of the next component of the open SEQUENCE that has one (X.691 19.2). Takes no memory.
     fn next_presence(&mut self) -> Result<bool, Self::Error>
@@ -299,9 +313,10 @@ pub trait Decoder: Sized {
     fn open_addition(&mut self) -> Result<Option<Self::Addition>, Self::Error>
         ensures { OpensAdditionToRead rules opens_addition self.old result self.new };
 
-    /// Closes an open type of which one value was read.
+    /// Closes an open type of which one value was read. All but one value are refused, and so is a list that is still
+    /// open.
     fn close_addition(&mut self, addition: Self::Addition) -> Result<(), Self::Error>
-        ensures { ClosesRead rules unended_addition closes_addition addition self.old result self.new };
+        ensures { ClosesOneRead rules unended_addition closes_addition addition self.old result self.new };
 
     /// Opens a SEQUENCE OF under constraints (X.691 20), which takes a level: its elements follow, each behind a call
     /// of `next_element` that answers true. At no level left it refuses.
@@ -446,10 +461,10 @@ pub trait Decoder: Sized {
         ensures { Reads rules (record_at listed C.parts C.IS_EXTENSIBLE C.additions (rules.levels self.old))
             (λ values. record_value (P.contents values.0) (Q.contents values.1)) self.old result self.new }
     {
-        let outside = self.open_sequence::<C>(tag)?;
+        let outside = self.open_fields::<C>(tag)?;
         let root = parts.decode_parts(self)?;
         let added = additions.decode_additions(self)?;
-        self.close_sequence(outside)?;
+        self.close_fields::<C>(outside)?;
         Ok((root, added))
     }
 
@@ -470,6 +485,9 @@ pub trait Decoder: Sized {
 
     // What holds of each decoder's choices.
     ghost choices: { ChoicesWell rules unended_choice opens_choice closes_choice };
+
+    // What holds of each decoder's lists.
+    ghost lists: { ListsWell rules amid };
 
     // What holds of each decoder's SETs.
     ghost sets: { SetsWell rules };

@@ -18,7 +18,7 @@ use Rattle.per_decoding.specs.Additions.{Adds, ClosesAddition, OpensAddition, Ou
 use Rattle.per_decoding.specs.Faults.{Fault, IsInBits, IsInNext, IsInOpen, in_contents, at_their_end, in_open, IsOfNext}
 use Rattle.per_decoding.specs.Faults.{Misadds, UnendedAddition, refusal}
 use Rattle.per_decoding.specs.Laws.Records.{IsNew, in_bits, is_new}
-use Rattle.per_decoding.specs.Rules.{decoder_rules}
+use Rattle.per_decoding.specs.Rules.{plain_rules}
 use Rattle.per_decoding.specs.Laws.Spelled.{added, spelled}
 use Rattle.per_decoding.specs.State.{State, Spells, settings_of, with_bits, Source}
 use Rattle.per_decoding.specs.Laws.Tails.{asks_agree}
@@ -122,7 +122,7 @@ module _ {s i : State} {w : OutsideAddition} (a : OpensAddition s w i) where
 -- An addition is what stands in its open type, whatever a decoder keeps of what waits outside: of it and of the bits in
 -- which those left stand, it is told what waits.
 pub additions_well : {O : Type 0} (outside : Source → O → OutsideAddition)
-    → AdditionsWell decoder_rules (λ o e s. UnendedAddition (outside s.source o) e s)
+    → AdditionsWell plain_rules (λ o e s. UnendedAddition (outside s.source o) e s)
     (λ s o i. OpensAddition s (outside i.source o) i) (λ s o t. ClosesAddition s (outside s.source o) t)
 additions_well outside = record {
   inside = λ s o i a. unfailed a;

@@ -14,7 +14,7 @@ use Rattle.per_core.proofs.Took.{took_map}
 use Rattle.per_read.specs.declared.error.DecodeErrorKind.{DecodeErrorKind}
 use Rattle.per_read.specs.declared.error.DecodeErrorKind.TheVariants.{AlreadyFailed}
 use Rattle.per_decoding.specs.Faults.{IsInBits, IsOf, at_once, in_element, in_member}
-use Rattle.per_decoding.specs.Rules.{decoder_rules}
+use Rattle.per_decoding.specs.Rules.{plain_rules}
 use Rattle.per_decoding.specs.Laws.Spelled.{spelled}
 use Rattle.per_decoding.specs.State.{State}
 
@@ -64,7 +64,7 @@ no_cut : (a : Settings) (v : Value) {s t : Bits} → Took (basic a Schema.cut v)
 unfolding basic_in
 no_cut a v b = b.spelled
 
-pub bags_well : BagsWell decoder_rules
+pub bags_well : BagsWell plain_rules
 bags_well = record {
   bag_read = λ e size mark s t vs r. spelled r.live (bag_took _ e size mark vs r.took) r.same;
   none = λ e size mark s no w t r.

@@ -24,7 +24,7 @@ use Rattle.per_decoding.specs.Choices.{OutsideChoice, ClosesChoice, EndsFrom, Op
 use Rattle.per_decoding.specs.Faults.{Fault, IsInBits, in_added_alternative}
 use Rattle.per_decoding.specs.Faults.{in_alternative}
 use Rattle.per_decoding.specs.Laws.Records.{in_bits, is_new, of_bits}
-use Rattle.per_decoding.specs.Rules.{decoder_rules}
+use Rattle.per_decoding.specs.Rules.{plain_rules}
 use Rattle.per_decoding.specs.Scopes.{with_outside_record}
 use Rattle.per_decoding.specs.Laws.Spelled.{spelled}
 use Rattle.per_decoding.specs.State.{State, Spells, settings_of, with_bits, Source}
@@ -316,7 +316,7 @@ module _ (ps : Parts) (marker : Bool) (qs : Parts) (d : Side) (k : ℕ) (c : Sch
       (x.same ∙ ap (λ l. with_bits s l) (sym f))
 
   back_of : (t : State) (v : Value) → Spells (choice_schema ps marker qs) s v t
-      → (j : State) × ReadsAlternative decoder_rules d k c i v j × ClosesChoice j w t
+      → (j : State) × ReadsAlternative plain_rules d k c i v j × ClosesChoice j w t
   back_of t v b =
       let q = inside_of (settings_of s) ps marker qs d k c v e h.took b.took in
       let x = go d w.contents h.stands q.v q.took in (
@@ -371,7 +371,7 @@ spells_of _ d k a h e j t v b z = absurd cc
 pub back_to : (c : Schema) (d : Side) (k : ℕ) (a : Schema) {s i : State} {w : OutsideChoice}
     (h : OpensChoice c d k s w i)
     → alternative_in c d k ≡ Some a → (t : State) (v : Value)
-    → Spells c s v t → (j : State) × ReadsAlternative decoder_rules d k a i v j × ClosesChoice j w t
+    → Spells c s v t → (j : State) × ReadsAlternative plain_rules d k a i v j × ClosesChoice j w t
 back_to (Schema.choice ps qs marker) d k a h e t v b = back_of ps marker qs d k a h e t v b
 back_to _ d k a h e t v b = absurd cc
 
@@ -392,7 +392,7 @@ level_inside c d k {i = i} {w = w} h = h.deeper ∙ ap suc (sym (alike d w.conte
 -- A choice is what stands behind its index, whatever a decoder keeps of what waits outside: of it and of the bits in
 -- which those left stand, it is told what waits.
 pub choices_well : {O : Type 0} (outside : Source → O → OutsideChoice)
-    → ChoicesWell decoder_rules (λ o e s. UnendedChoice (outside s.source o).contents e s)
+    → ChoicesWell plain_rules (λ o e s. UnendedChoice (outside s.source o).contents e s)
     (λ c d k s o i. OpensChoice c d k s (outside i.source o) i) (λ s o t. ClosesChoice s (outside s.source o) t)
 choices_well outside = record {
   inside = λ c d k s o i h. begun_unfailed c d k h;

@@ -19,7 +19,7 @@ use Rattle.per_decoding.specs.Additions.{with_outside_addition}
 use Rattle.per_decoding.specs.Faults.{Fault, IsInBits, IsInOpen, UnendedAddition, at_their_end, in_containing}
 use Rattle.per_decoding.specs.Faults.{in_contents, refusal}
 use Rattle.per_decoding.specs.Laws.Records.{IsNew, in_bits, is_new, of_bits}
-use Rattle.per_decoding.specs.Rules.{decoder_rules}
+use Rattle.per_decoding.specs.Rules.{plain_rules}
 use Rattle.per_decoding.specs.Laws.Spelled.{spelled}
 use Rattle.per_decoding.specs.State.{State, Spells, settings_of, with_bits, Source}
 
@@ -157,7 +157,7 @@ module _ (c : Schema) {s i : State} {w : OutsideAddition} (h : OpensContaining s
 -- What octets contain is what is read in them, whatever a decoder keeps of what waits outside: of it and of the bits in
 -- which those left stand, it is told what waits.
 pub contents_well : {O : Type 0} (outside : Source → O → OutsideAddition)
-    → ContentsWell decoder_rules (λ o e s. UnendedAddition (outside s.source o) e s)
+    → ContentsWell plain_rules (λ o e s. UnendedAddition (outside s.source o) e s)
     (λ s o i. OpensContaining s (outside i.source o) i) (λ s o t. ClosesAddition s (outside s.source o) t)
 contents_well outside = record {
   inside = λ s o i h. ap (λ z. z.failed) h.opens.enters.same ∙ h.live;

@@ -2,9 +2,9 @@
 use Rattle.std.proofs.Common.{ap}
 use Rattle.rasn_traits.specs.Errors.{ErrorsWell}
 use Rattle.per_read.specs.Lacking.{NamesLacking}
-use Rattle.per_decoding.specs.Rules.{decoder_rules}
+use Rattle.per_decoding.specs.Rules.{plain_rules}
 
-pub errors_well : ErrorsWell decoder_rules NamesLacking
+pub errors_well : ErrorsWell plain_rules NamesLacking
 errors_well = record {
   lacking = λ t e s h. record {
     codec = ap (λ x. x.codec) h.is;

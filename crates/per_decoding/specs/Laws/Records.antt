@@ -20,7 +20,7 @@ use Rattle.per_read.specs.declared.error.DecodeErrorKind.TheVariants.{AlreadyFai
 use Rattle.per_decoding.specs.Laws.Spelled.{spelled}
 use Rattle.per_decoding.specs.State.{State, Marks, Spells, settings_of, with_bits}
 use Rattle.per_decoding.specs.Faults.{IsOf, IsInBits, IsInParts, here, later, IsUnmarked}
-use Rattle.per_decoding.specs.Rules.{decoder_rules}
+use Rattle.per_decoding.specs.Rules.{plain_rules}
 
 -- a decoder's state with other bits left and other presence bits still to be read
 abbrev pub with_rest : State → Bits → Bits → State
@@ -84,7 +84,7 @@ marked_flag p {b = b} {j = j} e m z = subst (λ q. Took (FlagOf p b) (q ++ z) (j
     (took_flag p e b (j.presences ++ z))
 
 step : (a : Settings) {p : Presence} {c : Schema} {r : Option Value} {i j : State} → settings_of i ≡ a
-    → ReadsPart decoder_rules p c i r j → Step a p c r i j
+    → ReadsPart plain_rules p c i r j → Step a p c r i j
 step a {c = c} {i = i} {j = j} e (reads_required {v = v} h) =
     let q : j.presences ≡ i.presences = ap (λ z. z.presences) h.same in
     record {
@@ -131,7 +131,7 @@ pub record Read (a : Settings) (ps : Parts) (rs : List (Option Value)) (i j : St
   pub same : j ≡ with_rest i j.bits j.presences
 
 pub read : (a : Settings) (ps : Parts) (i j : State) (rs : List (Option Value)) → settings_of i ≡ a
-    → ReadsParts decoder_rules ps i rs j → Read a ps rs i j
+    → ReadsParts plain_rules ps i rs j → Read a ps rs i j
 unfolding rules_in
 read a no_parts i j rs e reads_end = record {
   shown = [];
@@ -267,7 +267,7 @@ flags_there a (part k (default d) c ps) q l =
 -- one component that a record spells is read so by the calls
 part_back : (a : Settings) (p : Presence) (c : Schema) (i : State) (b : Bool) (r : Option Value) (q t : Bits)
     → settings_of i ≡ a → i.failed ≡ false → Shows p b i.presences q → Took (PartBody a p c b r) i.bits t
-    → ReadsPart decoder_rules p c i r (with_rest i t q)
+    → ReadsPart plain_rules p c i r (with_rest i t q)
 part_back a p c i true r q t e f (always g h l) y =
     let v : Spells c i y.spelled.held (with_bits i t) =
     spelled f (record {
@@ -302,10 +302,10 @@ part_back a p c i false r q t e f (shows d o l) y =
 pub parts_back : (a : Settings) (ps : Parts) (i : State) (shown : List Bool) (rs : List (Option Value)) (z m t : Bits)
     → settings_of i ≡ a → i.failed ≡ false → length i.presences ≡ presence_bits ps
     → Took (Flags (rules a ps) shown) (i.presences ++ z) m → Took (Bodies (rules a ps) shown rs) i.bits t
-    → ReadsParts decoder_rules ps i rs (with_rest i t [])
+    → ReadsParts plain_rules ps i rs (with_rest i t [])
 unfolding rules_in
 parts_back a no_parts i [] [] z m t e f l x y =
-    subst (λ s. ReadsParts decoder_rules no_parts i [] s)
+    subst (λ s. ReadsParts plain_rules no_parts i [] s)
     (ap (λ b. with_rest i b i.presences) (nothing_took y) ∙ ap (λ p. with_rest i t p)
     (no_more i.presences l)) reads_end
 parts_back a (part k p c ps) i (b ∷ bs) (r ∷ rs) z m t e f l x y =
@@ -353,7 +353,7 @@ not_unmarked i n l f (inl h) = let k : length i.presences ≡ 0 = ap length h.1 
 not_unmarked i n l f (inr h) = let k = h.1 in absurd cc
 
 pub faulty_in : (a : Settings) (e : DecodeError) (ps : Parts) (i : State) → settings_of i ≡ a → i.failed ≡ false
-    → length i.presences ≡ presence_bits ps → FaultyParts decoder_rules e ps i → FaultyIn a e ps i
+    → length i.presences ≡ presence_bits ps → FaultyParts plain_rules e ps i → FaultyIn a e ps i
 unfolding rules_in
 faulty_in a e (part k required c ps) i s f l (faulty_here (faulty_required h)) =
     let q = flags_there a ps i.presences (l ∙ omega arith) in

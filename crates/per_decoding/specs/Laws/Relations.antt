@@ -14,7 +14,7 @@ use Rattle.per_read.specs.declared.error.DecodeErrorKind.TheVariants.{OutOfMemor
 use Rattle.per_decoding.specs.Additions.{Adds, Asks}
 use Rattle.per_decoding.specs.State.{State, Marks, Spells, settings_of, with_bits}
 use Rattle.per_decoding.specs.Faults.{refusal}
-use Rattle.per_decoding.specs.Rules.{decoder_rules}
+use Rattle.per_decoding.specs.Rules.{plain_rules}
 use Rattle.per_decoding.specs.Laws.Tails.{asks_agree}
 
 -- one value, and one state behind it
@@ -23,7 +23,7 @@ one_state c s v w t u a b =
     let r = took_agree (one_reading (settings_of s) c v w) a.took b.took in
     (r.0, a.same ∙ ap (λ z. with_bits s z) r.1 ∙ sym b.same)
 
-pub reads_well : (c : Schema) → ReadsWell decoder_rules (Spells c)
+pub reads_well : (c : Schema) → ReadsWell plain_rules (Spells c)
 reads_well c = record {
   one = one_state c;
   level = λ s v t a. ap (λ z. z.levels) a.same;
@@ -96,7 +96,7 @@ adds_keeps c s (Some v) t h =
 adds_keeps c s None t (inl h) = asks_keeps s (Some false) t h
 adds_keeps c s None t (inr h) = asks_keeps s None t h
 
-pub decodes_well : DecodesWell decoder_rules
+pub decodes_well : DecodesWell plain_rules
 decodes_well = record {
   spelled = reads_well;
   marked = record {

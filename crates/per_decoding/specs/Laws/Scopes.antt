@@ -25,7 +25,7 @@ use Rattle.per_decoding.specs.Faults.{Fault, IsInTail, in_root, behind_root, IsO
 use Rattle.per_decoding.specs.Faults.{refusal}
 use Rattle.per_decoding.specs.Laws.Records.{IsNew, exact_took, faulty_in, flags_off, no_more, of_bits, parts_back, read}
 use Rattle.per_decoding.specs.Laws.Records.{with_rest}
-use Rattle.per_decoding.specs.Rules.{decoder_rules}
+use Rattle.per_decoding.specs.Rules.{plain_rules}
 use Rattle.per_decoding.specs.Scopes.{OutsideRecord, with_outside_record, Opens, Closes}
 use Rattle.per_decoding.specs.Laws.Spelled.{spelled}
 use Rattle.per_decoding.specs.State.{State, Spells, extension_of, settings_of, with_bits, Source}
@@ -180,7 +180,7 @@ module _ (ps : Parts) (marker : Bool) (qs : Parts) {s i : State} {w : OutsideRec
     done : m.presences ≡ []
     same : m ≡ with_rest i m.bits []
 
-  behind : (m : State) (rs : List (Option Value)) → ReadsParts decoder_rules ps i rs m → Behind rs m
+  behind : (m : State) (rs : List (Option Value)) → ReadsParts plain_rules ps i rs m → Behind rs m
   behind m rs h =
       let r = read (settings_of s) ps i m rs same_settings h in
       let d : m.presences ≡ [] = no_more m.presences (let n = r.count in let c = a.presence_count in omega arith) in
@@ -213,7 +213,7 @@ module _ (ps : Parts) (marker : Bool) (qs : Parts) {s i : State} {w : OutsideRec
         (bitmap_behind b) h));
   }
 
-  in_part_of : (e : DecodeError) → FaultyFields decoder_rules e ps qs i → Fault (extended ps marker qs) e s
+  in_part_of : (e : DecodeError) → FaultyFields plain_rules e ps qs i → Fault (extended ps marker qs) e s
   in_part_of e (faulty_root f) =
       let d = faulty_in (settings_of s) e ps i same_settings unfailed a.presence_count f in
       record {
@@ -228,11 +228,11 @@ module _ (ps : Parts) (marker : Bool) (qs : Parts) {s i : State} {w : OutsideRec
       of_tail e m rs b d.new d.codec d.stands
 
   -- what is read behind the root leaves
-  left_behind : {m j : State} {rs xs : List (Option Value)} → Behind rs m → ReadsAdditions decoder_rules qs m xs j
+  left_behind : {m j : State} {rs xs : List (Option Value)} → Behind rs m → ReadsAdditions plain_rules qs m xs j
       → Left m j (count qs)
   left_behind {m} {j} {rs} {xs} b h = left_of (settings_of s) qs m j xs (settings_behind b) h
 
-  at_end_of : (j : State) (rs xs : List (Option Value)) (e : DecodeError) → ReadsFields decoder_rules ps qs i rs xs j
+  at_end_of : (j : State) (rs xs : List (Option Value)) (e : DecodeError) → ReadsFields plain_rules ps qs i rs xs j
       → Unended e j → Fault (extended ps marker qs) e s
   at_end_of j rs xs e (reads_fields {m = m} h k) u = go u.stands
     where
@@ -254,7 +254,7 @@ module _ (ps : Parts) (marker : Bool) (qs : Parts) {s i : State} {w : OutsideRec
           (subst (λ z. IsInTail z e.kind no_parts j.extension j.bits) j_settings f))
 
   -- the bits in which those left stand are those from before
-  pub same_source : (j : State) (rs xs : List (Option Value)) → ReadsFields decoder_rules ps qs i rs xs j
+  pub same_source : (j : State) (rs xs : List (Option Value)) → ReadsFields plain_rules ps qs i rs xs j
       → j.source ≡ i.source
   same_source j rs xs (reads_fields {m = m} h k) = let b = behind m rs h in ap (λ z. z.source)
       (left_behind b k).same ∙ ap (λ z. z.source) b.same
@@ -264,7 +264,7 @@ module _ (ps : Parts) (marker : Bool) (qs : Parts) {s i : State} {w : OutsideRec
   given_back t = ap (λ z. with_outside_record (with_bits z t) w) a.enters.same
       ∙ ap (λ z. with_outside_record (with_bits s t) z) a.enters.waits
 
-  pub read_of : (j t : State) (rs xs : List (Option Value)) → ReadsFields decoder_rules ps qs i rs xs j → Closes j w t
+  pub read_of : (j t : State) (rs xs : List (Option Value)) → ReadsFields plain_rules ps qs i rs xs j → Closes j w t
       → Spells (extended ps marker qs) s (record_value rs xs) t
   read_of j t rs xs (reads_fields {m = m} h k) c =
       let b = behind m rs h in
@@ -278,7 +278,7 @@ module _ (ps : Parts) (marker : Bool) (qs : Parts) {s i : State} {w : OutsideRec
       ∙ ap (λ z. with_outside_record (with_bits z t.bits) w) b.same ∙ given_back t.bits)
 
   pub back_of : (t : State) (v : Value) → Spells (extended ps marker qs) s v t
-      → (rs xs : List (Option Value)) × (j : State) × ReadsFields decoder_rules ps qs i rs xs j × Closes j w t
+      → (rs xs : List (Option Value)) × (j : State) × ReadsFields plain_rules ps qs i rs xs j × Closes j w t
   back_of t v b =
       let q = took_record (settings_of s) ps marker qs v s.bits t.bits b.took in
       let g = took_agree (bit_agree marker q.extends a.extends) q.bit a.taken in
@@ -314,7 +314,7 @@ module _ (ps : Parts) (marker : Bool) (qs : Parts) {s i : State} {w : OutsideRec
 -- A record is what stands in its scope, whatever a decoder keeps of what waits outside: of it and of the bits in which
 -- those left stand, it is told what waits.
 pub scopes_well : {O : Type 0} (outside : Source → O → OutsideRecord)
-    → ScopesWell decoder_rules (λ o e s. Unended e s) (λ c s o i. Opens c s (outside i.source o) i)
+    → ScopesWell plain_rules (λ o e s. Unended e s) (λ c s o i. Opens c s (outside i.source o) i)
     (λ s o t. Closes s (outside s.source o) t)
 scopes_well outside = record {
   inside = λ c s o i a. ap (λ z. z.failed) a.enters.same ∙ a.live;

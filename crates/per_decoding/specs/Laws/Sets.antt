@@ -16,7 +16,7 @@ use Rattle.per_core.proofs.SetReadings.{in_order, out_of_order, read_as_listed}
 use Rattle.per_read.specs.declared.error.DecodeErrorKind.{DecodeErrorKind}
 use Rattle.per_read.specs.declared.error.DecodeErrorKind.TheVariants.{AlreadyFailed}
 use Rattle.per_decoding.specs.Faults.{IsInBits, IsOf, at_once, in_set}
-use Rattle.per_decoding.specs.Rules.{decoder_rules}
+use Rattle.per_decoding.specs.Rules.{plain_rules}
 use Rattle.per_decoding.specs.Laws.Spelled.{spelled}
 use Rattle.per_decoding.specs.State.{State}
 
@@ -51,7 +51,7 @@ of_sequence : (k : DecodeErrorKind) (ps : Parts) (marker : Bool) (qs : Parts) (s
 of_sequence AlreadyFailed ps marker qs s h = h
 of_sequence _ ps marker qs s h = in_set h
 
-pub sets_well : SetsWell decoder_rules
+pub sets_well : SetsWell plain_rules
 sets_well = record {
   set_read = λ ps marker qs s t rs xs r. spelled r.live
       (took_map (out_of_order _ true ps marker qs rs xs) r.took) r.same;

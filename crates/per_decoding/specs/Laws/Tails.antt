@@ -28,7 +28,7 @@ use Rattle.per_decoding.specs.Faults.{IsInTail, in_bitmap, behind_bitmap, IsInAd
 use Rattle.per_decoding.specs.Faults.{in_unknown, IsInNext, IsInOpen, IsOfLacking, out_of_turn, not_expected, at_bitmap}
 use Rattle.per_decoding.specs.Faults.{in_open, IsOfNext}
 use Rattle.per_decoding.specs.Laws.Records.{IsNew, is_left_out, left_out_is}
-use Rattle.per_decoding.specs.Rules.{decoder_rules}
+use Rattle.per_decoding.specs.Rules.{plain_rules}
 use Rattle.per_decoding.specs.Laws.Spelled.{added}
 use Rattle.per_decoding.specs.State.{Extension, ahead, shown, State, settings_of, with_bits}
 
@@ -74,7 +74,7 @@ record Turn (a : Settings) (p : Presence) (c : Schema) (r : Option Value) (s t :
   done : s.presences ≡ []
 
 turn : (a : Settings) {p : Presence} {c : Schema} {r : Option Value} {s t : State} → settings_of s ≡ a
-    → ReadsAddition decoder_rules p c s r t → Turn a p c r s t
+    → ReadsAddition plain_rules p c s r t → Turn a p c r s t
 turn a {p} {c} {s = s} {t = t} e (reads_added {v = v} h) =
     let k = h.asks in
     let i : t.expected ≡ h.middle.expected = ap (λ z. z.expected) h.same in
@@ -161,7 +161,7 @@ pub record Left (s j : State) (n : ℕ) : Type 0 where
   pub counted : s.expected ≡ n + j.expected
 
 pub left_of : (a : Settings) (qs : Parts) (s j : State) (xs : List (Option Value)) → settings_of s ≡ a
-    → ReadsAdditions decoder_rules qs s xs j → Left s j (count qs)
+    → ReadsAdditions plain_rules qs s xs j → Left s j (count qs)
 left_of a no_parts s j [] e reads_no_more = record { same = refl; counted = omega arith }
 left_of a (part k p c qs) s j (r ∷ xs) e (reads_further {m = m} x y) =
     let w = turn a e x in
@@ -177,7 +177,7 @@ left_of a no_parts s j (r ∷ xs) e x = elim x [ ]
 
 -- additions that were read in turn, and what is left behind them
 pub tail_of : (a : Settings) (qs : Parts) (s j : State) (xs : List (Option Value)) (flags : List Bool) {t : Bits}
-    → settings_of s ≡ a → ReadsAdditions decoder_rules qs s xs j
+    → settings_of s ≡ a → ReadsAdditions plain_rules qs s xs j
     → Took (Then (Shown a j.extension flags) (Unknown a flags)) j.bits t → Tail a qs s.extension xs s.bits t
 unfolding rules_in
 tail_of a no_parts s j [] flags e reads_no_more h = let q = then_took h in
@@ -192,7 +192,7 @@ turn_back : (a : Settings) (p : Presence) (c : Schema) (r : Option Value) (flag 
     (s : State) (n : ℕ) (m t : Bits) → settings_of s ≡ a → s.failed ≡ false
     → s.presences ≡ [] → s.expected ≡ suc n → Took (Shown a s.extension flags) s.bits m → NextFlag flags flag rest
     → Took (Addition a (rule_of a p c) r flag) m t
-    → ReadsAddition decoder_rules p c s r (record s { bits = t; extension = shown rest; expected = n })
+    → ReadsAddition plain_rules p c s r (record s { bits = t; extension = shown rest; expected = n })
 turn_back a p c r flag flags rest s n m t e live done counted taken next h = go flag next h
   where
     asks : (f : Option Bool) (b : Bits) → NextFlag flags f rest → m ≡ b
@@ -210,14 +210,14 @@ turn_back a p c r flag flags rest s n m t e live done counted taken next h = go 
     }
 
     go : (f : Option Bool) → NextFlag flags f rest → Took (Addition a (rule_of a p c) r f) m t
-        → ReadsAddition decoder_rules p c s r (record s { bits = t; extension = shown rest; expected = n })
+        → ReadsAddition plain_rules p c s r (record s { bits = t; extension = shown rest; expected = n })
     go (Some true) x y =
         let v : Took (OpenOf a (basic a c) y.spelled.held) m t =
         record { front = y.front; joins = y.joins; spelled = y.spelled.spelled } in
         let w : Adds c s (Some y.spelled.held) (record s { bits = t; extension = shown rest; expected = n }) =
         added (record s { bits = m; extension = shown rest; expected = n }) (asks (Some true) m x refl)
         (subst (λ z. Took (OpenOf z (basic z c) y.spelled.held) m t) (sym e) v) refl in
-        subst (λ z. ReadsAddition decoder_rules p c s z (record s { bits = t; extension = shown rest; expected = n }))
+        subst (λ z. ReadsAddition plain_rules p c s z (record s { bits = t; extension = shown rest; expected = n }))
         (sym y.spelled.is) (reads_added w)
     go (Some false) x y = let w = when_took y in reads_lacking (left_out_is p r w.0)
         (inl (asks (Some false) t x (nothing_took w.1)))
@@ -230,7 +230,7 @@ next_of (b ∷ flags) = (Some b, flags, refl)
 -- how the calls read additions, and what is left behind them
 pub record Turns (a : Settings) (qs : Parts) (xs : List (Option Value)) (s : State) (t : Bits) : Type 0 where
   pub end : State
-  pub reads : ReadsAdditions decoder_rules qs s xs end
+  pub reads : ReadsAdditions plain_rules qs s xs end
   pub flags : List Bool
   pub skipped : Took (Then (Shown a end.extension flags) (Unknown a flags)) end.bits t
 
@@ -242,7 +242,7 @@ turns_of a no_parts s xs t e live done counted h =
     let w = took_unknown a h.flags xs h.additions in
     record {
       end = s;
-      reads = subst (λ z. ReadsAdditions decoder_rules no_parts s z s) (sym w.0) reads_no_more;
+      reads = subst (λ z. ReadsAdditions plain_rules no_parts s z s) (sym w.0) reads_no_more;
       flags = h.flags;
       skipped = took_then h.taken w.1;
     }
@@ -256,7 +256,7 @@ turns_of a (part k p c qs) s xs t e live done counted h =
     (record { flags = n.1; middle = f.middle; taken = shown_old a n.1 f.middle; additions = f.behind }) in
     record {
       end = r.end;
-      reads = subst (λ z. ReadsAdditions decoder_rules (part k p c qs) s z r.end) (sym f.are) (reads_further x r.reads);
+      reads = subst (λ z. ReadsAdditions plain_rules (part k p c qs) s z r.end) (sym f.are) (reads_further x r.reads);
       flags = r.flags;
       skipped = r.skipped;
     }
@@ -278,7 +278,7 @@ behind_turn a k tree qs {r} {s} {m} w h =
     (at_shown a k qs w.rest m.bits (subst (λ z. IsInTail a k qs z m.bits) e h)))
 
 pub behind_additions : (a : Settings) (k : DecodeErrorKind) (qs : Parts) (s j : State) (xs : List (Option Value))
-    → settings_of s ≡ a → ReadsAdditions decoder_rules qs s xs j
+    → settings_of s ≡ a → ReadsAdditions plain_rules qs s xs j
     → IsInTail a k no_parts j.extension j.bits → IsInTail a k qs s.extension s.bits
 behind_additions a k no_parts s j [] e reads_no_more h = h
 behind_additions a k (part tree p c qs) s j (r ∷ xs) e (reads_further {m = m} x y) h =
@@ -321,7 +321,7 @@ kept_codec c s t (inl h) = ap (λ z. z.codec) h.same
 kept_codec c s t (inr h) = ap (λ z. z.codec) h.same
 
 pub faulty_tail : (a : Settings) (e : DecodeError) (qs : Parts) (s : State) → settings_of s ≡ a → s.failed ≡ false
-    → s.presences ≡ [] → s.expected ≡ count qs → FaultyAdditions decoder_rules e qs s
+    → s.presences ≡ [] → s.expected ≡ count qs → FaultyAdditions plain_rules e qs s
     → FaultyTail a e qs s
 faulty_tail a e (part k p c qs) s i live done counted (faulty_addition (faulty_added h)) =
     let w = new_next e.kind c s live h.stands in

@@ -2,6 +2,7 @@ use Rattle.std.proofs.Common.{ap, ◌∙◌, length, refl, arith}
 use Rattle.per_read.specs.State.{State}
 use Rattle.per_de.proofs.Calls.{no_more_left, reads_freely}
 use Rattle.per_de.proofs.Enumerations.{no_item, reads_item}
+use Rattle.per_de.proofs.InTurn.{begun_freely, still}
 use Rattle.per_de.proofs.DecoderDecoder.decode_enumerated.Goals as goal
 
 pub advance-requires : goal.advance-requires
@@ -12,4 +13,4 @@ advance-requires g c =
 pub returns : goal.returns
 returns g c =
     let taken = rw c.in-Some.is at c.take_root_item-taken.ensures.took in
-    reads_freely c.args.self.now _ _ c.in_ok-check_unfailed.ensures.ok (λ v. reads_item _ _ _ _ _) c.reader-reader.ensures taken (c.len-left.ensures ∙ ap length c.bits.ensures) (refl, c.advance.ensures) (λ k h. (h.0, no_item _ _ _ _ h.1))
+    begun_freely _ c.in_ok-begin_value.ensures.noted (reads_freely c.begin_value.new.self _ _ (still c.args.self.now c.in_ok-begin_value.ensures.noted c.in_ok-begin_value.ensures.ok) (λ v. reads_item _ _ _ _ _) c.reader-reader.ensures taken (c.len-left.ensures ∙ ap length c.bits.ensures) (refl, c.advance.ensures) (λ k h. (h.0, no_item _ _ _ _ h.1)))

@@ -1,6 +1,7 @@
 use Rattle.std.proofs.Common.{ap, ◌∙◌, length, refl, arith}
 use Rattle.per_read.specs.State.{State}
 use Rattle.per_de.proofs.Calls.{faulty_whole, no_more_left, reads, reads_whole}
+use Rattle.per_de.proofs.InTurn.{begun, still}
 use Rattle.per_de.proofs.DecoderDecoder.decode_integer.Goals as goal
 
 pub advance-requires : goal.advance-requires
@@ -11,4 +12,4 @@ advance-requires g c =
 pub returns : goal.returns
 returns g c =
     let taken = rw c.in-Some.is at c.take_short_integer-taken.ensures.took in
-    reads c.args.self.now _ _ c.in_ok-check_unfailed.ensures.ok (λ v. reads_whole _ _ _ _ _ _ _) c.reader-reader.ensures taken (c.len-left.ensures ∙ ap length c.bits.ensures) (refl, c.advance.ensures) (λ k. faulty_whole _ _ _ _ _ k)
+    begun _ c.in_ok-begin_value.ensures.noted (reads c.begin_value.new.self _ _ (still c.args.self.now c.in_ok-begin_value.ensures.noted c.in_ok-begin_value.ensures.ok) (λ v. reads_whole _ _ _ _ _ _ _) c.reader-reader.ensures taken (c.len-left.ensures ∙ ap length c.bits.ensures) (refl, c.advance.ensures) (λ k. faulty_whole _ _ _ _ _ k))

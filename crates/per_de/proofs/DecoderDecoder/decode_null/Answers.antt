@@ -1,7 +1,6 @@
-use Rattle.std.proofs.Common.{rules}
-use Rattle.per_de.proofs.Calls.{null_answers}
+use Rattle.per_de.proofs.InTurn.{null_read}
 use Rattle.per_de.proofs.DecoderDecoder.decode_null.Goals as goal
 
 pub returns : goal.returns
 returns c =
-    record { law = null_answers _ c.check_unfailed.result c.check_unfailed.ensures.ok c.check_unfailed.ensures.err c.check_unfailed.ensures.failed; behaves = search rules }
+    null_read c.args.self.now c.begin_value.new.self c.begin_value.result c.begin_value.ensures.ok c.begin_value.ensures.noted c.begin_value.ensures.err c.begin_value.ensures.failed c.begin_value.ensures.stays

@@ -1,21 +1,22 @@
-use Rattle.std.proofs.Common.{◌≡◌, ◌∷◌, ◌+◌, ap, sym, ◌∙◌, rules, slice_get, Some}
-use Rattle.per_de.specs.Sources.{bits_of, span_of}
-use Rattle.per_decoding.specs.State.{State}
-use Rattle.per_de.proofs.Spans.{behind, first_bit, one_more}
+use Rattle.std.proofs.Common.{◌∙◌, ap}
+use Rattle.per_de.proofs.InTurn.{presence_noted, presence_there}
 use Rattle.per_de.proofs.DecoderDecoder.next_presence.Goals as goal
 
-pub returns-in-Some : goal.returns-in-Some
-returns-in-Some c =
-    let span = c.self.inside.presences in
-    let source = bits_of c.self.inside.source in
-    let same = c.self.view_is in
-    let there : slice_get (span_of span source) 0 ≡ Some c.in-Some.bit = ap (λ z. slice_get z.presences 0) same ∙ sym c.first_presence.ensures ∙ c.in-Some.is in
-    let rest = span_of (record { begin = span.begin + 1; end = span.end }) source in
-    rw c.behind-self-inside.ensures (record {
-      law = record {
-        live = c.in_ok-check_unfailed.ensures.ok;
-        first = ap (λ z. z.presences) (sym same) ∙ first_bit (span_of span source) c.in-Some.bit there ∙ ap (λ z. c.in-Some.bit ∷ z) (behind span source 1 (one_more span source c.in-Some.bit there));
-        same = ap (λ (z : State). record z { presences = rest }) same;
-      };
-      behaves = search rules;
-    })
+pub note-requires : goal.note-requires
+note-requires c = let h = c.in_ok-bit.ensures.law in ap (λ z. z.failed) h.same ∙ h.live
+
+pub returns-then-not-bit : goal.returns-then-not-bit
+returns-then-not-bit c =
+    let h = c.in_ok-bit.ensures in
+    record {
+      law = presence_noted c.args.self.now c.take_presence.new.self c.note.new.self c.in_ok-bit.bit c.if-not-bit.true c.note.ensures h.law;
+      behaves = record { again = h.behaves.again; fails = tt; kept = ap (λ z. z.codec) c.note.ensures ∙ h.behaves.kept };
+    }
+
+pub returns-else-not-bit : goal.returns-else-not-bit
+returns-else-not-bit c =
+    let h = c.in_ok-bit.ensures in
+    record {
+      law = presence_there c.args.self.now c.take_presence.new.self c.in_ok-bit.bit c.if-not-bit.false h.law;
+      behaves = record { again = h.behaves.again; fails = tt; kept = h.behaves.kept };
+    }

@@ -13,7 +13,7 @@ loop-place-preserved c =
     let names : List (List ℕ) = map word_of c.args.types.now in
     let l = c.loop-place in
     let is : c.in_ok-edits.edits ≡ edits (get_or names l.place []) c.args.word.now =
-    c.in_ok-edits.ensures.value ∙ ap (λ n. edits n c.args.word.now)
+    c.in_ok-edits.ensures ∙ ap (λ n. edits n c.args.word.now)
     (c.word-in-loop-place.ensures.word ∙ sym (get_or-map word_of c.args.types.now l.place (Sample Boolean) [] c.loop-place-test.true)) in
     elim c.if-edits-fewest.branch [
       | then-edits-fewest w ↦ (

@@ -1,66 +1,32 @@
-use Rattle.std.proofs.Common.{◌≡◌, ℕ, refl, suc, rules, ap, sym, ◌∙◌}
 use Rattle.std.proofs.lemmas.Result.{err_from_is_err_and}
-use Rattle.rasn_schema.specs.Records.{record_at}
-use Rattle.rasn_schema.specs.Schemas.{listed}
-use Rattle.rasn_traits.specs.Additions.{extended}
-use Rattle.per_de.proofs.AtPlaces.{how_many, marked}
-use Rattle.per_de.proofs.Calls.{too_deep}
-use Rattle.per_de.proofs.Opening.{opens_record, no_bit, no_front}
+use Rattle.per_de.proofs.InTurn.{behaves_err, behaves_ok, deeper_noted, record_opened, record_unopened}
 use Rattle.per_de.proofs.counted.DecoderCountedDecoder.open_record.Goals as goal
 
-pub returns-in_err-levels : goal.returns-in_err-levels
-returns-in_err-levels c =
-    let p = err_from_is_err_and c.from_residual-in_err-levels.result c.from_residual-in_err-levels.ensures.1 in
-    let o = c.in_err-levels.ensures in
+pub returns-in_err-scope : goal.returns-in_err-scope
+returns-in_err-scope c =
+    let p = err_from_is_err_and c.from_residual-in_err-scope.result c.from_residual-in_err-scope.ensures.1 in
+    let h = c.in_err-scope.ensures in
     record {
-      opened = λ ps marker adds k. record { law = rw (p.1, p.2) (too_deep (record_at listed ps marker adds) _ _ _ refl o.0 o.1); behaves = search rules };
-      deeper = rw p.1 tt;
-      behaves = search rules;
-    }
-
-pub returns-in_err-extends : goal.returns-in_err-extends
-returns-in_err-extends c =
-    let p = err_from_is_err_and c.from_residual-in_err-extends.result c.from_residual-in_err-extends.ensures.1 in
-    let o = c.in_ok-levels.ensures in
-    record {
-      opened = λ ps marker adds k. record {
-        law = rw (p.1, p.2) (no_bit ps adds marker c.is_some.result c.args.self.now _ c.in_ok-levels.levels _ _ o.0 o.1 (c.is_some.ensures ∙ marked c.args.additions ∙ sym k.marked) c.in_err-extends.ensures);
-        behaves = search rules;
+      opened = λ ps marker adds k. let l = h.opened ps marker adds k in record {
+        law = rw (p.1, p.2) (record_unopened ps adds marker c.args.self.now c.begin_value.new.self c.enter_record.new.self c.enter_record.new.self _ c.in_ok-begin_value.ensures.noted l.law);
+        behaves = rw (p.1, p.2) (behaves_err _ _ c.args.self.now c.begin_value.new.self c.enter_record.new.self _ c.in_ok-begin_value.ensures.noted l.behaves);
       };
       deeper = rw p.1 tt;
-      behaves = search rules;
+      behaves = rw (p.1, p.2) (behaves_err _ _ c.args.self.now c.begin_value.new.self c.enter_record.new.self _ c.in_ok-begin_value.ensures.noted h.behaves);
     }
 
-pub returns-in_err-presences : goal.returns-in_err-presences
-returns-in_err-presences c =
-    let p = err_from_is_err_and c.from_residual-in_err-presences.result c.from_residual-in_err-presences.ensures.1 in
-    let o = c.in_ok-levels.ensures in
-    record {
-      opened = λ ps marker adds k. record {
-        law = rw (p.1, p.2) (no_front c.is_some.result c.args.presence_bits c.args.self.now _ _ c.in_ok-levels.levels c.in_ok-extends.extends o.0 o.1 c.in_ok-extends.ensures
-            ps adds marker _ _ (c.is_some.ensures ∙ marked c.args.additions ∙ sym k.marked) (k.bits_are c.in_ok-levels.levels) c.in_err-presences.ensures);
-        behaves = search rules;
-      };
-      deeper = rw p.1 tt;
-      behaves = search rules;
-    }
+pub set_turn-requires : goal.set_turn-requires
+set_turn-requires c = c.in_ok-scope.ensures.live
 
 pub returns : goal.returns
 returns c =
-    let o = c.in_ok-levels.ensures in
-    let n = c.enter.new.self.levels in
-    let l = o.0 ∙ sym (ap (λ z. suc z.levels) c.enter.ensures.same) in
+    let h = c.in_ok-scope.ensures in
     record {
-      opened = λ ps marker adds k. record {
-        law = (
-          l,
-          opens_record c.is_some.result c.args.presence_bits c.args.self.now _ _ c.in_ok-levels.levels c.in_ok-extends.extends o.0 o.1 c.in_ok-extends.ensures
-              (extended (ps n) marker (adds n)) c.in_ok-presences.presences _ _ _ _
-              c.in_ok-check_unfailed.ensures.ok (c.is_some.ensures ∙ marked c.args.additions ∙ sym k.marked) (k.bits_are n) c.in_ok-presences.ensures
-              (let e = c.unwrap_or.ensures ∙ how_many c.args.additions ∙ k.added_are n in search rules) c.enter.ensures,
-        );
-        behaves = search rules;
+      opened = λ ps marker adds k. let l = h.opened ps marker adds k in record {
+        law = record_opened ps adds marker c.args.self.now c.begin_value.new.self c.enter_record.new.self c.set_turn.new.self
+            c.in_ok-scope.scope c.turn-turn.result _ c.in_ok-begin_value.ensures.noted c.turn-turn.ensures c.set_turn.ensures (λ n. tt) l.law;
+        behaves = behaves_ok c.args.self.now c.begin_value.new.self c.enter_record.new.self _ _ _ c.in_ok-begin_value.ensures.ok c.in_ok-begin_value.ensures.noted l.behaves.kept c.set_turn.ensures;
       };
-      deeper = l;
-      behaves = search rules;
+      deeper = deeper_noted c.args.self.now c.begin_value.new.self c.enter_record.new.self c.set_turn.new.self _ c.in_ok-begin_value.ensures.noted c.set_turn.ensures h.deeper;
+      behaves = behaves_ok c.args.self.now c.begin_value.new.self c.enter_record.new.self _ _ _ c.in_ok-begin_value.ensures.ok c.in_ok-begin_value.ensures.noted h.behaves.kept c.set_turn.ensures;
     }

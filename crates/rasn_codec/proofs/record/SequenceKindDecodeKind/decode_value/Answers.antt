@@ -18,17 +18,17 @@ returns-then-is_err g c =
       behaves = rw p.1 (search (rules, f.fails, f.kept));
     }
 
-pub returns-in_err-close_sequence : goal.returns-in_err-close_sequence
+pub returns-in_err-close_fields : goal.returns-in_err-close_fields
 unfolding AreRead
-returns-in_err-close_sequence g c =
+returns-in_err-close_fields g c =
     let o = c.in_ok-outside.ensures.law in
     let cs = g.T.Components.components.0 in
     let q = answered c.decode_components-decoded.result c.if-is_err.ensures.value in
     let a = rw q.1 at c.decode_components-decoded.ensures in
-    let p = err_from_is_err_and c.from_residual-in_err-close_sequence.result c.from_residual-in_err-close_sequence.ensures.1 in
+    let p = err_from_is_err_and c.from_residual-in_err-close_fields.result c.from_residual-in_err-close_fields.ensures.1 in
     record {
       law = rw (p.1, p.2) (record_endless g.met.D.Decoder.lawful g.met.D.Decoder.scopes (root_parts cs) (has_marker cs.behind) (added_parts cs) o.0 o.1 _ _ _ a.law
-          (c.in_err-close_sequence.ensures.law (inside_left g.met.D.Decoder.lawful g.met.D.Decoder.scopes (root_parts cs) (has_marker cs.behind) (added_parts cs) o.0 o.1 _ _ _ a.law)));
+          (c.in_err-close_fields.ensures.law (inside_left g.met.D.Decoder.lawful g.met.D.Decoder.scopes (root_parts cs) (has_marker cs.behind) (added_parts cs) o.0 o.1 _ _ _ a.law)));
       behaves = search rules;
     }
 
@@ -41,6 +41,25 @@ returns g c =
     let a = rw q.1 at c.decode_components-decoded.ensures in
     record {
       law = rw q.1 (record_ended g.met.D.Decoder.lawful g.met.D.Decoder.scopes (root_parts cs) (has_marker cs.behind) (added_parts cs) o.0 o.1 _ _ _ _ a.law
-          (c.in_ok-close_sequence.ensures.law (inside_left g.met.D.Decoder.lawful g.met.D.Decoder.scopes (root_parts cs) (has_marker cs.behind) (added_parts cs) o.0 o.1 _ _ _ a.law)));
+          (c.in_ok-close_fields.ensures.law (inside_left g.met.D.Decoder.lawful g.met.D.Decoder.scopes (root_parts cs) (has_marker cs.behind) (added_parts cs) o.0 o.1 _ _ _ a.law)));
       behaves = rw q.1 (search (rules, a.kept));
+    }
+
+pub close_fields-requires : goal.close_fields-requires
+unfolding AreRead
+close_fields-requires g c =
+    let o = c.in_ok-outside.ensures.law in
+    let cs = g.T.Components.components.0 in
+    let q = answered c.decode_components-decoded.result c.if-is_err.ensures.value in
+    let a = rw q.1 at c.decode_components-decoded.ensures in
+    record {
+      in_turn = record {
+        before = c.args.decoder.now;
+        inside = c.open_fields.new.self;
+        levels = g.D.Decoder.rules.levels c.open_fields.new.self;
+        root = g.T.Components.contents q.0;
+        added = g.T.Components.added q.0;
+        opened = o.1;
+        read = a.law;
+      };
     }

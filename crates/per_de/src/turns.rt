@@ -1,0 +1,163 @@
+//! How many components are still to come in the open scope, so that none is left out and none comes twice.
+
+ghost use Rattle.std.specs.Prelude.{◌≡◌, false, true, IfErr, OnErr, OnOk};
+ghost use Rattle.per_read.specs.declared.error.DecodeErrorKind.TheVariants.{AlreadyFailed};
+ghost use Rattle.per_decoding.specs.Faults.{refusal};
+ghost use Rattle.per_decoding.specs.State.{noting, with_turn};
+ghost use Rattle.per_decoding.specs.Turns.{is_complete, next, within_list};
+ghost use Rattle.per_de.specs.Turns.{IsComplete, turn_of};
+
+use crate::Decoder;
+use per_read::error::{DecodeError, DecodeErrorKind};
+
+/// How many components are still to come in a scope.
+#[derive(Clone, Copy, Debug)]
+pub enum Turn {
+    /// Nothing is counted.
+    Uncounted,
+    /// So many.
+    Awaiting(usize),
+    /// None is in turn: one too many came, or a list is open.
+    Misplaced,
+}
+
+impl Turn {
+    /// What is still to come behind one component more.
+    pub(crate) fn next(self) -> Turn
+        ensures { turn_of result ≡ next (turn_of self) }
+    {
+        match self {
+            Turn::Uncounted => Turn::Uncounted,
+            Turn::Awaiting(left) => match left.checked_sub(1) {
+                Some(others) => Turn::Awaiting(others),
+                None => Turn::Misplaced,
+            },
+            Turn::Misplaced => Turn::Misplaced,
+        }
+    }
+
+    /// Whether all came that is due, or nothing is counted.
+    pub(crate) fn is_complete(self) -> bool
+        ensures { result ≡ is_complete (turn_of self) }
+    {
+        match self {
+            Turn::Uncounted => true,
+            Turn::Awaiting(left) => left == 0,
+            Turn::Misplaced => false,
+        }
+    }
+
+    /// What is counted in a list: where something is counted around it, nothing is in turn before its end.
+    #[inline(always)]
+    pub(crate) fn within_list(self) -> Turn
+        ensures { turn_of result ≡ within_list (turn_of self) }
+    {
+        match self {
+            Turn::Uncounted => Turn::Uncounted,
+            _ => Turn::Misplaced,
+        }
+    }
+}
+
+/// Whether a decoder reads on, and what its open scope counts; or whether a call has refused.
+#[derive(Clone, Copy, Debug)]
+pub(crate) enum Mode {
+    /// It reads on.
+    Live(Turn),
+    /// A call has refused.
+    Failed,
+}
+
+/// What waits outside while a scope is open, and how many components are still to come there.
+#[derive(Drop)]
+pub struct Around<T> {
+    pub(crate) scope: T,
+    pub(crate) turn: Turn,
+}
+
+impl<'input> Decoder<'input> {
+    /// Notes a component, as a value begins. Refuses where a call has refused before.
+    #[inline(always)]
+    pub(crate) fn begin_value(&mut self) -> Result<(), DecodeError>
+        ensures ok { OnOk result (self.old.failed ≡ false) }
+        ensures noted { OnOk result (self.new ≡ noting self.old) }
+        ensures err { IfErr result (λ e. e ≡ refusal AlreadyFailed self.old) }
+        ensures failed { OnErr result (self.old.failed ≡ true) }
+        ensures stays { OnErr result (self.new ≡ self.old) }
+    {
+        if let Mode::Live(Turn::Uncounted) = self.mode {
+            return Ok(());
+        }
+        self.begin_counted()
+    }
+
+    /// What `begin_value` does, also where something is counted.
+    #[inline(never)]
+    pub(crate) fn begin_counted(&mut self) -> Result<(), DecodeError>
+        ensures ok { OnOk result (self.old.failed ≡ false) }
+        ensures noted { OnOk result (self.new ≡ noting self.old) }
+        ensures err { IfErr result (λ e. e ≡ refusal AlreadyFailed self.old) }
+        ensures failed { OnErr result (self.old.failed ≡ true) }
+        ensures stays { OnErr result (self.new ≡ self.old) }
+    {
+        self.check_unfailed()?;
+        self.note();
+        Ok(())
+    }
+
+    /// Notes a component.
+    #[inline(always)]
+    pub(crate) fn note(&mut self)
+        requires { self.old.failed ≡ false }
+        ensures { self.new ≡ noting self.old }
+    {
+        if let Mode::Live(Turn::Uncounted) = self.mode {
+            return;
+        }
+        let turn = self.turn();
+        self.set_turn(turn.next());
+    }
+
+    /// How many components are still to come in the open scope.
+    #[inline(always)]
+    pub(crate) fn turn(&self) -> Turn
+        ensures { turn_of result ≡ self.now.turn }
+    {
+        match self.mode {
+            Mode::Live(turn) => turn,
+            Mode::Failed => Turn::Uncounted,
+        }
+    }
+
+    /// From now on so many components are still to come.
+    #[inline(always)]
+    pub(crate) fn set_turn(&mut self, turn: Turn)
+        requires { self.old.failed ≡ false }
+        ensures { self.new ≡ with_turn (turn_of turn) self.old }
+    {
+        self.mode = Mode::Live(turn);
+    }
+
+    /// Refuses where a call has refused before, and where not as much came in the open scope as is due.
+    #[inline(always)]
+    pub(crate) fn check_complete(&mut self) -> Result<(), DecodeError>
+        ensures { IsComplete self.old result self.new }
+    {
+        if let Mode::Live(Turn::Uncounted) = self.mode {
+            return Ok(());
+        }
+        self.check_counted()
+    }
+
+    /// What `check_complete` does, also where something is counted.
+    #[inline(never)]
+    pub(crate) fn check_counted(&mut self) -> Result<(), DecodeError>
+        ensures { IsComplete self.old result self.new }
+    {
+        self.check_unfailed()?;
+        if !self.turn().is_complete() {
+            return Err(self.refuse(DecodeErrorKind::MissingTag));
+        }
+        Ok(())
+    }
+}
