@@ -1,10 +1,14 @@
 -- The module CAM-PDU-Descriptions: below each definition in ASN.1 stands what the theorem takes it for.
-use Rattle.cam_high_frequency.specs.CamPduDescriptions.{high_frequency_container}
-use Rattle.its_container.specs.ItsContainer.{cause_code, closed_lanes, dangerous_goods_basic, embarkation_status}
-use Rattle.its_container.specs.ItsContainer.{emergency_priority, exterior_lights, its_pdu_header}
-use Rattle.its_container.specs.ItsContainer.{light_bar_siren_in_use, path_history, pt_activation, reference_position}
-use Rattle.its_container.specs.ItsContainer.{roadworks_sub_cause_code, special_transport_type, speed_limit}
-use Rattle.its_container.specs.ItsContainer.{station_type, traffic_rule, vehicle_role}
+use Rattle.its_container.specs.ItsContainer.{acceleration_control, cause_code, cen_dsrc_tolling_zone, closed_lanes}
+use Rattle.its_container.specs.ItsContainer.{curvature, curvature_calculation_mode, dangerous_goods_basic}
+use Rattle.its_container.specs.ItsContainer.{drive_direction, embarkation_status, emergency_priority, exterior_lights}
+use Rattle.its_container.specs.ItsContainer.{heading, its_pdu_header, lane_position, lateral_acceleration}
+use Rattle.its_container.specs.ItsContainer.{light_bar_siren_in_use, longitudinal_acceleration, path_history}
+use Rattle.its_container.specs.ItsContainer.{performance_class, protected_communication_zones_rsu, pt_activation}
+use Rattle.its_container.specs.ItsContainer.{reference_position, roadworks_sub_cause_code, special_transport_type}
+use Rattle.its_container.specs.ItsContainer.{speed, speed_limit, station_type, steering_wheel_angle, traffic_rule}
+use Rattle.its_container.specs.ItsContainer.{vehicle_length, vehicle_role, vehicle_width, vertical_acceleration}
+use Rattle.its_container.specs.ItsContainer.{yaw_rate}
 use Rattle.rasn_below.specs.Page.{Component, TypeLists, automatic, choice, extensible_automatic, integer, optional}
 use Rattle.rasn_below.specs.Page.{sequence, u16, ◌to◌}
 use Rattle.std.specs.Prelude.{[], ◌∷◌}
@@ -26,6 +30,73 @@ basic_container_lists = extensible_automatic (
 
 abbrev pub basic_container : Component
 basic_container = sequence basic_container_lists
+
+-- BasicVehicleContainerHighFrequency ::= SEQUENCE {
+--     heading Heading,
+--     speed Speed,
+--     driveDirection DriveDirection,
+--     vehicleLength VehicleLength,
+--     vehicleWidth VehicleWidth,
+--     longitudinalAcceleration LongitudinalAcceleration,
+--     curvature Curvature,
+--     curvatureCalculationMode CurvatureCalculationMode,
+--     yawRate YawRate,
+--     accelerationControl AccelerationControl OPTIONAL,
+--     lanePosition LanePosition OPTIONAL,
+--     steeringWheelAngle SteeringWheelAngle OPTIONAL,
+--     lateralAcceleration LateralAcceleration OPTIONAL,
+--     verticalAcceleration VerticalAcceleration OPTIONAL,
+--     performanceClass PerformanceClass OPTIONAL,
+--     cenDsrcTollingZone CenDsrcTollingZone OPTIONAL
+-- }
+abbrev pub basic_vehicle_container_high_frequency_lists : TypeLists
+basic_vehicle_container_high_frequency_lists = automatic (
+    heading ∷  -- heading
+    speed ∷  -- speed
+    drive_direction ∷  -- driveDirection
+    vehicle_length ∷  -- vehicleLength
+    vehicle_width ∷  -- vehicleWidth
+    longitudinal_acceleration ∷  -- longitudinalAcceleration
+    curvature ∷  -- curvature
+    curvature_calculation_mode ∷  -- curvatureCalculationMode
+    yaw_rate ∷  -- yawRate
+    optional acceleration_control ∷  -- accelerationControl
+    optional lane_position ∷  -- lanePosition
+    optional steering_wheel_angle ∷  -- steeringWheelAngle
+    optional lateral_acceleration ∷  -- lateralAcceleration
+    optional vertical_acceleration ∷  -- verticalAcceleration
+    optional performance_class ∷  -- performanceClass
+    optional cen_dsrc_tolling_zone ∷  -- cenDsrcTollingZone
+    [])
+
+abbrev pub basic_vehicle_container_high_frequency : Component
+basic_vehicle_container_high_frequency = sequence basic_vehicle_container_high_frequency_lists
+
+-- RSUContainerHighFrequency ::= SEQUENCE {
+--     protectedCommunicationZonesRSU ProtectedCommunicationZonesRSU OPTIONAL,
+--     ...
+-- }
+abbrev pub rsu_container_high_frequency_lists : TypeLists
+rsu_container_high_frequency_lists = extensible_automatic (
+    optional protected_communication_zones_rsu ∷  -- protectedCommunicationZonesRSU
+    []) []
+
+abbrev pub rsu_container_high_frequency : Component
+rsu_container_high_frequency = sequence rsu_container_high_frequency_lists
+
+-- HighFrequencyContainer ::= CHOICE {
+--     basicVehicleContainerHighFrequency BasicVehicleContainerHighFrequency,
+--     rsuContainerHighFrequency RSUContainerHighFrequency,
+--     ...
+-- }
+abbrev pub high_frequency_container_lists : TypeLists
+high_frequency_container_lists = extensible_automatic (
+    basic_vehicle_container_high_frequency ∷  -- basicVehicleContainerHighFrequency
+    rsu_container_high_frequency ∷  -- rsuContainerHighFrequency
+    []) []
+
+abbrev pub high_frequency_container : Component
+high_frequency_container = choice high_frequency_container_lists
 
 -- BasicVehicleContainerLowFrequency ::= SEQUENCE {
 --     vehicleRole VehicleRole,

@@ -5,9 +5,9 @@ ghost use Rattle.rasn_below.specs.Page.{fields_of, slot_levels, slot_of};
 ghost use Rattle.std.specs.Prelude.{Some, [], max, refl, ◌∷◌};
 
 use crate::basic_container::BasicContainer;
+use crate::high_frequency_container::HighFrequencyContainer;
 use crate::low_frequency_container::LowFrequencyContainer;
 use crate::special_vehicle_container::SpecialVehicleContainer;
-use cam_high_frequency::high_frequency_container::HighFrequencyContainer;
 use rasn_below::page::*;
 
 /// CamParameters ::= SEQUENCE {

@@ -2,8 +2,6 @@
 //! constraints are lawful.
 
 use crate::expected::{expect_equal, expect_items};
-use per_errors::count::Count;
-use per_errors::sizes::OutOfSize;
 use per_samples_a::strings::LettersAToE;
 use per_samples_b::outer1::Outer1;
 use per_samples_c::colors::TwoColors;
@@ -11,6 +9,8 @@ use per_samples_c::one_color::OneColor;
 use per_versions::exchange::{ExchangeError, read_by_newer, read_by_older};
 use rasn_below::types::{Codec, VisibleString};
 use rasn_below::{Constraint, Constraints, Decode, constraints};
+use rasn_constraints::count::Count;
+use rasn_constraints::sizes::OutOfSize;
 use rasn_per::bits::BitReader;
 use rasn_per::per::de::{DecodeError, Decoder, DecoderOptions};
 use rasn_per::uper::{

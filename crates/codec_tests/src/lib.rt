@@ -1,5 +1,5 @@
-//! Tests of what no clause says of values (`rasn_types`, `rasn_times`, `rasn_strings`, `rasn_constraints`), of bits
-//! (`per_bits`), of the calls (`rasn_per`, `per_versions`, `per_located`, `per_contents`, `rasn_jer`) and of pages, and
+//! Tests of what no clause says of values (`rasn_types`, `rasn_strings`, `rasn_constraints`), of bits
+//! (`per_bits`), of the calls (`rasn_per`, `per_versions`, `per_located`, `rasn_jer`) and of pages, and
 //! no row of `rows/` or `vectors/` has: outside vectors, printed text, that calls succeed, what `uper` says of what it
 //! refuses, and where octets are refused.
 #![tactic(auto)]

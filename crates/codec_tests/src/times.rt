@@ -2,12 +2,14 @@
 
 use crate::expected::expect_octets;
 use jiff::civil::DateTime;
-use rasn_times::date::{date_from_parts, date_to_parts};
-use rasn_times::error::TimeError;
-use rasn_times::generalized_time::{
+use rasn_strings::date::{date_from_parts, date_to_parts};
+use rasn_strings::generalized_time::{
     datetime_to_canonical_generalized_time_bytes, parse_canonical_generalized_time_string,
 };
-use rasn_times::utc_time::{datetime_to_canonical_utc_time_bytes, parse_canonical_utc_time_string};
+use rasn_strings::time_error::TimeError;
+use rasn_strings::utc_time::{
+    datetime_to_canonical_utc_time_bytes, parse_canonical_utc_time_string,
+};
 use std::alloc::Global;
 use std::process::Abort;
 use std::test::Fail;

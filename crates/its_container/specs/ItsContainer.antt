@@ -4,10 +4,105 @@ use Rattle.rasn_below.specs.Page.{extensible_automatic, extensible_enumerated, i
 use Rattle.rasn_below.specs.Page.{octet_string, optional, sequence, sequence_of, size◌to◌, u16, u32, u64, u8, ◌to◌}
 use Rattle.std.specs.Prelude.{[], ◌∷◌}
 
+-- StationID ::= INTEGER (0..4294967295)
+abbrev pub station_id : Component
+station_id = integer u32 (0 to 4294967295)
+
+-- ItsPduHeader ::= SEQUENCE {
+--     protocolVersion INTEGER (0..255),
+--     messageID INTEGER { denm(1), cam(2), poi(3), spatem(4), mapem(5), ivim(6), ev-rsr(7), tistpgtransaction(8),
+--         srem(9), ssem(10), evcsn(11), saem(12), rtcmem(13), cpm(14) } (0..255),
+--     stationID StationID
+-- }
+abbrev pub its_pdu_header_lists : TypeLists
+its_pdu_header_lists = automatic (
+    integer u8 (0 to 255) ∷  -- protocolVersion
+    integer u8 (0 to 255) ∷  -- messageID
+    station_id ∷  -- stationID
+    [])
+
+abbrev pub its_pdu_header : Component
+its_pdu_header = sequence its_pdu_header_lists
+
+-- StationType ::= INTEGER { unknown(0), pedestrian(1), cyclist(2), moped(3), motorcycle(4), passengerCar(5),
+--     bus(6), lightTruck(7), heavyTruck(8), trailer(9), specialVehicles(10), tram(11), roadSideUnit(15) } (0..255)
+abbrev pub station_type : Component
+station_type = integer u8 (0 to 255)
+
+-- Latitude ::= INTEGER { oneMicrodegreeNorth(10), oneMicrodegreeSouth(-10), unavailable(900000001) }
+--     (-900000000..900000001)
+abbrev pub latitude : Component
+latitude = integer i32 (minus 900000000 to 900000001)
+
+-- Longitude ::= INTEGER { oneMicrodegreeEast(10), oneMicrodegreeWest(-10), unavailable(1800000001) }
+--     (-1800000000..1800000001)
+abbrev pub longitude : Component
+longitude = integer i32 (minus 1800000000 to 1800000001)
+
+-- SemiAxisLength ::= INTEGER { oneCentimeter(1), outOfRange(4094), unavailable(4095) } (0..4095)
+abbrev pub semi_axis_length : Component
+semi_axis_length = integer u16 (0 to 4095)
+
 -- HeadingValue ::= INTEGER { wgs84North(0), wgs84East(900), wgs84South(1800), wgs84West(2700), unavailable(3601) }
 --     (0..3601)
 abbrev pub heading_value : Component
 heading_value = integer u16 (0 to 3601)
+
+-- PosConfidenceEllipse ::= SEQUENCE {
+--     semiMajorConfidence SemiAxisLength,
+--     semiMinorConfidence SemiAxisLength,
+--     semiMajorOrientation HeadingValue
+-- }
+abbrev pub pos_confidence_ellipse_lists : TypeLists
+pos_confidence_ellipse_lists = automatic (
+    semi_axis_length ∷  -- semiMajorConfidence
+    semi_axis_length ∷  -- semiMinorConfidence
+    heading_value ∷  -- semiMajorOrientation
+    [])
+
+abbrev pub pos_confidence_ellipse : Component
+pos_confidence_ellipse = sequence pos_confidence_ellipse_lists
+
+-- AltitudeValue ::= INTEGER { referenceEllipsoidSurface(0), oneCentimeter(1), unavailable(800001) }
+--     (-100000..800001)
+abbrev pub altitude_value : Component
+altitude_value = integer i32 (minus 100000 to 800001)
+
+-- AltitudeConfidence ::= ENUMERATED { alt-000-01(0), alt-000-02(1), alt-000-05(2), alt-000-10(3), alt-000-20(4),
+--     alt-000-50(5), alt-001-00(6), alt-002-00(7), alt-005-00(8), alt-010-00(9), alt-020-00(10), alt-050-00(11),
+--     alt-100-00(12), alt-200-00(13), outOfRange(14), unavailable(15) }
+abbrev pub altitude_confidence : Component
+altitude_confidence = enumerated 16
+
+-- Altitude ::= SEQUENCE {
+--     altitudeValue AltitudeValue,
+--     altitudeConfidence AltitudeConfidence
+-- }
+abbrev pub altitude_lists : TypeLists
+altitude_lists = automatic (
+    altitude_value ∷  -- altitudeValue
+    altitude_confidence ∷  -- altitudeConfidence
+    [])
+
+abbrev pub altitude : Component
+altitude = sequence altitude_lists
+
+-- ReferencePosition ::= SEQUENCE {
+--     latitude Latitude,
+--     longitude Longitude,
+--     positionConfidenceEllipse PosConfidenceEllipse,
+--     altitude Altitude
+-- }
+abbrev pub reference_position_lists : TypeLists
+reference_position_lists = automatic (
+    latitude ∷  -- latitude
+    longitude ∷  -- longitude
+    pos_confidence_ellipse ∷  -- positionConfidenceEllipse
+    altitude ∷  -- altitude
+    [])
+
+abbrev pub reference_position : Component
+reference_position = sequence reference_position_lists
 
 -- HeadingConfidence ::= INTEGER { equalOrWithinZeroPointOneDegree(1), equalOrWithinOneDegree(10), outOfRange(126),
 --     unavailable(127) } (1..127)
@@ -223,16 +318,6 @@ vertical_acceleration = sequence vertical_acceleration_lists
 abbrev pub performance_class : Component
 performance_class = integer u8 (0 to 7)
 
--- Latitude ::= INTEGER { oneMicrodegreeNorth(10), oneMicrodegreeSouth(-10), unavailable(900000001) }
---     (-900000000..900000001)
-abbrev pub latitude : Component
-latitude = integer i32 (minus 900000000 to 900000001)
-
--- Longitude ::= INTEGER { oneMicrodegreeEast(10), oneMicrodegreeWest(-10), unavailable(1800000001) }
---     (-1800000000..1800000001)
-abbrev pub longitude : Component
-longitude = integer i32 (minus 1800000000 to 1800000001)
-
 -- ProtectedZoneID ::= INTEGER (0..134217727)
 abbrev pub protected_zone_id : Component
 protected_zone_id = integer u32 (0 to 134217727)
@@ -294,91 +379,6 @@ protected_communication_zone = sequence protected_communication_zone_lists
 -- ProtectedCommunicationZonesRSU ::= SEQUENCE (SIZE (1..16)) OF ProtectedCommunicationZone
 abbrev pub protected_communication_zones_rsu : Component
 protected_communication_zones_rsu = sequence_of (size 1 to 16) protected_communication_zone
-
--- StationID ::= INTEGER (0..4294967295)
-abbrev pub station_id : Component
-station_id = integer u32 (0 to 4294967295)
-
--- ItsPduHeader ::= SEQUENCE {
---     protocolVersion INTEGER (0..255),
---     messageID INTEGER { denm(1), cam(2), poi(3), spatem(4), mapem(5), ivim(6), ev-rsr(7), tistpgtransaction(8),
---         srem(9), ssem(10), evcsn(11), saem(12), rtcmem(13), cpm(14) } (0..255),
---     stationID StationID
--- }
-abbrev pub its_pdu_header_lists : TypeLists
-its_pdu_header_lists = automatic (
-    integer u8 (0 to 255) ∷  -- protocolVersion
-    integer u8 (0 to 255) ∷  -- messageID
-    station_id ∷  -- stationID
-    [])
-
-abbrev pub its_pdu_header : Component
-its_pdu_header = sequence its_pdu_header_lists
-
--- StationType ::= INTEGER { unknown(0), pedestrian(1), cyclist(2), moped(3), motorcycle(4), passengerCar(5),
---     bus(6), lightTruck(7), heavyTruck(8), trailer(9), specialVehicles(10), tram(11), roadSideUnit(15) } (0..255)
-abbrev pub station_type : Component
-station_type = integer u8 (0 to 255)
-
--- SemiAxisLength ::= INTEGER { oneCentimeter(1), outOfRange(4094), unavailable(4095) } (0..4095)
-abbrev pub semi_axis_length : Component
-semi_axis_length = integer u16 (0 to 4095)
-
--- PosConfidenceEllipse ::= SEQUENCE {
---     semiMajorConfidence SemiAxisLength,
---     semiMinorConfidence SemiAxisLength,
---     semiMajorOrientation HeadingValue
--- }
-abbrev pub pos_confidence_ellipse_lists : TypeLists
-pos_confidence_ellipse_lists = automatic (
-    semi_axis_length ∷  -- semiMajorConfidence
-    semi_axis_length ∷  -- semiMinorConfidence
-    heading_value ∷  -- semiMajorOrientation
-    [])
-
-abbrev pub pos_confidence_ellipse : Component
-pos_confidence_ellipse = sequence pos_confidence_ellipse_lists
-
--- AltitudeValue ::= INTEGER { referenceEllipsoidSurface(0), oneCentimeter(1), unavailable(800001) }
---     (-100000..800001)
-abbrev pub altitude_value : Component
-altitude_value = integer i32 (minus 100000 to 800001)
-
--- AltitudeConfidence ::= ENUMERATED { alt-000-01(0), alt-000-02(1), alt-000-05(2), alt-000-10(3), alt-000-20(4),
---     alt-000-50(5), alt-001-00(6), alt-002-00(7), alt-005-00(8), alt-010-00(9), alt-020-00(10), alt-050-00(11),
---     alt-100-00(12), alt-200-00(13), outOfRange(14), unavailable(15) }
-abbrev pub altitude_confidence : Component
-altitude_confidence = enumerated 16
-
--- Altitude ::= SEQUENCE {
---     altitudeValue AltitudeValue,
---     altitudeConfidence AltitudeConfidence
--- }
-abbrev pub altitude_lists : TypeLists
-altitude_lists = automatic (
-    altitude_value ∷  -- altitudeValue
-    altitude_confidence ∷  -- altitudeConfidence
-    [])
-
-abbrev pub altitude : Component
-altitude = sequence altitude_lists
-
--- ReferencePosition ::= SEQUENCE {
---     latitude Latitude,
---     longitude Longitude,
---     positionConfidenceEllipse PosConfidenceEllipse,
---     altitude Altitude
--- }
-abbrev pub reference_position_lists : TypeLists
-reference_position_lists = automatic (
-    latitude ∷  -- latitude
-    longitude ∷  -- longitude
-    pos_confidence_ellipse ∷  -- positionConfidenceEllipse
-    altitude ∷  -- altitude
-    [])
-
-abbrev pub reference_position : Component
-reference_position = sequence reference_position_lists
 
 -- VehicleRole ::= ENUMERATED { default(0), publicTransport(1), specialTransport(2), dangerousGoods(3),
 --     roadWork(4), rescue(5), emergency(6), safetyCar(7), agriculture(8), commercial(9), military(10),

@@ -4,6 +4,90 @@ use crate::path_point::PathPoint;
 use crate::protected_communication_zone::ProtectedCommunicationZone;
 use rasn_below::page::*;
 
+/// StationID ::= INTEGER (0..4294967295)
+pub type StationId = u32;
+
+/// StationType ::= INTEGER { unknown(0), pedestrian(1), cyclist(2), moped(3), motorcycle(4), passengerCar(5),
+///     bus(6), lightTruck(7), heavyTruck(8), trailer(9), specialVehicles(10), tram(11), roadSideUnit(15) } (0..255)
+pub type StationType = u8;
+
+/// `unknown` of StationType.
+pub const STATION_TYPE_UNKNOWN: u8 = 0;
+
+/// `pedestrian` of StationType.
+pub const STATION_TYPE_PEDESTRIAN: u8 = 1;
+
+/// `cyclist` of StationType.
+pub const STATION_TYPE_CYCLIST: u8 = 2;
+
+/// `moped` of StationType.
+pub const STATION_TYPE_MOPED: u8 = 3;
+
+/// `motorcycle` of StationType.
+pub const STATION_TYPE_MOTORCYCLE: u8 = 4;
+
+/// `passengerCar` of StationType.
+pub const STATION_TYPE_PASSENGER_CAR: u8 = 5;
+
+/// `bus` of StationType.
+pub const STATION_TYPE_BUS: u8 = 6;
+
+/// `lightTruck` of StationType.
+pub const STATION_TYPE_LIGHT_TRUCK: u8 = 7;
+
+/// `heavyTruck` of StationType.
+pub const STATION_TYPE_HEAVY_TRUCK: u8 = 8;
+
+/// `trailer` of StationType.
+pub const STATION_TYPE_TRAILER: u8 = 9;
+
+/// `specialVehicles` of StationType.
+pub const STATION_TYPE_SPECIAL_VEHICLES: u8 = 10;
+
+/// `tram` of StationType.
+pub const STATION_TYPE_TRAM: u8 = 11;
+
+/// `roadSideUnit` of StationType.
+pub const STATION_TYPE_ROAD_SIDE_UNIT: u8 = 15;
+
+/// Latitude ::= INTEGER { oneMicrodegreeNorth(10), oneMicrodegreeSouth(-10), unavailable(900000001) }
+///     (-900000000..900000001)
+pub type Latitude = i32;
+
+/// `oneMicrodegreeNorth` of Latitude.
+pub const LATITUDE_ONE_MICRODEGREE_NORTH: i32 = 10;
+
+/// `oneMicrodegreeSouth` of Latitude.
+pub const LATITUDE_ONE_MICRODEGREE_SOUTH: i32 = -10;
+
+/// `unavailable` of Latitude.
+pub const LATITUDE_UNAVAILABLE: i32 = 900_000_001;
+
+/// Longitude ::= INTEGER { oneMicrodegreeEast(10), oneMicrodegreeWest(-10), unavailable(1800000001) }
+///     (-1800000000..1800000001)
+pub type Longitude = i32;
+
+/// `oneMicrodegreeEast` of Longitude.
+pub const LONGITUDE_ONE_MICRODEGREE_EAST: i32 = 10;
+
+/// `oneMicrodegreeWest` of Longitude.
+pub const LONGITUDE_ONE_MICRODEGREE_WEST: i32 = -10;
+
+/// `unavailable` of Longitude.
+pub const LONGITUDE_UNAVAILABLE: i32 = 1_800_000_001;
+
+/// SemiAxisLength ::= INTEGER { oneCentimeter(1), outOfRange(4094), unavailable(4095) } (0..4095)
+pub type SemiAxisLength = u16;
+
+/// `oneCentimeter` of SemiAxisLength.
+pub const SEMI_AXIS_LENGTH_ONE_CENTIMETER: u16 = 1;
+
+/// `outOfRange` of SemiAxisLength.
+pub const SEMI_AXIS_LENGTH_OUT_OF_RANGE: u16 = 4094;
+
+/// `unavailable` of SemiAxisLength.
+pub const SEMI_AXIS_LENGTH_UNAVAILABLE: u16 = 4095;
+
 /// HeadingValue ::= INTEGER { wgs84North(0), wgs84East(900), wgs84South(1800), wgs84West(2700), unavailable(3601) }
 ///     (0..3601)
 pub type HeadingValue = u16;
@@ -22,6 +106,19 @@ pub const HEADING_VALUE_WGS84_WEST: u16 = 2700;
 
 /// `unavailable` of HeadingValue.
 pub const HEADING_VALUE_UNAVAILABLE: u16 = 3601;
+
+/// AltitudeValue ::= INTEGER { referenceEllipsoidSurface(0), oneCentimeter(1), unavailable(800001) }
+///     (-100000..800001)
+pub type AltitudeValue = i32;
+
+/// `referenceEllipsoidSurface` of AltitudeValue.
+pub const ALTITUDE_VALUE_REFERENCE_ELLIPSOID_SURFACE: i32 = 0;
+
+/// `oneCentimeter` of AltitudeValue.
+pub const ALTITUDE_VALUE_ONE_CENTIMETER: i32 = 1;
+
+/// `unavailable` of AltitudeValue.
+pub const ALTITUDE_VALUE_UNAVAILABLE: i32 = 800_001;
 
 /// HeadingConfidence ::= INTEGER { equalOrWithinZeroPointOneDegree(1), equalOrWithinOneDegree(10), outOfRange(126),
 ///     unavailable(127) } (1..127)
@@ -252,32 +349,6 @@ pub const PERFORMANCE_CLASS_PERFORMANCE_CLASS_A: u8 = 1;
 /// `performanceClassB` of PerformanceClass.
 pub const PERFORMANCE_CLASS_PERFORMANCE_CLASS_B: u8 = 2;
 
-/// Latitude ::= INTEGER { oneMicrodegreeNorth(10), oneMicrodegreeSouth(-10), unavailable(900000001) }
-///     (-900000000..900000001)
-pub type Latitude = i32;
-
-/// `oneMicrodegreeNorth` of Latitude.
-pub const LATITUDE_ONE_MICRODEGREE_NORTH: i32 = 10;
-
-/// `oneMicrodegreeSouth` of Latitude.
-pub const LATITUDE_ONE_MICRODEGREE_SOUTH: i32 = -10;
-
-/// `unavailable` of Latitude.
-pub const LATITUDE_UNAVAILABLE: i32 = 900_000_001;
-
-/// Longitude ::= INTEGER { oneMicrodegreeEast(10), oneMicrodegreeWest(-10), unavailable(1800000001) }
-///     (-1800000000..1800000001)
-pub type Longitude = i32;
-
-/// `oneMicrodegreeEast` of Longitude.
-pub const LONGITUDE_ONE_MICRODEGREE_EAST: i32 = 10;
-
-/// `oneMicrodegreeWest` of Longitude.
-pub const LONGITUDE_ONE_MICRODEGREE_WEST: i32 = -10;
-
-/// `unavailable` of Longitude.
-pub const LONGITUDE_UNAVAILABLE: i32 = 1_800_000_001;
-
 /// ProtectedZoneID ::= INTEGER (0..134217727)
 pub type ProtectedZoneId = u32;
 
@@ -301,77 +372,6 @@ pub const PROTECTED_ZONE_RADIUS_ONE_METER: i128 = 1;
 
 /// ProtectedCommunicationZonesRSU ::= SEQUENCE (SIZE (1..16)) OF ProtectedCommunicationZone
 pub type ProtectedCommunicationZonesRsu = Vec<ProtectedCommunicationZone>;
-
-/// StationID ::= INTEGER (0..4294967295)
-pub type StationId = u32;
-
-/// StationType ::= INTEGER { unknown(0), pedestrian(1), cyclist(2), moped(3), motorcycle(4), passengerCar(5),
-///     bus(6), lightTruck(7), heavyTruck(8), trailer(9), specialVehicles(10), tram(11), roadSideUnit(15) } (0..255)
-pub type StationType = u8;
-
-/// `unknown` of StationType.
-pub const STATION_TYPE_UNKNOWN: u8 = 0;
-
-/// `pedestrian` of StationType.
-pub const STATION_TYPE_PEDESTRIAN: u8 = 1;
-
-/// `cyclist` of StationType.
-pub const STATION_TYPE_CYCLIST: u8 = 2;
-
-/// `moped` of StationType.
-pub const STATION_TYPE_MOPED: u8 = 3;
-
-/// `motorcycle` of StationType.
-pub const STATION_TYPE_MOTORCYCLE: u8 = 4;
-
-/// `passengerCar` of StationType.
-pub const STATION_TYPE_PASSENGER_CAR: u8 = 5;
-
-/// `bus` of StationType.
-pub const STATION_TYPE_BUS: u8 = 6;
-
-/// `lightTruck` of StationType.
-pub const STATION_TYPE_LIGHT_TRUCK: u8 = 7;
-
-/// `heavyTruck` of StationType.
-pub const STATION_TYPE_HEAVY_TRUCK: u8 = 8;
-
-/// `trailer` of StationType.
-pub const STATION_TYPE_TRAILER: u8 = 9;
-
-/// `specialVehicles` of StationType.
-pub const STATION_TYPE_SPECIAL_VEHICLES: u8 = 10;
-
-/// `tram` of StationType.
-pub const STATION_TYPE_TRAM: u8 = 11;
-
-/// `roadSideUnit` of StationType.
-pub const STATION_TYPE_ROAD_SIDE_UNIT: u8 = 15;
-
-/// SemiAxisLength ::= INTEGER { oneCentimeter(1), outOfRange(4094), unavailable(4095) } (0..4095)
-pub type SemiAxisLength = u16;
-
-/// `oneCentimeter` of SemiAxisLength.
-pub const SEMI_AXIS_LENGTH_ONE_CENTIMETER: u16 = 1;
-
-/// `outOfRange` of SemiAxisLength.
-pub const SEMI_AXIS_LENGTH_OUT_OF_RANGE: u16 = 4094;
-
-/// `unavailable` of SemiAxisLength.
-pub const SEMI_AXIS_LENGTH_UNAVAILABLE: u16 = 4095;
-
-/// AltitudeValue ::= INTEGER { referenceEllipsoidSurface(0), oneCentimeter(1), unavailable(800001) }
-///     (-100000..800001)
-pub type AltitudeValue = i32;
-
-/// `referenceEllipsoidSurface` of AltitudeValue.
-pub const ALTITUDE_VALUE_REFERENCE_ELLIPSOID_SURFACE: i32 = 0;
-
-/// `oneCentimeter` of AltitudeValue.
-pub const ALTITUDE_VALUE_ONE_CENTIMETER: i32 = 1;
-
-/// `unavailable` of AltitudeValue.
-pub const ALTITUDE_VALUE_UNAVAILABLE: i32 = 800_001;
 
 /// ExteriorLights ::= BIT STRING { lowBeamHeadlightsOn(0), highBeamHeadlightsOn(1), leftTurnSignalOn(2),
 ///     rightTurnSignalOn(3), daytimeRunningLightsOn(4), reverseLightOn(5), fogLightOn(6), parkingLightsOn(7) }

@@ -2,3 +2,11 @@ pub mod Contents
 pub mod Lawful
 pub mod Passing
 pub mod Values
+pub mod Closed
+pub mod Fronts
+pub mod Leaves
+pub mod Oks
+pub mod Parts
+pub mod Presences
+pub mod SameValues
+pub mod Within

@@ -1,3 +1,4 @@
 pub mod Inside
 pub mod Keeps
 pub mod Subidentifiers
+pub mod OneLevel

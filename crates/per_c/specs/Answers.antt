@@ -1,11 +1,11 @@
 -- What the calls answer.
 use Rattle.std.specs.Prelude.{ℕ, ◌≡◌, ◌≢◌, ◌<◌, ◌≤◌, take, drop, List, length, slice_get, Some, None, Result, Ok, Err}
 use Rattle.per_core.specs.Rows.{Codec}
-use Rattle.named_types.specs.declared.types.NamedType.{NamedType}
+use Rattle.per_lines.specs.declared.types.NamedType.{NamedType}
 use Rattle.per_lines.specs.declared.arguments.Padding.{Padding}
 use Rattle.line_replies.specs.declared.fault.Fault.{Fault}
 use Rattle.line_replies.specs.declared.fault.Fault.TheVariants as Faults
-use Rattle.named_types.specs.Types.{schema_of, types}
+use Rattle.per_lines.specs.Types.{schema_of, types}
 use Rattle.per_lines.specs.Showing.{AreShown, HasNoText}
 use Rattle.per_lines.specs.Recoding.{Recodes, IsRefusal, reader_of}
 use Rattle.per_c.specs.declared.refusal.Refusal.{Refusal}

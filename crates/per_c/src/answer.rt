@@ -6,8 +6,8 @@ ghost use Rattle.per_c.specs.Answers.{AreRecoded, HasNoJson, IsJson, IsRefused};
 use crate::json::shown;
 use crate::refusal::Refusal;
 use crate::request::options_of;
-use named_types::types::{NamedType, done};
 use per_lines::recode::Recoding;
+use per_lines::types::{NamedType, done};
 use std::alloc::Global;
 
 /// The canonical octets of the value that octets spell, of the type and with the options that these numbers stand for.

@@ -1,17 +1,17 @@
 //! The calls that `include/per.h` declares.
 
 ghost use Rattle.std.specs.Prelude.{◌≡◌, ◌≢◌, ◌<◌, [], ℕ, List, length, slice_get, Some, None};
-ghost use Rattle.named_types.specs.declared.types.NamedType.{NamedType as a_type};
+ghost use Rattle.per_lines.specs.declared.types.NamedType.{NamedType as a_type};
 ghost use Rattle.per_c.specs.Answers.{AreRecoded, HasNoJson, IsAnswerPut, IsAnswerUnput, IsJson, IsRefused};
 ghost use Rattle.per_c.specs.Answers.{IsRefusedBy, IsUnputBy, Puts};
-ghost use Rattle.named_types.specs.Types.{types, word_of};
+ghost use Rattle.per_lines.specs.Types.{types, word_of};
 ghost use Rattle.per_c.specs.Numbers.{code_of, last_code, name_of, in_c};
 ghost use Rattle.per_c.specs.declared.refusal.Refusal.{Refusal as a_refusal};
 
 use crate::answer::{answer, json, put};
 use crate::name::Name;
 use crate::refusal::Refusal;
-use named_types::types::NamedType;
+use per_lines::types::NamedType;
 use std::alloc::Global;
 
 /// Whether octets spell a value of a type that has a canonical encoding: 0, or the code of a refusal.

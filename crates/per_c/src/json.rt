@@ -1,16 +1,16 @@
 //! From the octets of a value to its JSON.
 
 ghost use Rattle.std.specs.Prelude.{IfOk, IfErr};
-ghost use Rattle.named_types.specs.Types.{schema_of};
+ghost use Rattle.per_lines.specs.Types.{schema_of};
 ghost use Rattle.per_lines.specs.Recoding.{reader_of};
 ghost use Rattle.per_lines.specs.Showing.{AreShown};
 ghost use Rattle.per_c.specs.Shown.{IsUnshown};
 
 use crate::refusal::Refusal;
-use named_types::types::{NamedType, done};
 use per_lines::arguments::Padding;
 use per_lines::named::Work;
 use per_lines::recode::decode;
+use per_lines::types::{NamedType, done};
 use rasn_below::codec::{Decode, Encode};
 use rasn_below::types::Codec;
 use rasn_jer::encode;

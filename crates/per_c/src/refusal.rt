@@ -12,11 +12,11 @@ ghost use Rattle.per_write.specs.declared.error.EncodeErrorKind.{EncodeErrorKind
 ghost use Rattle.rasn_dynamic_jer.specs.declared.from_json_error.FromJsonError.{FromJsonError as a_from_json_error};
 
 use line_replies::fault::Fault;
-use per_errors::bounds::OutOfBounds;
-use per_errors::count::Count;
-use per_errors::sizes::OutOfSize;
 use per_messages::error::{MessageError, from_json_name};
 use rasn_below::types::Tag;
+use rasn_constraints::bounds::OutOfBounds;
+use rasn_constraints::count::Count;
+use rasn_constraints::sizes::OutOfSize;
 use rasn_dynamic_jer::from_json_error::FromJsonError;
 use rasn_jer::EncodeError as JsonError;
 use rasn_per::uper::{DecodeError, DecodeErrorKind, EncodeErrorKind, ParserFailCause};

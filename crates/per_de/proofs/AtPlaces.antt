@@ -14,8 +14,8 @@ use Rattle.rasn_traits.specs.Counted.{IsChoiceOf, index_in, item_at, side_of, st
 use Rattle.per_core.specs.Basic.{basic, Octets}
 use Rattle.per_core.specs.Spellings.{Settings}
 use Rattle.per_core.specs.Took.{Took}
-use Rattle.per_read_types.specs.Choices.{index_form, index_of}
-use Rattle.per_read_types.specs.Enumerations.{item_form, placed_item}
+use Rattle.per_decoding.specs.ChoiceIndexes.{index_form, index_of}
+use Rattle.per_decoding.specs.Enumerations.{item_form, placed_item}
 use Rattle.per_read.specs.Kinds.{NoneIn, Stopped}
 use Rattle.per_read.specs.declared.error.DecodeError.{DecodeError}
 use Rattle.per_read.specs.declared.error.DecodeErrorKind.TheVariants.{OutOfMemory}

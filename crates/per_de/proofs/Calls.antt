@@ -12,7 +12,7 @@ use Rattle.per_core.specs.Spellings.{Settings, Spelling}
 use Rattle.per_core.specs.Basic.{basic, basic_in, bit, IsNumberOf}
 use Rattle.per_core.specs.Took.{Took}
 use Rattle.per_core.proofs.Took.{took_map}
-use Rattle.per_errors.specs.Counts.{count_of}
+use Rattle.rasn_constraints.specs.Counts.{count_of}
 use Rattle.per_read.specs.Kinds.{Faulty, NoneIn}
 use Rattle.per_read.specs.Numbers.{IsOfNumber}
 use Rattle.per_read.specs.declared.error.DecodeError.{DecodeError}

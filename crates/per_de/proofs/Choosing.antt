@@ -13,7 +13,7 @@ use Rattle.per_core.specs.Basic.{Octets}
 use Rattle.per_core.specs.Spellings.{Settings}
 use Rattle.per_core.specs.Took.{Took}
 use Rattle.per_core.proofs.Took.{then_took}
-use Rattle.per_read_types.specs.Choices.{IsOfIndex, index_form}
+use Rattle.per_decoding.specs.ChoiceIndexes.{IsOfIndex, index_form}
 use Rattle.per_read.specs.Kinds.{NoneIn, Stopped}
 use Rattle.per_read.specs.declared.error.DecodeError.{DecodeError}
 use Rattle.per_read.specs.declared.error.DecodeErrorKind.{DecodeErrorKind}

@@ -7,7 +7,7 @@ use Rattle.per_core.specs.Basic.{basic, basic_in}
 use Rattle.per_core.specs.Spellings.{Settings}
 use Rattle.per_core.specs.Took.{Took}
 use Rattle.per_core.proofs.Took.{took_map}
-use Rattle.per_read_types.specs.Enumerations.{item_form}
+use Rattle.per_decoding.specs.Enumerations.{item_form}
 use Rattle.per_read.specs.Kinds.{NoneIn}
 
 pub reads_item : (a : Settings) (r e : ℕ) (ext : Bool) (v : Value) {s t : Bits} → Took (item_form a r e ext v) s t → Took (basic a (Schemas.items r e ext) v) s t

@@ -36,7 +36,8 @@ use Rattle.per_decoding.specs.State.{Marks, State, Spells, noting, noting_bit, s
 use Rattle.per_decoding.specs.Turns.{CountsAs, Turn, awaiting, is_complete, misplaced, next, uncounted, within_list}
 use Rattle.per_de.specs.InTurn.{LeavesChoice, LeavesOpen, LeavesRecord, are_in_turn, are_open, is_addition_in_turn, is_addition_open, is_choice_in_turn, is_choice_open, is_open_in_turn}
 use Rattle.per_de.specs.Outsides.{outside_addition_of, outside_choice_of}
-use Rattle.per_de.specs.Lending.{AreLent}
+use Rattle.per_de.specs.Lending.{AreLent, ComeAlone, TakesOctets}
+use Rattle.per_de.specs.declared.taken_octets.TakenOctets.{TakenOctets}
 use Rattle.per_de.specs.Lists.{IsListInTurn, IsOpenList}
 use Rattle.per_de.specs.Openings.{is_open}
 use Rattle.per_de.specs.Turns.{IsComplete, turn_of}
@@ -344,6 +345,23 @@ lent_noted size mark s m last borrowed many (Ok x) e h =
       (λ b. let l = k.0 b in record { some = l.some; alone = l.alone; lends = l.lends; on_octets = l.on_octets }),
       (λ l. k.1 (record { some = l.some; alone = l.alone; lends = l.lends; on_octets = l.on_octets })),
     )
+
+pub taken_noted : {size : Size} {mark : Bool} {s m t : State} (r : Result TakenOctets DecodeError) → m ≡ noting s → TakesOctets plain_rules size mark m r t → TakesOctets decoder_rules size mark s r t
+taken_noted {size} {mark} (Ok x) e h =
+    let w = h.ok in
+    record {
+      ok = record {
+        items = w.items;
+        are = w.are;
+        read = begun (Ok w.items) e w.read;
+        in_front = (
+          (λ a. let i = w.in_front.0 a in (subst (λ z. ComeAlone size mark z.bits (length w.items)) e i.0, i.1)),
+          (λ i. w.in_front.1 (subst (λ z. ComeAlone size mark z.bits (length w.items)) (sym e) i.0, i.1)),
+        );
+      };
+      err = tt;
+    }
+taken_noted (Err k) e h = record { ok = tt; err = begun (Err k) e h.err }
 
 -- A list is opened, and gone on in.
 list_turned : (x : Turn) {e : Schema} {size : Size} {mark : Bool} {s : State} {vs : List Value} {l : ListScope} {i : State} → IsOpenList e size mark s vs l i

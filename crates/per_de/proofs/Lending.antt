@@ -34,6 +34,12 @@ use Rattle.per_read.specs.Stands.{LastTaken}
 use Rattle.per_decoding.specs.Faults.{refusal}
 use Rattle.per_decoding.specs.Rules.{plain_rules}
 use Rattle.per_decoding.specs.State.{State, reader_of, refused, settings_of, with_last}
+use Rattle.std.specs.Prelude.{Vec}
+use Rattle.per_de.specs.Lending.{in_front, AreTaken, IsInFront, TakenAs, TakesOctets}
+use Rattle.per_de.specs.Sources.{place_left}
+use Rattle.per_de.specs.declared.taken_octets.TakenOctets.{TakenOctets}
+use Rattle.per_de.specs.declared.taken_octets.TakenOctets.TheVariants.{InFront, Copied}
+use Rattle.per_de.proofs.Calls.{reads_ok}
 use Rattle.per_de.specs.Lending.{AreLent, AreRead, CanBeLent, ComeAlone, is_counted_once, is_extended}
 use Rattle.per_de.specs.Sources.{bits_of, place_of, span_of, up_to, AreInInput, AreOctetsIn, AreOctetsOf, IsWithin}
 use Rattle.per_de.specs.declared.source.Source.{Source}
@@ -237,3 +243,61 @@ module _ (s : State) (size : Size) (mark : Bool) (left : ℕ) (t : State) (live 
       let many : length (cow_slice_items v) ≡ n = ap length same ∙ g.many in
       let rest : length t.bits ≡ left = ap length w.1 ∙ sym g.behind in
       ((λ b. absurd (owned_not v o b)), λ a. absurd (none (subst (λ (k : ℕ). AreLent size mark s left k) many (subst (λ (k : ℕ). AreLent size mark s k (length (cow_slice_items v))) rest a))))
+
+  -- what comes alone stands in front of the bits that are left
+  between_these : ComeAlone size mark s.bits n → unpack g.items ≡ between (length s.bits - left - 8 * n) (length s.bits - left) s.bits
+  between_these c =
+      let h = (last c).0 in
+      let k = length s.bits - left - 8 * n in
+      let m = length s.bits - left - k in
+      let all : length s.bits ≡ length h.before + (length (unpack g.items) + length g.rest) = omega (arith, ap length h.joins, length-append h.before (unpack g.items ++ g.rest), length-append (unpack g.items) g.rest) in
+      let first : length h.before ≡ k = omega (arith, all, g.behind, h.wide, g.many) in
+      let many : length (unpack g.items) ≡ m = omega (arith, all, g.behind, h.wide, g.many) in
+      sym (ap (λ z. take m z) (ap (λ z. drop k z) h.joins ∙ drop_at h.before (unpack g.items ++ g.rest) k first) ∙ take_at (unpack g.items) g.rest m many)
+
+  -- how many bits stand in front of the last ones
+  pub ends_there : (span : Span) (source : Source) → up_to span source ≡ s.source → IsWithin span (bits_of source) → left ≤ span.end → left ≤ length s.bits → t ≡ with_last s left → in_front t ≡ span.end - left
+  ends_there span source e h l few a =
+      let rest : length t.bits ≡ left = ap (λ z. length z.bits) a ∙ length-drop (length s.bits - left) s.bits ∙ omega (arith, few) in
+      let from : t.source ≡ up_to span source = ap (λ z. z.source) a ∙ sym e in
+      omega (arith, rest, ap (λ z. z.behind) from, ap (λ z. length z.bits) from, h.enough, l)
+
+  taken_read : t ≡ with_last s left → Reads plain_rules (Schemas.octet_string size mark) octets s (Ok g.items) t
+  taken_read h =
+      let after : Taking = record { bits = g.rest; options = (reader_of s).options } in
+      let r : Takes (memory_or (λ a. IsOfItems a size mark Octet)) (λ a. Counted a size mark octet_items octet) (λ P (v : List ℕ). P v) (reader_of s) (Ok g.items) after = record { ok = g.took; err = tt; kept = refl } in
+      reads s (Schemas.octet_string size mark) octets live (λ v. reads_octets (settings_of s) size mark v) refl r g.behind (refl, h) (λ d. faulty_octets (settings_of s) size mark s.bits d)
+
+  pub taken_in_front : (span : Span) (source : Source) → up_to span source ≡ s.source → span_of span (bits_of source) ≡ s.bits → IsWithin span (bits_of source) → left ≤ span.end → ComeAlone size mark s.bits n → place_left t ≡ 0
+      → t ≡ with_last s left → TakenAs plain_rules size mark s (InFront n) t
+  taken_in_front span source e b h l alone on a =
+      let few : 8 * n + left ≤ length (span_of span (bits_of source)) = omega (arith, enough alone, ap length b) in
+      let from : t.source ≡ up_to span source = ap (λ z. z.source) a ∙ sym e in
+      let there = ends_there span source e h l (omega (arith, enough alone)) a in
+      record {
+        items = g.items;
+        are = record {
+          are = (last alone).1;
+          same = between_these alone ∙ ap (λ z. between (length z - left - 8 * n) (length z - left) z) (sym b) ∙ sym (inner span (bits_of source) left (8 * n) h few)
+              ∙ ap₂ (λ (k : ℕ) (z : Bits). between (k - 8 * n) k z) (sym there) (sym (ap (λ z. z.bits) from));
+        };
+        read = taken_read a;
+        in_front = ((λ x. (subst (λ (m : ℕ). ComeAlone size mark s.bits m) (sym g.many) alone, on)), (λ x. tt));
+      }
+
+  -- what is copied comes in fragments, or doesn't stand on octets
+  pub taken_copy : (v : Vec ℕ Global) → Reads plain_rules (Schemas.octet_string size mark) (λ (v : Vec ℕ Global). octets v.items) s (Ok v) t → left ≤ length s.bits
+      → (ComeAlone size mark s.bits n → place_left (with_last s left) ≡ 0 → ⊥) → TakenAs plain_rules size mark s (Copied v) t
+  taken_copy v h few none =
+      let w = took_agree (one_reading (settings_of s) (Schemas.octet_string size mark) (octets v.items) (octets g.items)) h.law.took (reads_octets (settings_of s) size mark g.items g.took) in
+      let same : v.items ≡ g.items = let e = w.0 in cc in
+      let many : length v.items ≡ n = ap length same ∙ g.many in
+      let rest : length t.bits ≡ length (with_last s left).bits = ap length w.1 ∙ sym g.behind ∙ omega (arith, length-drop (length s.bits - left) s.bits, few) in
+      let from : t.source ≡ s.source = ap (λ z. z.source) h.law.same in
+      let place : place_left t ≡ place_left (with_last s left) = ap₂ (λ z (k : ℕ). (z.place + (length z.bits - (z.behind + k))) % 8) from rest in
+      record {
+        items = v.items;
+        are = refl;
+        read = reads_ok v v.items refl h;
+        in_front = ((λ x. absurd x), (λ x. absurd (none (subst (λ (m : ℕ). ComeAlone size mark s.bits m) many x.0) (sym place ∙ x.1))));
+      }

@@ -13,7 +13,7 @@ use Rattle.per_core.specs.Spellings.{Settings}
 use Rattle.per_core.specs.Took.{Took}
 use Rattle.per_core.proofs.Took.{took_map}
 use Rattle.per_read.specs.Kinds.{Faulty, NoneIn}
-use Rattle.per_read_types.specs.Times.{IsOfIdentifier, IsOfTime, identifier_form, time_form}
+use Rattle.per_decoding.specs.Times.{IsOfIdentifier, IsOfTime, identifier_form, time_form}
 use Rattle.per_read.specs.declared.error.DecodeError.{DecodeError}
 use Rattle.per_read.specs.declared.error.DecodeErrorKind.{DecodeErrorKind}
 use Rattle.per_read.specs.declared.error.DecodeErrorKind.TheVariants.{ExceedsMaxParseDepth, OutOfMemory}

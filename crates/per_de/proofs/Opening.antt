@@ -10,7 +10,7 @@ use Rattle.rasn_traits.specs.Calls.{Refuses}
 use Rattle.per_core.specs.Basic.{ExtensionBit}
 use Rattle.per_core.specs.Took.{Took}
 use Rattle.per_core.proofs.Took.{then_took, took_agree}
-use Rattle.per_errors.specs.Counts.{count_of}
+use Rattle.rasn_constraints.specs.Counts.{count_of}
 use Rattle.per_read.specs.declared.error.DecodeError.{DecodeError}
 use Rattle.per_read.specs.declared.error.DecodeErrorKind.{DecodeErrorKind}
 use Rattle.per_read.specs.declared.error.DecodeErrorKind.TheVariants.{Incomplete, OutOfMemory}

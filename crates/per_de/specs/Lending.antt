@@ -1,17 +1,20 @@
 -- When the octets of an OCTET STRING are lent, and not copied (ITU-T X.691, 11.9, 17).
-use Rattle.std.specs.Prelude.{◌≡◌, ◌⊎◌, ◌<◌, ◌+◌, ◌-◌, ◌%◌, ℕ, Bool, true, false, nat_lt, List, ◌∷◌, [], length, Option}
-use Rattle.std.specs.Prelude.{Some, Result, Err, IfOk, IfErr, OnOk}
+use Rattle.std.specs.Prelude.{◌≡◌, ◌⊎◌, ◌<◌, ◌≤◌, ◌+◌, ◌-◌, ◌*◌, ◌%◌, ◌↔◌, ℕ, Bool, true, false, nat_lt, List, ◌∷◌, []}
+use Rattle.std.specs.Prelude.{length, Option, Some, Result, Ok, Err, IfOk, IfErr, OnOk}
 use Rattle.rasn_types.specs.Bits.{Bits}
 use Rattle.rasn_types.specs.Values.{octets}
 use Rattle.rasn_constraints.specs.Bounds.{Size}
 use Rattle.rasn_schema.specs.Schemas
-use Rattle.rasn_traits.specs.Calls.{Reads}
+use Rattle.rasn_traits.specs.Calls.{DecoderRules, Reads}
 use Rattle.per_core.specs.Basic.{Counted, octet}
 use Rattle.per_core.specs.Counts.{octet_items}
 use Rattle.per_core.specs.Took.{Took}
 use Rattle.per_read.specs.declared.error.DecodeError.{DecodeError}
 use Rattle.per_decoding.specs.Rules.{plain_rules}
 use Rattle.per_decoding.specs.State.{State, settings_of}
+use Rattle.per_de.specs.Sources.{place_left, AreOctetsOf}
+use Rattle.per_de.specs.declared.taken_octets.TakenOctets.{TakenOctets}
+use Rattle.per_de.specs.declared.taken_octets.TakenOctets.TheVariants.{InFront, Copied}
 
 -- X.691 11.9.3.3, 11.9.4.1: whether a size with these bounds has octets behind a constrained count, or behind none
 -- where the bounds are one number
@@ -64,3 +67,37 @@ pub record SkipsOctets (size : Size) (mark : Bool) (s : State) (result : Result 
   pub ok : IfOk result (λ x. AreRead size mark s x.0 x.1)
   pub stays : OnOk result (t ≡ s)
   pub err : IfErr result (λ e. Reads plain_rules (Schemas.octet_string size mark) octets s (Err e) t)
+
+-- how many bits of their source stand in front of those that are left
+abbrev pub in_front : State → ℕ
+in_front s = length s.source.bits - (s.source.behind + length s.bits)
+
+-- n octets of the source stand in front of the bits that are left, which begin an octet
+pub record StandInFront (s : State) (n : ℕ) : Type 0 where
+  pub many : 8 * n ≤ in_front s
+  pub on_octets : place_left s ≡ 0
+
+-- the octets of an OCTET STRING that was taken: the last in front of the bits that are left, or a copy of them
+abbrev pub AreTaken : State → TakenOctets → List ℕ → Type 0
+AreTaken t (InFront n) os = AreOctetsOf t.source.bits (in_front t) n os
+AreTaken t (Copied copy) os = os ≡ copy.items
+
+-- whether they are no copy
+abbrev pub IsInFront : TakenOctets → Type 0
+IsInFront (InFront n) = Unit {0}
+IsInFront (Copied copy) = ⊥
+
+-- The octets of an OCTET STRING under a size were taken as those that it reads (X.691 17). They aren't copied exactly
+-- where they come with one count alone, or with none, and stand on octets of the source.
+pub record TakenAs (rules : DecoderRules DecodeError State) (size : Size) (mark : Bool) (s : State) (x : TakenOctets)
+    (t : State) : Type 0 where
+  pub items : List ℕ
+  pub are : AreTaken t x items
+  pub read : Reads rules (Schemas.octet_string size mark) octets s (Ok items) t
+  pub in_front : IsInFront x ↔ (ComeAlone size mark s.bits (length items) × (place_left t ≡ 0))
+
+-- a call that takes them, or refuses to read them
+pub record TakesOctets (rules : DecoderRules DecodeError State) (size : Size) (mark : Bool) (s : State)
+    (result : Result TakenOctets DecodeError) (t : State) : Type 0 where
+  pub ok : IfOk result (λ x. TakenAs rules size mark s x t)
+  pub err : IfErr result (λ e. Reads rules (Schemas.octet_string size mark) octets s (Err e) t)

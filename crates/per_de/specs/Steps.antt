@@ -8,8 +8,8 @@ use Rattle.rasn_schema.specs.declared.items.Place.{Place}
 use Rattle.per_core.specs.Basic.{ExtensionBit, IsBitmap, Octets, Unknown, bit}
 use Rattle.per_core.specs.Spellings.{Then}
 use Rattle.per_core.specs.Took.{Took}
-use Rattle.per_errors.specs.Counts.{count_of}
-use Rattle.per_read_types.specs.Choices.{IsOfIndex, index_form, index_of}
+use Rattle.rasn_constraints.specs.Counts.{count_of}
+use Rattle.per_decoding.specs.ChoiceIndexes.{IsOfIndex, index_form, index_of}
 use Rattle.per_read.specs.Kinds.{IsTested, NoneIn, Stopped}
 use Rattle.per_read.specs.Takes.{Front}
 use Rattle.per_read.specs.declared.error.DecodeError.{DecodeError}

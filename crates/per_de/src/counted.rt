@@ -10,9 +10,9 @@ ghost use Rattle.per_de.specs.Steps.{TakesIndex};
 use crate::source::Extension;
 use crate::turns::{Around, Turn};
 use crate::{Alternative, Decoder, Scope};
+use per_decoding::choices::{take_choice_index, take_root_index};
+use per_decoding::items::{take_item, take_short_item};
 use per_read::error::DecodeError;
-use per_read_types::choices::{take_choice_index, take_root_index};
-use per_read_types::items::{take_item, take_short_item};
 use rasn_schema::items::{ItemCounts, Place};
 use rasn_traits::counted::CountedDecoder;
 use rasn_types::types::Tag;
@@ -33,6 +33,20 @@ impl<'input> CountedDecoder for Decoder<'input> {
     fn open_record(
         &mut self,
         _tag: Tag,
+        components: usize,
+        presence_bits: usize,
+        additions: Option<usize>,
+    ) -> Result<Around<Scope>, DecodeError> {
+        self.begin_value()?;
+        let turn = self.turn();
+        let scope = self.enter_record(presence_bits, additions)?;
+        self.set_turn(Turn::Awaiting(components));
+        Ok(Around { scope, turn })
+    }
+
+    fn open_fields_of(
+        &mut self,
+        _tag: Tag,
         presence_bits: usize,
         additions: Option<usize>,
     ) -> Result<Around<Scope>, DecodeError> {
@@ -41,6 +55,10 @@ impl<'input> CountedDecoder for Decoder<'input> {
         let scope = self.enter_record(presence_bits, additions)?;
         self.set_turn(Turn::Uncounted);
         Ok(Around { scope, turn })
+    }
+
+    fn close_fields_of(&mut self, outside: Around<Scope>) -> Result<(), DecodeError> {
+        self.close_in_turn(outside)
     }
 
     fn open_alternative(

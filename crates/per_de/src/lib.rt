@@ -16,7 +16,7 @@ ghost use Rattle.rasn_schema.specs.Forms.{number_schema, octet_schema, size_of, 
 ghost use Rattle.rasn_schema.specs.Schemas.{Schema};
 ghost use Rattle.rasn_traits.specs.Calls.{Reads, freely_read};
 ghost use Rattle.per_read.specs.declared.error.DecodeErrorKind.TheVariants.{AlreadyFailed};
-ghost use Rattle.per_read_types.specs.Choices.{index_of};
+ghost use Rattle.per_decoding.specs.ChoiceIndexes.{index_of};
 ghost use Rattle.per_read.specs.Lists.{most};
 ghost use Rattle.per_decoding.specs.Additions.{ClosesAddition, EntersContents};
 ghost use Rattle.per_decoding.specs.Additions.{with_outside_addition};
@@ -43,27 +43,27 @@ ghost use Rattle.per_de.specs.Steps.{TakesBit, TakesBitmap, TakesExtensionBit, T
 
 use per_bits::{BitList, BitReader};
 use per_core::lengths::FRAGMENT;
-use per_errors::count::Count;
+use per_decoding::choices::{take_choice_index, take_root_index};
+use per_decoding::dates::take_date;
+use per_decoding::enumerated::{take_enumerated, take_root_item};
+use per_decoding::identifiers::take_object_identifier;
+use per_decoding::integers::{take_integer, take_short_integer};
+use per_decoding::times::{take_generalized_time, take_utc_time};
 use per_read::bitmaps::{PresenceBits, take_bitmap};
 pub use per_read::error;
 pub use per_read::error::{DecodeError, DecodeErrorKind, ParserFailCause};
 use per_read::lists::UnreadElements;
 use per_read::open_types::{Contents, end_of_open, take_open};
 use per_read::{Reader, ReaderOptions};
-use per_read_types::choices::{take_choice_index, take_root_index};
-use per_read_types::dates::take_date;
-use per_read_types::enumerated::{take_enumerated, take_root_item};
-use per_read_types::identifiers::take_object_identifier;
-use per_read_types::integers::{take_integer, take_short_integer};
-use per_read_types::times::{take_generalized_time, take_utc_time};
+use rasn_constraints::count::Count;
 use rasn_schema::choices::Choice;
 use rasn_schema::constraints::Constraints;
 use rasn_schema::enumerated::Enumerated;
 use rasn_schema::fields::Constructed;
 use rasn_schema::items::Place;
 use rasn_schema::schema::IntegerType;
+use rasn_strings::civil::{CivilDate, GeneralizedMoment, UtcMoment};
 use rasn_strings::strings::StaticPermittedAlphabet;
-use rasn_times::civil::{CivilDate, GeneralizedMoment, UtcMoment};
 use rasn_traits::decoder;
 use rasn_types::bit_string::BitString;
 use rasn_types::octet_strings::{Any, GeneralString, GraphicString, TeletexString, Utf8String};
@@ -78,6 +78,7 @@ pub mod elements;
 pub mod open_lists;
 mod scopes;
 mod source;
+pub mod taken_octets;
 pub mod turns;
 
 use source::{Extension, Flags, Source, Span};
@@ -388,11 +389,7 @@ impl<'input> Decoder<'input> {
             self.old result self.new }
         ensures owned { IfOk result (λ x. IsOwnedSlice x) }
     {
-        self.check_unfailed()?;
-        let mut reader = self.reader();
-        let taken = reader.take_octet_string(constraints);
-        let left = reader.bits().len();
-        let octets = self.answer(taken, left)?;
+        let octets = self.copy_octets(constraints)?;
         Ok(CowSlice::Owned(octets))
     }
 

@@ -5,7 +5,7 @@ use Rattle.rasn_schema.specs.Choices.{tags_of}
 use Rattle.rasn_schema.specs.Schemas.{Schema}
 use Rattle.per_core.specs.Spellings.{Settings, Spelling, never}
 use Rattle.per_core.specs.Took.{Took}
-use Rattle.per_read_types.specs.Choices.{index_form}
+use Rattle.per_decoding.specs.ChoiceIndexes.{index_form}
 use Rattle.per_read.specs.declared.error.DecodeError.{DecodeError}
 use Rattle.per_read.specs.Ends.{EndsAs}
 use Rattle.per_decoding.specs.Additions.{OpensContents, OutsideAddition, with_outside_addition}

@@ -15,10 +15,10 @@ use Rattle.per_core.specs.Counts.{list_items}
 use Rattle.per_core.specs.Spellings.{Settings}
 use Rattle.per_core.specs.Basic.{basic, rules, Body, ExtensionBit, Flags, IsBitmap, Octets, Root}
 use Rattle.per_core.specs.Took.{Took}
-use Rattle.per_read_types.specs.Choices.{IsOfIndex, index_form}
-use Rattle.per_read_types.specs.Enumerations.{IsOfItem}
+use Rattle.per_decoding.specs.ChoiceIndexes.{IsOfIndex, index_form}
+use Rattle.per_decoding.specs.Enumerations.{IsOfItem}
 use Rattle.per_read.specs.Kinds.{IsShort, IsTested, NoneIn}
-use Rattle.per_read_types.specs.Times.{IsOfIdentifier, IsOfTime}
+use Rattle.per_decoding.specs.Times.{IsOfIdentifier, IsOfTime}
 use Rattle.per_read.specs.Numbers.{IsOfNumber}
 use Rattle.per_read.specs.Sizes.{IsOfItems, IsOfSize}
 use Rattle.per_read.specs.Strings.{IsOfString, IsOfText}
@@ -33,7 +33,7 @@ use Rattle.per_read.specs.Additions.{Addition, NextFlag, rule_of}
 use Rattle.per_read.specs.Bitmaps.{skipped_unknown}
 use Rattle.per_read.specs.Ends.{IsOfEnd}
 use Rattle.per_decoding.specs.Additions.{Asks, Shown, OutsideAddition}
-use Rattle.per_read_types.specs.Dates.{IsOfDate}
+use Rattle.per_decoding.specs.Dates.{IsOfDate}
 use Rattle.per_decoding.specs.State.{Extension, ahead, State, extension_of, refused, settings_of, with_last}
 
 -- what a kind says where no level is left

@@ -7,3 +7,9 @@ pub mod State
 pub mod Turns
 pub mod InTurn
 pub mod Laws
+pub mod ChoiceIndexes
+pub mod Enumerations
+pub mod Integers
+pub mod Times
+pub mod Dates
+pub mod Years

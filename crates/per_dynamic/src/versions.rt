@@ -1,5 +1,5 @@
 //! What `decode` by an older and by a newer table answers to the same octets (X.680, 52), in both variants, where a
-//! type of the one is a newer version of a type of the other, as `dynamic_versions` finds out at run time. Each law is
+//! type of the one is a newer version of a type of the other, as `lawful_types` finds out at run time. Each law is
 //! the contract of a function that does nothing.
 //!
 //! `strict` says how padding is taken: the laws are of `decode` where it is false and of `decode_zero_padded` where it

@@ -19,11 +19,11 @@ use Rattle.per_write.specs.Faults.{IsMemory}
 use Rattle.per_write.specs.Lists.{IsOpenList as IsOpenListIn}
 use Rattle.per_write.specs.Rules.{encoder_rules}
 use Rattle.per_write.specs.State.{Scope, State}
-use Rattle.per_write_types.specs.Bags.{IsOpenBag as IsOpenBagIn, OpenBag}
-use Rattle.per_write_types.specs.Choices.{OutsideChoice}
+use Rattle.per_enc.specs.Bags.{IsOpenBag as IsOpenBagIn, OpenBag}
+use Rattle.per_enc.specs.Choices.{OutsideChoice}
 use Rattle.per_write.specs.Additions.{Opens as OpensOpenTypeIn}
 use Rattle.per_pieces.specs.Turns.{awaits, counts, Enclosing, Turn, uncounted}
-use Rattle.per_enc.specs.Choices.{OpensChoice as OpensChoiceIn}
+use Rattle.per_enc.specs.AlternativeCounts.{OpensChoice as OpensChoiceIn}
 use Rattle.per_enc.specs.Records.{Opens as OpensIn}
 use Rattle.per_enc.specs.Rules.{encoding_rules, noting}
 use Rattle.per_enc.specs.Scopes.{IsOpenBag, IsOpenList, OpensChoice, OpensOpenType, OpensScope}

@@ -22,10 +22,10 @@ use Rattle.per_write.specs.State.{empty_scope, Presents, Puts, State, view}
 use Rattle.per_write.specs.Unplaced.{BeginsUnplaced, OutsideUnplaced}
 use Rattle.per_write.proofs.Refusing.{no_contents}
 use Rattle.per_write.proofs.Writing.{wrote_same}
-use Rattle.per_pieces.specs.Turns.{counts, Enclosing, uncounted}
+use Rattle.per_pieces.specs.Turns.{awaits, counts, Enclosing}
 use Rattle.per_enc.specs.Rules.{encoding_rules, noting}
 use Rattle.per_enc.specs.Scopes.{OpensContents}
-use Rattle.per_enc.proofs.Choices.{from_start}
+use Rattle.per_enc.proofs.ChoiceScopes.{from_start}
 use Rattle.per_enc.proofs.Around.{memory_noted}
 use Rattle.per_enc.proofs.Noting.{refuses_noted}
 
@@ -58,7 +58,7 @@ refuses_contents e x i s v f c r = record {
   codec_is = r.codec_is ∙ c;
 }
 
-pub contents_opened : (x i : Encoding) (o : OutsideUnplaced) (set : Enclosing) → set ≡ (noting x).set → i.set ≡ counts uncounted → BeginsUnplaced (noting x).writer o i.writer
+pub contents_opened : (x i : Encoding) (o : OutsideUnplaced) (set : Enclosing) → set ≡ (noting x).set → i.set ≡ counts (awaits 1) → BeginsUnplaced (noting x).writer o i.writer
     → OpenedContents encoding_rules OpensContents x (Ok (o, set)) i
 contents_opened x i o set w n h =
     let f : i.writer.failed ≡ false = ap (λ (z : State). z.failed) h.same ∙ h.begun in

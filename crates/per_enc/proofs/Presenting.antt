@@ -22,8 +22,8 @@ use Rattle.per_write.specs.Faults.{IsMemory, IsAlready, RefusesValue, Stands}
 use Rattle.per_write.specs.Numbers.{unconstrained_whole}
 use Rattle.per_write.specs.Rules.{encoder_rules}
 use Rattle.per_write.specs.State.{State, StateAppends, Puts, Presents, view}
-use Rattle.per_write_types.specs.Integers.{IsBetween}
-use Rattle.per_write_types.specs.declared.integers.Between.{Between}
+use Rattle.per_enc.specs.Integers.{IsBetween}
+use Rattle.per_enc.specs.declared.integers.Between.{Between}
 
 -- how a call behaves that an unfailed encoder makes
 pub behaves : (x y : State) (result : Result (Unit {0}) EncodeError) → x.failed ≡ false → OnErr result (y.failed ≡ true) → y.codec ≡ x.codec →

@@ -1,9 +1,11 @@
 -- What came in a scope of which the components are counted, and what closing it says of that (ITU-T X.691, 19, 23).
 use Rattle.std.specs.Prelude.{IsErrAnd, Result, Ok, Err}
 use Rattle.std.proofs.Common.{◌≡◌, refl, sym, ap, ap₂, ◌∙◌, ◌⊎◌, subst, inl, inr, ℕ, zero, suc, ◌+◌, Bool, true, false, List, [], ◌∷◌, length, length-append, Option, Some, None, arith}
-use Rattle.rasn_types.specs.Values.{Value}
+use Rattle.rasn_types.specs.Values.{Side, Value}
 use Rattle.rasn_schema.specs.Lawful.{presence_bits}
 use Rattle.rasn_schema.specs.Schemas.{count, no_parts, Parts, Schema}
+use Rattle.rasn_schema.specs.declared.items.Place.{Place}
+use Rattle.rasn_schema.specs.declared.items.Place.TheVariants.{Root, Added}
 use Rattle.rasn_traits.specs.Additions.{extended}
 use Rattle.rasn_traits.specs.Calls.{Behaves}
 use Rattle.rasn_traits.specs.Lists.{Mistimed}
@@ -15,11 +17,14 @@ use Rattle.per_write.specs.Components.{Encoding}
 use Rattle.per_write.specs.declared.error.EncodeError.{EncodeError}
 use Rattle.per_write.specs.Records.{AreGiven, ClosesOrNot, kept_additions, Opens as OpensRecord}
 use Rattle.per_write.specs.State.{Additions, Scope, State}
+use Rattle.per_write.specs.Unplaced.{OutsideUnplaced}
 use Rattle.per_pieces.specs.Turns.{awaits, counts, Enclosing, is_complete, marked, misplaced, next, past, Turn}
-use Rattle.per_write_types.specs.Choices.{OpensChoiceOf, OutsideChoice}
+use Rattle.per_enc.specs.Choices.{OpensChoiceOf, OutsideChoice}
+use Rattle.per_enc.specs.Placed.{EntersPlaced}
+use Rattle.per_enc.specs.PlacedChoices.{OpensPlaced, OpensPlacedIn}
 use Rattle.per_enc.specs.Records.{behind_marker, part_count}
 use Rattle.per_enc.specs.Rules.{encoding_rules, Marks, noting, Presents}
-use Rattle.per_enc.specs.Scopes.{IsUnclosed, OpensChoice, OpensOpenType, OpensScope}
+use Rattle.per_enc.specs.Scopes.{IsUnclosed, OpensChoice, OpensContents, OpensOpenType, OpensScope}
 use Rattle.per_enc.specs.Laws.Relations.{noting_same}
 use Rattle.per_enc.proofs.Counting.{counted}
 use Rattle.per_enc.proofs.Inside.{fields_inside, mark_inside, value_inside}
@@ -49,12 +54,12 @@ Further None k l = (k ≡ 0) × (l ≡ None)
 Further (Some a) k None = ⊥
 Further (Some a) k (Some b) = (b.count ≡ a.count) × (length b.flags ≡ length a.flags + k)
 
-none_further : (o : Option Additions) → Further o 0 o
+pub none_further : (o : Option Additions) → Further o 0 o
 none_further None = (refl, refl)
 none_further (Some a) = (refl, let e : length a.flags ≡ length a.flags + 0 = omega arith in e)
 
 -- one was given, and then others
-one_further : (a b : Additions) (x : Option Additions) (k : ℕ) (l : Option Additions) (flag : Bool) → x ≡ Some a → b.count ≡ a.count → length b.flags ≡ length a.flags + 1 → Further (Some b) k l → Further x (suc k) l
+pub one_further : (a b : Additions) (x : Option Additions) (k : ℕ) (l : Option Additions) (flag : Bool) → x ≡ Some a → b.count ≡ a.count → length b.flags ≡ length a.flags + 1 → Further (Some b) k l → Further x (suc k) l
 one_further a b x k None flag e c f h = absurd h
 one_further a b x k (Some d) flag e c f h = subst (λ (o : Option Additions). Further o (suc k) (Some d)) (sym e)
     (h.0 ∙ c, let g = h.1 in let n : length d.flags ≡ length a.flags + suc k = omega arith in n)
@@ -130,7 +135,7 @@ amount_is a b c d e =
     ∙ ap (λ (n : ℕ). record { components = b.components; bits = b.bits; additions = n }) e
 
 -- how many additions were given of those that are kept where a record is opened
-all_given : (o l : Option Additions) (k n place : ℕ) (marker : Bool) → (marker ≡ false → n ≡ 0) → o ≡ kept_additions place (behind_marker marker n) → Further o k l → AreGiven l → k ≡ n
+pub all_given : (o l : Option Additions) (k n place : ℕ) (marker : Bool) → (marker ≡ false → n ≡ 0) → o ≡ kept_additions place (behind_marker marker n) → Further o k l → AreGiven l → k ≡ n
 all_given o l k n place false z e h g =
     let f : Further None k l = subst (λ (q : Option Additions). Further q k l) e h in
     f.0 ∙ sym (z refl)
@@ -199,16 +204,28 @@ unfailed_in_addition x i o h = ap (λ (z : State). z.failed) h.opened.same ∙ h
 pub addition_untimely : (x i j : Encoding) (o : OutsideAddition × Enclosing) (result : Result (Unit {0}) EncodeError) → OpensOpenType x o i → is_complete j.set ≡ true → RefusesOther encoding_rules one_value i j result
 addition_untimely x i j o result h t = one_untimely i j result h.inside (ap (λ (z : State). z.scope.presences.left) h.opened.same) (ap (λ (z : State). z.scope.additions) h.opened.same) t
 
--- X.691 23: inside a choice no presence bit and no addition is due
-pub record ChoiceOpened (i : Encoding) : Type 0 where
+-- where one value is to come no presence bit and no addition is due
+pub record OneOpened (i : Encoding) : Type 0 where
   pub unfailed : i.writer.failed ≡ false
   pub presences : i.writer.scope.presences.left ≡ 0
   pub additions : i.writer.scope.additions ≡ None
 
-opened_well_at : (n : ℕ) (added : Option ℕ) (x : State) (o : OutsideChoice) (i : Encoding) → OpensChoiceOf n added x o i.writer → ChoiceOpened i
+opened_well_at : (n : ℕ) (added : Option ℕ) (x : State) (o : OutsideChoice) (i : Encoding) → OpensChoiceOf n added x o i.writer → OneOpened i
 opened_well_at n None x o i h = record { unfailed = h.opened.unfailed; presences = ap (λ (z : Scope). z.presences.left) h.opened.place; additions = ap (λ (z : Scope). z.additions) h.opened.place }
 opened_well_at n (Some zero) x o i h = record { unfailed = h.opened.unfailed; presences = ap (λ (z : Scope). z.presences.left) h.opened.place; additions = ap (λ (z : Scope). z.additions) h.opened.place }
 opened_well_at n (Some (suc m)) x o i h = record { unfailed = ap (λ (z : State). z.failed) h.same ∙ h.begun; presences = ap (λ (z : State). z.scope.presences.left) h.same; additions = ap (λ (z : State). z.scope.additions) h.same }
 
-pub choice_opened_well : (s : Schema) (x i : Encoding) (o : OutsideChoice × Enclosing) → OpensChoice s x o i → ChoiceOpened i
+pub choice_opened_well : (s : Schema) (x i : Encoding) (o : OutsideChoice × Enclosing) → OpensChoice s x o i → OneOpened i
 choice_opened_well s x i o h = opened_well_at _ _ (noting x).writer o.0 i h.opened
+
+-- the same of one whose alternative is known
+entered_well : (p : Place) (x : State) (o : OutsideChoice) (i : Encoding) → x.failed ≡ false → EntersPlaced p x o i.writer → OneOpened i
+entered_well (Root k) x o i f h = record { unfailed = ap (λ (z : State). z.failed) h.same ∙ f; presences = ap (λ (z : State). z.scope.presences.left) h.same; additions = ap (λ (z : State). z.scope.additions) h.same }
+entered_well (Added k) x o i f h = record { unfailed = ap (λ (z : State). z.failed) h.same ∙ f; presences = ap (λ (z : State). z.scope.presences.left) h.same; additions = ap (λ (z : State). z.scope.additions) h.same }
+
+pub placed_opened_well : (c : Schema) (d : Side) (k : ℕ) (x i : Encoding) (o : OutsideChoice × Enclosing) → OpensPlaced c d k x o i → OneOpened i
+placed_opened_well c d k x i o h = let w = h.opened.opened in entered_well h.opened.place w.front o.0 i w.written.left w.enters
+
+-- X.691 11.2: octets that are to contain a value are open
+pub contents_opened_well : (x i : Encoding) (o : OutsideUnplaced × Enclosing) → OpensContents x o i → OneOpened i
+contents_opened_well x i o h = record { unfailed = ap (λ (z : State). z.failed) h.opened.same ∙ h.opened.begun; presences = ap (λ (z : State). z.scope.presences.left) h.opened.same; additions = ap (λ (z : State). z.scope.additions) h.opened.same }

@@ -1,7 +1,15 @@
-pub mod Choices
-pub mod Placed
+pub mod AlternativeCounts
+pub mod PlacedChoices
 pub mod Laws
 pub mod Records
 pub mod Rules
 pub mod Scopes
 pub mod Short
+pub mod Choices
+pub mod Placed
+pub mod Times
+pub mod Integers
+pub mod Written
+pub mod Members
+pub mod Bags
+pub mod Dates

@@ -1,27 +1,52 @@
--- What opening a CHOICE of which the alternative is known does to an encoder (ITU-T X.691, 23).
-use Rattle.std.specs.Prelude.{◌≡◌, ℕ}
-use Rattle.rasn_types.specs.Values.{Side}
-use Rattle.rasn_schema.specs.Schemas.{Schema}
+-- What stands at a place that is known, an item or an alternative, and an open CHOICE of which the alternative is known
+-- (ITU-T X.691, 14 and 23).
+use Rattle.std.specs.Prelude.{◌≡◌, true, false, Option, Some, None, Result, IsOk}
+use Rattle.rasn_types.specs.Codecs.{variant_of}
+use Rattle.rasn_types.specs.Variants.{Variant}
+use Rattle.rasn_schema.specs.Enumerations.{is_extensible}
 use Rattle.rasn_schema.specs.declared.items.ItemCounts.{ItemCounts}
 use Rattle.rasn_schema.specs.declared.items.Place.{Place}
-use Rattle.rasn_traits.specs.Counted.{IsChoiceOf, index_in, side_of}
-use Rattle.per_write.specs.Components.{Encoding}
-use Rattle.per_write.specs.State.{State}
-use Rattle.per_pieces.specs.Turns.{Enclosing, uncounted}
-use Rattle.per_write_types.specs.Choices.{OutsideChoice}
-use Rattle.per_write_types.specs.Placed.{OpensPlaced as OpensPlacedOf}
-use Rattle.per_enc.specs.Scopes.{OpensWithin}
+use Rattle.rasn_schema.specs.declared.items.Place.TheVariants.{Root, Added}
+use Rattle.per_core.specs.Canon.{extension_bit}
+use Rattle.per_core.specs.Counts.{constrained_whole, open_bits, small}
+use Rattle.per_core.specs.Writers.{Writer, ◌▹◌}
+use Rattle.per_pieces.specs.Pieces.{Pieces}
+use Rattle.per_write.specs.declared.error.EncodeError.{EncodeError}
+use Rattle.per_write.specs.Faults.{IsMemory}
+use Rattle.per_write.specs.State.{Puts, Scope, State, StateAppends, empty_scope, view}
+use Rattle.per_enc.specs.Choices.{OpensUnplaced, OutsideChoice, restored}
 
--- a choice is open, to write one of its alternatives, which stands at a place
-pub record OpensPlacedIn (c : Schema) (d : Side) (k : ℕ) (x : State) (outside : OutsideChoice) (i : State)
-    : Type 0 where
-  pub alternatives : ItemCounts
-  pub place : Place
-  pub is_choice : IsChoiceOf alternatives c
-  pub side : side_of place ≡ d
-  pub index : index_in place ≡ k
-  pub opened : OpensPlacedOf alternatives place x outside i
+-- X.691 14, 23.5 to 23.8: the extension bit and the index of what stands at a place, of so many
+abbrev pub placed_front : Variant → ItemCounts → Place → Writer
+placed_front a c (Root i) = extension_bit (is_extensible c.addeds) false ▹ constrained_whole a c.roots i
+placed_front a c (Added i) = extension_bit (is_extensible c.addeds) true ▹ small a i
 
--- the same, where what encloses it waits
-abbrev pub OpensPlaced : Schema → Side → ℕ → Encoding → (OutsideChoice × Enclosing) → Encoding → Type 0
-OpensPlaced c d k = OpensWithin uncounted (OpensPlacedIn c d k)
+-- one of the root alternatives follows, and what was open waits
+pub record EntersRoot (x : State) (outside : OutsideChoice) (y : State) : Type 0 where
+  pub waits : outside ≡ record { scope = x.scope; before = None }
+  pub same : y ≡ record x { scope = empty_scope true }
+
+-- X.691 23.7, 23.8: the alternative follows: one of the root in place; an added one has no place yet, since its open
+-- type's length stands in front of it
+abbrev pub EntersPlaced : Place → State → OutsideChoice → State → Type 0
+EntersPlaced (Root i) x outside y = EntersRoot x outside y
+EntersPlaced (Added i) x outside y = OpensUnplaced x outside y
+
+-- a CHOICE of so many alternatives is open, to write the one at a place
+pub record OpensPlaced (alternatives : ItemCounts) (place : Place) (x : State) (outside : OutsideChoice)
+    (y : State) : Type 0 where
+  pub front : State
+  pub written : StateAppends x (placed_front (variant_of x.codec) alternatives place) front
+  pub enters : EntersPlaced place front outside y
+
+-- what was open outside of a root alternative is so again
+pub record LeavesRoot (scope : Scope) (x : State) (result : Result (Unit {0}) EncodeError) (y : State) : Type 0 where
+  pub ok : IsOk result
+  pub same : y ≡ record x { scope = scope }
+
+-- A call that closes a CHOICE in which the alternative was written, by what was written before it, where that waits: an
+-- added one is put behind that in an open type (X.691 23.8).
+abbrev pub ClosesPlaced : Option Pieces → Scope → State → Result (Unit {0}) EncodeError → State → Type 0
+ClosesPlaced None scope x result y = LeavesRoot scope x result y
+ClosesPlaced (Some before) scope x result y =
+    Puts IsMemory (open_bits (variant_of x.codec) (view x 0)) (restored x before scope) result y

@@ -18,9 +18,9 @@ use Rattle.per_write.specs.Records.{Opens as OpensRecord}
 use Rattle.per_write.specs.State.{Scope, State}
 use Rattle.per_pieces.specs.Turns.{awaits, counts, Enclosing, is_complete, Turn, uncounted}
 use Rattle.per_write.specs.Unplaced.{BeginsUnplaced, OutsideUnplaced}
-use Rattle.per_write_types.specs.Bags.{IsOpenBag as IsOpenBagIn, OpenBag}
-use Rattle.per_write_types.specs.Choices.{OutsideChoice}
-use Rattle.per_enc.specs.Choices.{OpensChoice as OpensChoiceIn}
+use Rattle.per_enc.specs.Bags.{IsOpenBag as IsOpenBagIn, OpenBag}
+use Rattle.per_enc.specs.Choices.{OutsideChoice}
+use Rattle.per_enc.specs.AlternativeCounts.{OpensChoice as OpensChoiceIn}
 use Rattle.per_enc.specs.Records.{addition_count, behind_marker, part_count}
 use Rattle.per_enc.specs.Rules.{noting}
 
@@ -63,9 +63,9 @@ OpensFields s = OpensScope uncounted s
 abbrev pub OpensChoice : Schema → Encoding → (OutsideChoice × Enclosing) → Encoding → Type 0
 OpensChoice s = OpensWithin (awaits 1) (OpensChoiceIn s)
 
--- X.682 11, X.691 11.2: octets that are to contain a value are opened; it has no place yet
+-- X.682 11, X.691 11.2: octets that are to contain a value are opened, in which it is to come; it has no place yet
 abbrev pub OpensContents : Encoding → (OutsideUnplaced × Enclosing) → Encoding → Type 0
-OpensContents = OpensWithin uncounted BeginsUnplaced
+OpensContents = OpensWithin (awaits 1) BeginsUnplaced
 
 -- X.691 19.9: the open type of the next addition is opened, in which one value is to come
 pub record OpensOpenType (x : Encoding) (o : OutsideAddition × Enclosing) (y : Encoding) : Type 0 where

@@ -1,17 +1,17 @@
 //! The encoder of types that are data: records by counts, items and alternatives by counts and places.
 
 use crate::Encoder;
+use crate::choices::OutsideChoice;
+use crate::placed::{close_placed, open_placed, put_item};
 use per_write::error::{EncodeError, EncodeErrorKind};
 use per_write::{EnclosingSet, OutsideAddition, Scope};
-use per_write_types::choices::OutsideChoice;
-use per_write_types::placed::{close_placed, open_placed, put_item};
 use rasn_schema::items::{ItemCounts, Place};
 use rasn_traits::counted::CountedEncoder;
 use rasn_types::types::{Identifier, Tag};
 use std::alloc::Allocator;
 
 impl<A: Allocator + Clone> CountedEncoder for Encoder<A> {
-    ghost use Rattle.per_enc.specs.Placed.{OpensPlaced};
+    ghost use Rattle.per_enc.specs.PlacedChoices.{OpensPlaced};
 
     type Placed = (OutsideChoice<A>, EnclosingSet<A>);
 
@@ -32,20 +32,41 @@ impl<A: Allocator + Clone> CountedEncoder for Encoder<A> {
     fn open_record(
         &mut self,
         _tag: Tag,
+        components: usize,
         presence_bits: usize,
         additions: Option<usize>,
         _identifier: Identifier,
     ) -> Result<(Scope<A>, EnclosingSet<A>), EncodeError> {
         let set = self.begin_outer_value()?;
         let scope = self.writer.open_record(presence_bits, additions)?;
+        self.set = EnclosingSet::awaiting(components);
         Ok((scope, set))
     }
 
     fn close_record(&mut self, outside: (Scope<A>, EnclosingSet<A>)) -> Result<(), EncodeError> {
-        self.writer.check_unfailed()?;
+        self.check_scope()?;
         let (scope, set) = outside;
         self.set = set;
         self.writer.close_record(scope)
+    }
+
+    fn open_fields_of(
+        &mut self,
+        _tag: Tag,
+        presence_bits: usize,
+        additions: Option<usize>,
+        _identifier: Identifier,
+    ) -> Result<(Scope<A>, EnclosingSet<A>), EncodeError> {
+        let set = self.begin_outer_value()?;
+        let fields = self.writer.open_record(presence_bits, additions)?;
+        Ok((fields, set))
+    }
+
+    fn close_fields_of(&mut self, outside: (Scope<A>, EnclosingSet<A>)) -> Result<(), EncodeError> {
+        self.writer.check_unfailed()?;
+        let (fields, set) = outside;
+        self.set = set;
+        self.writer.close_record(fields)
     }
 
     fn open_alternative(
@@ -57,6 +78,7 @@ impl<A: Allocator + Clone> CountedEncoder for Encoder<A> {
     ) -> Result<(OutsideChoice<A>, EnclosingSet<A>), EncodeError> {
         let set = self.begin_outer_value()?;
         let choice = open_placed(&mut self.writer, alternatives, place)?;
+        self.set = EnclosingSet::awaiting(1);
         Ok((choice, set))
     }
 
@@ -64,7 +86,7 @@ impl<A: Allocator + Clone> CountedEncoder for Encoder<A> {
         &mut self,
         outside: (OutsideChoice<A>, EnclosingSet<A>),
     ) -> Result<(), EncodeError> {
-        self.writer.check_unfailed()?;
+        self.check_scope()?;
         let (choice, set) = outside;
         self.set = set;
         close_placed(&mut self.writer, choice)

@@ -1,4 +1,6 @@
-//! The canonical encoder of the packed encoding rules (ITU-T X.691).
+//! The canonical encoder of the packed encoding rules (ITU-T X.691), and what it writes of the types' values by a
+//! `Writer`: numbers under constraints, enumerations, identifiers, times, dates, the alternatives of a choice, and the
+//! members of a SET OF.
 #![tactic(auto)]
 
 ghost use Rattle.std.specs.Prelude.{◌≡◌, true, false, Some, OnOk, OnErr, IfOk, IfErr};
@@ -9,24 +11,24 @@ ghost use Rattle.per_write.specs.Faults.{RefusesOutput};
 ghost use Rattle.per_write.specs.State.{view};
 ghost use Rattle.per_pieces.specs.Turns.{is_complete, uncounted};
 
+use crate::bags::OpenBag;
+use crate::choices::{OutsideChoice, checked_place, close_choice, open_choice};
+use crate::dates::put_date;
+use crate::enumerated::put_enumerated;
+use crate::identifiers::put_object_identifier;
+use crate::times::{put_generalized_time, put_utc_time};
 pub use options::EncoderOptions;
 use per_bits::BitList;
 pub use per_write::error;
 pub use per_write::error::{EncodeError, EncodeError as Error, EncodeErrorKind};
 use per_write::lists::{UnwrittenElements, close_list, next_element, open_list};
 use per_write::{EnclosingSet, OutsideAddition, OutsideUnplaced, Scope, Writer};
-use per_write_types::bags::OpenBag;
-use per_write_types::choices::{OutsideChoice, checked_place, close_choice, open_choice};
-use per_write_types::dates::put_date;
-use per_write_types::enumerated::put_enumerated;
-use per_write_types::identifiers::put_object_identifier;
-use per_write_types::times::{put_generalized_time, put_utc_time};
 use rasn_schema::choices::Choice;
 use rasn_schema::enumerated::Enumerated;
 use rasn_schema::fields::{AdditionGroup, Constructed};
 use rasn_schema::schema::{Constraints, IntegerType};
+use rasn_strings::civil::{CivilDate, GeneralizedMoment, UtcMoment};
 use rasn_strings::strings::StaticPermittedAlphabet;
-use rasn_times::civil::{CivilDate, GeneralizedMoment, UtcMoment};
 use rasn_traits::encoder;
 use rasn_types::bit_string::BitString;
 use rasn_types::octet_strings::{Any, GeneralString, GraphicString, TeletexString};
@@ -35,17 +37,27 @@ use scopes::{added_count, addition_count};
 use std::alloc::Allocator;
 use std::marker::Model;
 
+pub mod bags;
+mod bit_fields;
+pub mod choices;
 pub mod counted;
-mod integers;
+pub mod dates;
+pub mod enumerated;
+pub mod identifiers;
+mod integer_calls;
+pub mod integers;
+pub mod member_order;
+pub mod members;
 mod options;
+pub mod placed;
 mod scopes;
+pub mod times;
 
 /// Writes values, one after another, in their canonical bits.
 #[derive(Drop)]
 pub struct Encoder<A: Allocator + Clone> {
     writer: Writer<A>,
-    /// What encloses what is written next: a scope whose components are counted, or a SET whose components are
-    /// gathered.
+    /// What encloses what is written next: a scope that counts its components, or a SET that gathers them.
     set: EnclosingSet<A>,
 }
 
@@ -484,6 +496,7 @@ impl<A: Allocator + Clone> encoder::Encoder for Encoder<A> {
     ) -> Result<(OutsideUnplaced<A>, EnclosingSet<A>), EncodeError> {
         let set = self.begin_outer_value()?;
         let waiting = self.writer.open_unplaced()?;
+        self.set = EnclosingSet::awaiting(1);
         Ok((waiting, set))
     }
 
@@ -491,7 +504,7 @@ impl<A: Allocator + Clone> encoder::Encoder for Encoder<A> {
         &mut self,
         outside: (OutsideUnplaced<A>, EnclosingSet<A>),
     ) -> Result<(), EncodeError> {
-        self.writer.check_unfailed()?;
+        self.check_scope()?;
         let (waiting, set) = outside;
         self.set = set;
         let contents = self.writer.close_unplaced(waiting);

@@ -3,7 +3,7 @@
 
 ghost use Rattle.std.specs.Prelude.{◌≡◌, true, false, OnOk, OnErr, IfOk, IfErr};
 ghost use Rattle.rasn_traits.specs.Optionals.{GivesBit};
-ghost use Rattle.per_enc.specs.Choices.{counted_variants};
+ghost use Rattle.per_enc.specs.AlternativeCounts.{counted_variants};
 ghost use Rattle.per_enc.specs.Records.{counted_behind};
 ghost use Rattle.per_enc.specs.Rules.{encoding_rules, noting};
 ghost use Rattle.per_enc.specs.Scopes.{IsUnclosed};

@@ -43,3 +43,10 @@ pub mod Replaced
 pub mod Sound
 pub mod Named
 pub mod Nameless
+pub mod Sameness
+pub mod Compared
+pub mod Components
+pub mod Judged
+pub mod LawfulParts
+pub mod Shallower
+pub mod Verdicts

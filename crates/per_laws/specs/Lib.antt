@@ -5,3 +5,8 @@ pub mod Listings
 pub mod Written
 pub mod Alike
 pub mod Named
+pub mod Sameness
+pub mod Compared
+pub mod Components
+pub mod Judged
+pub mod Verdicts

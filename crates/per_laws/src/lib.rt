@@ -1,8 +1,11 @@
-//! The laws of schema versions, of open types, of levels and of depth, over the grammar of the packed encoding rules.
-//! Each law is the contract of a function that does nothing.
+//! The laws of schema versions, of open types, of levels and of depth, over the grammar of the packed encoding rules:
+//! each is the contract of a function that does nothing. And which types are versions, and lawful, by computing
+//! (`computed`).
 #![tactic(auto)]
 
 pub mod additions;
+pub mod by_parts;
+pub mod computed;
 pub mod depth;
 pub mod lawful;
 pub mod levels;

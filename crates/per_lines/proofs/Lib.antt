@@ -1,3 +1,4 @@
 pub mod WordLaws
 pub mod AnswerLaws
 pub mod FormLaws
+pub mod Nearest

@@ -2,3 +2,10 @@ pub mod Showing
 pub mod Words
 pub mod Recoding
 pub mod Answers
+pub mod Types
+pub mod Ends
+pub mod Nearest
+pub mod Printing
+pub mod Requests
+pub mod ShownLines
+pub mod Told

@@ -12,13 +12,13 @@ use Rattle.per_samples_a.specs.Fours.{four}
 use Rattle.per_samples_a.specs.Sevens.{seven}
 use Rattle.per_samples_a.specs.Signals.{signals}
 use Rattle.per_samples_c.specs.Items.{with_item}
-use Rattle.per_samples_lists.specs.Bytes.{byte}
-use Rattle.per_samples_lists.specs.Choices.{outer}
-use Rattle.per_samples_lists.specs.Deeps.{deep}
-use Rattle.per_samples_lists.specs.Elements.{elements}
-use Rattle.per_samples_lists.specs.Empties.{maybe_empty}
-use Rattle.per_samples_lists.specs.Nests.{nest}
-use Rattle.per_samples_lists.specs.AddedNests.{added_nest, before_nest}
+use Rattle.per_samples_c.specs.Bytes.{byte}
+use Rattle.per_samples_c.specs.Choices.{outer}
+use Rattle.per_samples_c.specs.Deeps.{deep}
+use Rattle.per_samples_c.specs.Elements.{elements}
+use Rattle.per_samples_c.specs.Empties.{maybe_empty}
+use Rattle.per_samples_c.specs.Nests.{nest}
+use Rattle.per_samples_c.specs.AddedNests.{added_nest, before_nest}
 use Rattle.per_samples_b.specs.Groups.{grouped}
 use Rattle.per_samples_b.specs.Needs.{added_default, none_needed, one_needed}
 use Rattle.per_samples_b.specs.Outers.{outer1, outer2, outer3}

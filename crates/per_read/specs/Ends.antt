@@ -5,7 +5,7 @@ use Rattle.per_core.specs.Ends.{Ends}
 use Rattle.per_bits.specs.Surpluses.{IsWhy}
 use Rattle.per_core.specs.Spellings.{Settings, Spelling}
 use Rattle.per_core.specs.Took.{Took}
-use Rattle.per_errors.specs.Counts.{count_of}
+use Rattle.rasn_constraints.specs.Counts.{count_of}
 use Rattle.per_bits.specs.declared.ended.Surplus.{Surplus}
 use Rattle.per_bits.specs.declared.ended.Surplus.TheVariants.{Missing, NonzeroOctet, NonzeroSpareBits, ExtraOctets}
 use Rattle.per_read.specs.State.{State, settings_of}

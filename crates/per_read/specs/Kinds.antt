@@ -3,7 +3,7 @@ use Rattle.std.specs.Prelude.{◌≡◌, ◌⊎◌, ◌<◌}
 use Rattle.rasn_types.specs.Bits.{Bits}
 use Rattle.per_core.specs.Spellings.{Spelling}
 use Rattle.per_core.specs.Took.{Took}
-use Rattle.per_errors.specs.Counts.{number_of}
+use Rattle.rasn_constraints.specs.Counts.{number_of}
 use Rattle.per_read.specs.declared.error.DecodeErrorKind.{DecodeErrorKind}
 use Rattle.per_read.specs.declared.error.DecodeErrorKind.TheVariants.{Incomplete, ParserFail, ExceedsMaxLength}
 use Rattle.per_read.specs.declared.error.DecodeErrorKind.TheVariants.{OutOfMemory}

@@ -9,7 +9,7 @@ use Rattle.per_core.specs.Spellings.{Settings, Spelling, Then, When, never, AnyP
 use Rattle.per_core.specs.Basic.{IsNumberOf, IsSemiConstrainedWhole, IsUnconstrainedWhole, Octets, Marked}
 use Rattle.per_core.specs.Basic.{constrained_form}
 use Rattle.per_core.specs.Took.{Took}
-use Rattle.per_errors.specs.Bounds.{lower_of, upper_of, value_of}
+use Rattle.rasn_constraints.specs.ToldBounds.{lower_of, upper_of, value_of}
 use Rattle.per_read.specs.Kinds.{IsTested}
 use Rattle.per_read.specs.declared.error.DecodeErrorKind.{DecodeErrorKind}
 use Rattle.per_read.specs.declared.error.DecodeErrorKind.TheVariants.{ValueConstraintNotSatisfied, IntegerOverflow}

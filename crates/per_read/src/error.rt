@@ -3,14 +3,14 @@
 ghost use Rattle.std.specs.Prelude.{◌≡◌};
 ghost use Rattle.std.specs.IoError.{error_kind};
 ghost use Rattle.std.specs.declared.io.ErrorKind.TheVariants.{Other};
-ghost use Rattle.per_errors.specs.Counts.{count_of};
+ghost use Rattle.rasn_constraints.specs.Counts.{count_of};
 ghost use Rattle.per_read.specs.Lacking.{NamesLacking};
 ghost use Rattle.per_read.specs.Names.{name_of};
 ghost use Rattle.per_read.specs.declared.error.DecodeErrorKind.TheVariants.{Incomplete, OutOfMemory};
 
-use per_errors::bounds::OutOfBounds;
-use per_errors::count::Count;
-use per_errors::sizes::OutOfSize;
+use rasn_constraints::bounds::OutOfBounds;
+use rasn_constraints::count::Count;
+use rasn_constraints::sizes::OutOfSize;
 use rasn_traits::de;
 use rasn_types::types::{Codec, Tag};
 use std::alloc::{AllocError, AllocFailed};

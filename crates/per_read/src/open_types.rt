@@ -12,7 +12,7 @@ use crate::ahead::ahead_of;
 use crate::error::{DecodeErrorKind, ParserFailCause};
 use crate::lengths::Length;
 use per_bits::ended::{Surplus, ended};
-use per_errors::count::Count;
+use rasn_constraints::count::Count;
 
 /// The octets of an open type.
 #[derive(Drop)]

@@ -20,7 +20,7 @@ use crate::items::Collector;
 use crate::lengths::Length;
 use per_core::items::Item;
 use per_core::lengths::constrained_bounds;
-use per_errors::sizes::OutOfSize;
+use rasn_constraints::sizes::OutOfSize;
 use rasn_schema::constraints::{Bounded, Extensible};
 
 impl Reader<'_> {

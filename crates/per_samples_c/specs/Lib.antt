@@ -4,3 +4,13 @@ pub mod OneColors
 pub mod Defaults
 pub mod Groups
 pub mod Levels
+pub mod AddedNests
+pub mod Bytes
+pub mod Choices
+pub mod Deeps
+pub mod Elements
+pub mod Empties
+pub mod Filters
+pub mod Mutuals
+pub mod Nests
+pub mod Trees

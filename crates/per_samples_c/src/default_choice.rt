@@ -6,9 +6,7 @@ ghost use Rattle.per_samples_c.specs.Defaults.{a_true, b_false, default_choice};
 
 use per_samples_b::alt2::Alt2;
 use rasn_below::page::*;
-use rasn_constructed_defaults::{
-    alternative_behind_stands_for, alternative_made, alternative_stands_for,
-};
+use rasn_constructed::{alternative_behind_stands_for, alternative_made, alternative_stands_for};
 use std::alloc::{AllocError, Global};
 
 /// SEQUENCE { first Alt2 DEFAULT a : TRUE, second Alt2 DEFAULT b : FALSE }

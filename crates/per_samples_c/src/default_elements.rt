@@ -7,7 +7,7 @@ ghost use Rattle.per_samples_c.specs.Defaults.{default_elements};
 use crate::default_outer1::TrueFalse;
 use per_samples_b::outer1::Outer1;
 use rasn_below::page::*;
-use rasn_constructed_defaults::elements;
+use rasn_constructed::elements;
 
 /// SEQUENCE {
 ///     flags SEQUENCE (SIZE (0..3)) OF BOOLEAN DEFAULT { TRUE, FALSE },

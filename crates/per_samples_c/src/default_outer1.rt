@@ -6,7 +6,7 @@ ghost use Rattle.per_samples_c.specs.Defaults.{default_outer1, true_false};
 
 use per_samples_b::outer1::Outer1;
 use rasn_below::page::*;
-use rasn_constructed_defaults::{made_record, stands_for_record};
+use rasn_constructed::{made_record, stands_for_record};
 use std::alloc::{AllocError, Global};
 
 /// SEQUENCE { o outer1 DEFAULT (TRUE, FALSE) }

@@ -7,7 +7,7 @@ ghost use Rattle.per_samples_c.specs.Defaults.{default_outer3, true_false_alone}
 use per_samples_b::flagged::Flagged;
 use per_samples_b::outer3::Outer3;
 use rasn_below::page::*;
-use rasn_constructed_defaults::{made_record, stands_for_record};
+use rasn_constructed::{made_record, stands_for_record};
 use std::alloc::{AllocError, Global};
 
 /// SEQUENCE { o outer3 DEFAULT (TRUE, FALSE, both additions absent) }

@@ -7,8 +7,8 @@ ghost use Rattle.per_samples_sets.specs.Dnests.{dnest, dnest_contents, dnest_dep
 use rasn_below::codec::{Decode, Encode};
 use rasn_below::page::*;
 use rasn_below::types::{Date, Identifier};
-use rasn_recursive::read::{Holds, Same, decode};
-use rasn_recursive::{decode_record, encode_record};
+use rasn_constructed::read::{Holds, Same, decode};
+use rasn_constructed::{decode_record, encode_record};
 
 /// Dnest ::= SEQUENCE { inner Dnest OPTIONAL, d DATE OPTIONAL }
 #[derive(Debug, Drop, PartialEq)]

@@ -10,8 +10,8 @@
 use line_replies::fault;
 use message_lines::program::run_words;
 use message_lines::request::Program;
-use show_lines::fault::Fault;
-use show_lines::run::run;
+use per_lines::show_fault::Fault;
+use per_lines::show_run::run;
 use std::alloc::AllocError;
 use std::env;
 use std::env::Env;

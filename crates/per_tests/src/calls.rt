@@ -33,7 +33,7 @@ pub(crate) trait Part {
 
 /// The complete encoding of what was written by an encoder: its one exit before the end is here, since each costs the
 /// proof of all that an encoder holds.
-fn completed(
+pub(crate) fn completed(
     encoder: Encoder<Global>,
     written: Result<(), EncodeError>,
 ) -> Result<Vec<u8>, EncodeError> {

@@ -1,11 +1,11 @@
 //! The names and the texts of a decoder's errors and options.
 
 use per_de::DecoderOptions;
-use per_errors::bounds::OutOfBounds;
-use per_errors::count::Count;
-use per_errors::sizes::OutOfSize;
 use per_read::error::{DecodeError, DecodeErrorKind, ParserFailCause};
 use rasn_below::types::{Codec, Tag};
+use rasn_constraints::bounds::OutOfBounds;
+use rasn_constraints::count::Count;
+use rasn_constraints::sizes::OutOfSize;
 use std::alloc::Global;
 use std::process::Abort;
 use std::test::Fail;

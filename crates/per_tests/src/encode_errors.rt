@@ -1,9 +1,9 @@
 //! The names and the texts of an encoder's errors and options.
 
 use per_enc::{EncodeError, EncodeErrorKind, EncoderOptions};
-use per_errors::bounds::OutOfBounds;
-use per_errors::sizes::OutOfSize;
 use rasn_below::types::Codec;
+use rasn_constraints::bounds::OutOfBounds;
+use rasn_constraints::sizes::OutOfSize;
 use std::alloc::Global;
 use std::process::Abort;
 use std::test::Fail;

@@ -1,6 +1,8 @@
 //! Which octets a `Decoder` lends, and which it copies.
 
 use per_bits::BitReader;
+use per_de::error::DecodeError;
+use per_de::taken_octets::TakenOctets;
 use per_de::{Decoder, DecoderOptions};
 use rasn_below::Constraints;
 use rasn_below::codec::Decoder as AnyDecoder;
@@ -78,5 +80,28 @@ fn copies_octets_in_fragments(rt: HostRuntime) -> Result<(), Fail> {
     let reader = BitReader::from_octets(input.as_slice());
     let octets = octets_of(rt.alloc(), reader, false);
     assert!(rt; is_taken(octets, false, &[0x55; 16384]));
+    Ok(())
+}
+
+/// Whether the octets of an OCTET STRING that an open type contains are these, and lent.
+fn are_lent_of_contents(alloc: Global, input: &[u8], expected: &[u8]) -> Result<bool, DecodeError> {
+    let mut decoder = Decoder::from_octets(alloc, input, DecoderOptions::aligned());
+    let contents = decoder.open_contents(Tag::OCTET_STRING)?;
+    let taken = decoder.take_octet_string(Tag::OCTET_STRING, &Constraints::NONE)?;
+    let TakenOctets::InFront(count) = taken else {
+        return Ok(false);
+    };
+    let are_lent = decoder.octets_in_front(count).unwrap_or(&[]) == expected;
+    decoder.close_contents(contents)?;
+    Ok(are_lent)
+}
+
+#[test]
+fn lends_octets_of_an_open_type_in_fragments(rt: HostRuntime) -> Result<(), Fail> {
+    let mut input = Vec::from_slice(rt.alloc(), &[0xc1, 0xbf, 0xfe])?;
+    input.extend_from_slice(&[0x55; 16382])?;
+    input.push(0x00)?;
+    let are_lent = are_lent_of_contents(rt.alloc(), input.as_slice(), &[0x55; 16382]);
+    assert!(rt; are_lent.ok() == Some(true));
     Ok(())
 }

@@ -3,13 +3,13 @@
 use crate::calls::{read_of, written_of};
 use crate::expected::{expect_unread, expect_unwritten};
 use per_enc::EncodeErrorKind;
-use per_errors::bounds::OutOfBounds;
-use per_errors::count::Count;
-use per_errors::sizes::OutOfSize;
 use per_read::error::DecodeErrorKind;
 use rasn_below::codec::Decode;
 use rasn_below::types::{OctetString, VisibleString};
 use rasn_below::{Constraint, constraints};
+use rasn_constraints::bounds::OutOfBounds;
+use rasn_constraints::count::Count;
+use rasn_constraints::sizes::OutOfSize;
 use std::alloc::{AllocError, Global};
 use std::process::Abort;
 

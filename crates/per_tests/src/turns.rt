@@ -1,15 +1,16 @@
-//! Records and a CHOICE that are closed before all of their components came, or behind too many, over any encoder and
-//! any decoder.
+//! Records, a CHOICE and contents that are closed before all of their components came, or behind too many, over any
+//! encoder and any decoder.
 
-use crate::calls::{Part, encoding_of, unaligned};
+use crate::calls::{Part, completed, encoding_of, unaligned};
 use crate::expected::{expect_octets, expect_unread, expect_unwritten};
-use per_enc::{EncodeError, EncodeErrorKind, EncoderOptions};
+use per_enc::{EncodeError, EncodeErrorKind, Encoder, EncoderOptions};
 use per_read::error::{DecodeError, DecodeErrorKind};
 use per_samples_a::pair::Pair;
 use per_samples_b::alt1::Alt1;
 use rasn_below::codec::{Decoder as AnyDecoder, Encoder as AnyEncoder};
 use rasn_below::types::{Identifier, Tag};
-use rasn_below::{AsnType, Constraints, context_tag};
+use rasn_below::{AsnType, Constraints, ItemCounts, Place, context_tag};
+use rasn_traits::counted::{CountedDecoder, CountedEncoder};
 use std::alloc::Global;
 
 const NONE: Identifier = Identifier::EMPTY;
@@ -46,6 +47,18 @@ impl Part for InChoice {
     }
 }
 
+/// So many values in octets that contain one.
+#[derive(Clone, Copy)]
+struct InContents(usize);
+
+impl Part for InContents {
+    fn put<E: AnyEncoder>(&self, encoder: &mut E) -> Result<(), E::Error> {
+        let outside = encoder.open_contents(Tag::OCTET_STRING, NONE)?;
+        put_truths(encoder, self.0)?;
+        encoder.close_contents(outside)
+    }
+}
+
 /// The octets of what is written.
 fn written_of<P: Part>(alloc: Global, part: &P) -> Result<Vec<u8>, EncodeError> {
     encoding_of(alloc, EncoderOptions::unaligned(), part)
@@ -57,6 +70,8 @@ fn writes_as_many_components_as_there_are(rt: HostRuntime) -> Result<(), EncodeE
     expect_octets(&rt, record.as_slice(), &[0xc0]);
     let choice = written_of(rt.alloc(), &InChoice(1))?;
     expect_octets(&rt, choice.as_slice(), &[0x40]);
+    let contents = written_of(rt.alloc(), &InContents(1))?;
+    expect_octets(&rt, contents.as_slice(), &[0x01, 0x80]);
     Ok(())
 }
 
@@ -68,6 +83,65 @@ fn writes_neither_fewer_nor_more(rt: HostRuntime) {
     }
     for count in [0, 2] {
         let refused = written_of(rt.alloc(), &InChoice(count)).err();
+        expect_unwritten(&rt, refused, EncodeErrorKind::OutOfTurn);
+        let refused = written_of(rt.alloc(), &InContents(count)).err();
+        expect_unwritten(&rt, refused, EncodeErrorKind::OutOfTurn);
+    }
+}
+
+/// What is told by counts, in which so many values come.
+#[derive(Clone, Copy)]
+enum Counted {
+    /// A record of two components.
+    Pair(usize),
+    /// A CHOICE of one alternative.
+    Choice(usize),
+}
+
+/// Writes what is told by counts.
+fn put_counted<E: CountedEncoder>(encoder: &mut E, part: Counted) -> Result<(), E::Error> {
+    match part {
+        Counted::Pair(count) => {
+            let scope = encoder.open_record(Tag::SEQUENCE, 2, 0, None, NONE)?;
+            put_truths(encoder, count)?;
+            encoder.close_record(scope)
+        }
+        Counted::Choice(count) => {
+            let alone = ItemCounts {
+                roots: 1,
+                addeds: None,
+            };
+            let outside = encoder.open_alternative(Tag::EOC, alone, Place::Root(0), NONE)?;
+            put_truths(encoder, count)?;
+            encoder.close_alternative(outside)
+        }
+    }
+}
+
+/// The octets of what is told by counts.
+fn counted_of(alloc: Global, part: Counted) -> Result<Vec<u8>, EncodeError> {
+    let mut encoder = Encoder::new(alloc, EncoderOptions::unaligned());
+    let written = put_counted(&mut encoder, part);
+    completed(encoder, written)
+}
+
+#[test]
+fn writes_as_many_as_are_told(rt: HostRuntime) -> Result<(), EncodeError> {
+    let record = counted_of(rt.alloc(), Counted::Pair(2))?;
+    expect_octets(&rt, record.as_slice(), &[0xc0]);
+    let choice = counted_of(rt.alloc(), Counted::Choice(1))?;
+    expect_octets(&rt, choice.as_slice(), &[0x80]);
+    Ok(())
+}
+
+#[test]
+fn writes_neither_fewer_nor_more_than_are_told(rt: HostRuntime) {
+    for count in [0, 1, 3] {
+        let refused = counted_of(rt.alloc(), Counted::Pair(count)).err();
+        expect_unwritten(&rt, refused, EncodeErrorKind::OutOfTurn);
+    }
+    for count in [0, 2] {
+        let refused = counted_of(rt.alloc(), Counted::Choice(count)).err();
         expect_unwritten(&rt, refused, EncodeErrorKind::OutOfTurn);
     }
 }
@@ -87,11 +161,25 @@ fn take_pair<D: AnyDecoder>(decoder: &mut D, count: usize) -> Result<(), D::Erro
     decoder.close_sequence(scope)
 }
 
+/// Reads a record that is told to have two components as one of so many.
+fn take_told_pair<D: CountedDecoder>(decoder: &mut D, count: usize) -> Result<(), D::Error> {
+    let scope = decoder.open_record(Tag::SEQUENCE, 2, 0, None)?;
+    take_truths(decoder, count)?;
+    decoder.close_sequence(scope)
+}
+
 /// Reads CHOICE { a BOOLEAN, ... } as one of so many values.
 fn take_choice<D: AnyDecoder>(decoder: &mut D, count: usize) -> Result<(), D::Error> {
     let opened = decoder.open_choice::<Alt1>()?;
     take_truths(decoder, count)?;
     decoder.close_choice(opened.1)
+}
+
+/// Reads octets that contain a value as if they contained so many.
+fn take_contents<D: AnyDecoder>(decoder: &mut D, count: usize) -> Result<(), D::Error> {
+    let outside = decoder.open_contents(Tag::OCTET_STRING)?;
+    take_truths(decoder, count)?;
+    decoder.close_contents(outside)
 }
 
 /// Closes a record within a list that was opened in it.
@@ -106,15 +194,27 @@ fn refusal_of_pair(alloc: Global, count: usize) -> Option<DecodeError> {
     take_pair(&mut unaligned(alloc, &[0xc0]), count).err()
 }
 
+/// Why a record that is told to have two components isn't read as one of so many.
+fn refusal_of_told_pair(alloc: Global, count: usize) -> Option<DecodeError> {
+    take_told_pair(&mut unaligned(alloc, &[0xc0]), count).err()
+}
+
 /// Why a CHOICE isn't read as one of so many values.
 fn refusal_of_choice(alloc: Global, count: usize) -> Option<DecodeError> {
     take_choice(&mut unaligned(alloc, &[0x40]), count).err()
 }
 
+/// Why octets that contain a value aren't read as if they contained so many.
+fn refusal_of_contents(alloc: Global, count: usize) -> Option<DecodeError> {
+    take_contents(&mut unaligned(alloc, &[0x01, 0x80]), count).err()
+}
+
 #[test]
 fn reads_as_many_components_as_there_are(rt: HostRuntime) {
     assert!(rt; refusal_of_pair(rt.alloc(), 2).is_none());
+    assert!(rt; refusal_of_told_pair(rt.alloc(), 2).is_none());
     assert!(rt; refusal_of_choice(rt.alloc(), 1).is_none());
+    assert!(rt; refusal_of_contents(rt.alloc(), 1).is_none());
 }
 
 #[test]
@@ -125,11 +225,21 @@ fn reads_neither_fewer_nor_more(rt: HostRuntime) {
             refusal_of_pair(rt.alloc(), count),
             DecodeErrorKind::MissingTag,
         );
+        expect_unread(
+            &rt,
+            refusal_of_told_pair(rt.alloc(), count),
+            DecodeErrorKind::MissingTag,
+        );
     }
     for count in [0, 2] {
         expect_unread(
             &rt,
             refusal_of_choice(rt.alloc(), count),
+            DecodeErrorKind::MissingTag,
+        );
+        expect_unread(
+            &rt,
+            refusal_of_contents(rt.alloc(), count),
             DecodeErrorKind::MissingTag,
         );
     }

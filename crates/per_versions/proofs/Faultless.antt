@@ -11,7 +11,7 @@ use Rattle.rasn_constraints.specs.Bounds.{allows, holds, not_below, not_above, f
 use Rattle.rasn_schema.specs.Absent.{no_value}
 use Rattle.rasn_schema.specs.Depth.{meets_cut}
 use Rattle.rasn_schema.specs.Lawful.{IsLawful}
-use Rattle.per_errors.specs.Bounds.{value_of, lower_of, upper_of}
+use Rattle.rasn_constraints.specs.ToldBounds.{value_of, lower_of, upper_of}
 use Rattle.per_laws.proofs.Named.{normal_allowed}
 use Rattle.rasn_schema.specs.Normal.{normal, normal_at, normal_bits, over_alternative, over_bag}
 use Rattle.rasn_schema.specs.Schemas

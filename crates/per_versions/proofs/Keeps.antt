@@ -5,10 +5,10 @@ use Rattle.rasn_schema.specs.Levels.{Levelled}
 use Rattle.rasn_schema.specs.Schemas.{Schema, Parts}
 use Rattle.per_core.proofs.LengthForms.{and_left, and_right}
 use Rattle.per_laws.proofs.Levelled.{levels_up_to, to_cut}
-use Rattle.rasn_versions.proofs.Alike.{whole_stays}
-use Rattle.rasn_versions.proofs.Judged.{judged_is_lawful}
-use Rattle.rasn_versions.specs.Judged.{judgement}
-use Rattle.rasn_versions.specs.Verdicts.{allowed}
+use Rattle.per_laws.proofs.Sameness.{whole_stays}
+use Rattle.per_laws.proofs.Judged.{judged_is_lawful}
+use Rattle.per_laws.specs.Judged.{judgement}
+use Rattle.per_laws.specs.Verdicts.{allowed}
 use Rattle.per_versions.specs.Kept.{KeepsToI128, keep_to_i128, keeps_to_i128}
 
 and_both : (a b : Bool) → a ≡ true → b ≡ true → (a && b) ≡ true

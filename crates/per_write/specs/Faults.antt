@@ -16,7 +16,7 @@ use Rattle.rasn_schema.specs.Schemas.{by_tag, Schema, Parts, part, Presence, Tag
 use Rattle.rasn_traits.specs.Additions.{extended}
 use Rattle.rasn_traits.specs.Counted.{is_of_kind}
 use Rattle.per_core.specs.Canon.{canon, shown}
-use Rattle.per_errors.specs.Bounds.{value_of, lower_of, upper_of}
+use Rattle.rasn_constraints.specs.ToldBounds.{value_of, lower_of, upper_of}
 use Rattle.per_write.specs.State.{State}
 use Rattle.per_write.specs.declared.error.EncodeError.{EncodeError}
 use Rattle.per_write.specs.declared.error.EncodeErrorKind.{EncodeErrorKind}

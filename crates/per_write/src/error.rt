@@ -5,8 +5,8 @@ ghost use Rattle.std.specs.IoError.{error_kind};
 ghost use Rattle.std.specs.declared.io.ErrorKind.TheVariants.{Other};
 ghost use Rattle.per_write.specs.Names.{name_of};
 
-use per_errors::bounds::OutOfBounds;
-use per_errors::sizes::OutOfSize;
+use rasn_constraints::bounds::OutOfBounds;
+use rasn_constraints::sizes::OutOfSize;
 use rasn_types::types::Codec;
 use std::{fmt, io};
 use thiserror::Error;

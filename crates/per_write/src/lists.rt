@@ -13,7 +13,7 @@ ghost use Rattle.per_write.specs.Rules.{encoder_rules};
 use crate::Writer;
 use crate::error::{EncodeError, EncodeErrorKind};
 use per_core::lengths::{FRAGMENT, constrained_bounds};
-use per_errors::sizes::OutOfSize;
+use rasn_constraints::sizes::OutOfSize;
 use rasn_schema::constraints::{Bounded, Extensible};
 use rasn_schema::schema::Constraints;
 use std::alloc::Allocator;

@@ -1,6 +1,6 @@
 //! A value of more levels than a decoder reads is written.
 
-use per_samples_lists::nest::Nest;
+use per_samples_c::nest::Nest;
 use rasn_per::uper::encode;
 use std::alloc::{AllocError, Global};
 use std::process::Abort;

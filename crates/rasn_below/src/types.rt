@@ -1,6 +1,6 @@
 //! The types of values (X.680 17 to 47), with their tags.
 
-pub use rasn_contents::{Contains, EncodingOf, OpenType};
+pub use rasn_codec::contents::{Contains, EncodingOf, OpenType};
 pub use rasn_sets::set_of::SetOf;
 pub use rasn_strings::strings::{
     BmpString, Ia5String, NumericString, PrintableString, StringError, VisibleString,

@@ -1,2 +1,3 @@
 pub mod Decoded
 pub mod Elements
+pub mod Contained

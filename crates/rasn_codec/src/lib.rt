@@ -1,12 +1,15 @@
-//! The traits of values that can be encoded and decoded, and how values of the plain types and records are.
+//! The traits of values that can be encoded and decoded, and how values of the plain types and records are, and octets
+//! that contain a value.
 #![tactic(auto)]
 
 pub mod alternatives;
 pub mod boxed;
 pub mod codec;
 pub mod constrained;
+pub mod contents;
 pub mod decoder_ext;
 pub mod encoder_ext;
+pub mod encoding_of;
 pub mod enumerated;
 pub mod integers;
 pub mod kinds;

@@ -2,3 +2,5 @@ pub mod Bounds
 pub mod Constraints
 pub mod LawfulConstraints
 pub mod Ranges
+pub mod ToldBounds
+pub mod Counts

@@ -9,7 +9,7 @@ use Rattle.rasn_schema.specs.Lists.{deepest, list_value}
 use Rattle.rasn_schema.specs.Records.{record_value}
 use Rattle.rasn_schema.specs.Schemas
 use Rattle.rasn_schema.specs.Schemas.{Schema, Parts}
-use Rattle.rasn_times.specs.Values.{date_value}
+use Rattle.rasn_strings.specs.Values.{date_value}
 use Rattle.rasn_traits.specs.Counted.{index_in, is_of_kind, item_at, side_of}
 use Rattle.rasn_dynamic.specs.declared.values.Value.{Value}
 use Rattle.rasn_dynamic.specs.declared.values.Value.TheOpen.{Value-F, Absent, Boolean, Null, Integer, Item, Octets}

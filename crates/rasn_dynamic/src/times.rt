@@ -2,16 +2,18 @@
 
 ghost use Rattle.std.specs.Prelude.{◌≡◌, ◌↔◌, ◌≤◌, Err, false, is_some, length, take, IfOk, IfSome, IfNone};
 ghost use Rattle.rasn_types.specs.Contents.{generalized, is_time, utc, TimeKind};
-ghost use Rattle.rasn_times.specs.Moments.{generalized_text, is_generalized_moment, is_utc_moment, utc_text};
-ghost use Rattle.rasn_times.specs.declared.error.TimeError.TheVariants.{Unrepresentable};
+ghost use Rattle.rasn_strings.specs.Moments.{generalized_text, is_generalized_moment, is_utc_moment, utc_text};
+ghost use Rattle.rasn_strings.specs.declared.time_error.TimeError.TheVariants.{Unrepresentable};
 
 use jiff::civil::DateTime;
-use rasn_strings::strings::{BmpString, StaticPermittedAlphabet};
-use rasn_times::error::TimeError;
-use rasn_times::generalized_time::{
+use rasn_strings::generalized_time::{
     datetime_to_canonical_generalized_time_bytes, parse_canonical_generalized_time_string,
 };
-use rasn_times::utc_time::{datetime_to_canonical_utc_time_bytes, parse_canonical_utc_time_string};
+use rasn_strings::strings::{BmpString, StaticPermittedAlphabet};
+use rasn_strings::time_error::TimeError;
+use rasn_strings::utc_time::{
+    datetime_to_canonical_utc_time_bytes, parse_canonical_utc_time_string,
+};
 use std::alloc::{AllocError, Global};
 
 /// How many characters the longest of these texts has: that of a GeneralizedTime with nine digits of a fraction.

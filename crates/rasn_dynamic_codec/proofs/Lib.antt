@@ -10,3 +10,4 @@ pub mod Presences
 pub mod Reading
 pub mod Unfit
 pub mod NoDate
+pub mod Putting

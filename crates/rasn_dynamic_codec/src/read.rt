@@ -12,12 +12,14 @@ ghost use Rattle.rasn_traits.specs.Boxes.{Holds};
 ghost use Rattle.rasn_traits.specs.Calls.{Reads};
 ghost use Rattle.rasn_traits.specs.Optionals.{ReadsComponent};
 ghost use Rattle.rasn_dynamic_codec.specs.OneAddition.{ReadsOneAddition};
-ghost use Rattle.rasn_dynamic_codec.specs.Reads.{OpensNext, OpensWithin, ReadsBoxed, ReadsValue, TakesRoot};
+ghost use Rattle.rasn_dynamic_codec.specs.Reads.{OpensNext, OpensWithin, PutsRead, ReadsBoxed, ReadsValue, TakesRoot};
 ghost use Rattle.rasn_dynamic.specs.Types.{choice_of, contained_at, default_value, grouped, in_root, of_size};
 ghost use Rattle.rasn_dynamic.specs.Types.{parts_at, plain_at, presence_of, record_schema, schema_at, standing};
 ghost use Rattle.rasn_dynamic.specs.Values.{slot_of, value_of};
 
-use crate::read_simple::{decode_any, decode_date, decode_leaf, decode_nothing, decode_simple};
+use crate::read_simple::{
+    decode_any, decode_date, decode_leaf, decode_nothing, decode_simple, put, put_leaf, put_nothing,
+};
 use rasn_constraints::constraints::{Constraint, Constraints};
 use rasn_dynamic::types::{
     Choice, Component, DefaultValue, Kind, Presence, Record, SizeBounds, kind_at,
@@ -182,7 +184,7 @@ fn decode_elements<D: CountedDecoder>(
 
 /// Reads a SEQUENCE.
 #[cycle(reading)]
-#[inline(always)]
+#[inline(never)]
 fn decode_record<D: CountedDecoder>(
     decoder: &mut D,
     kinds: &[Kind],
@@ -195,10 +197,10 @@ fn decode_record<D: CountedDecoder>(
     let additions = sequence.behind();
     let bits = presence_bit_count(components);
     let count = sequence.added_count();
-    let outside = decoder.open_record(Tag::SEQUENCE, bits, count)?;
+    let outside = decoder.open_fields_of(Tag::SEQUENCE, bits, count)?;
     let root = decode_components(decoder, kinds, components)?;
     let added = decode_additions(decoder, kinds, additions)?;
-    decoder.close_sequence(outside)?;
+    decoder.close_fields_of(outside)?;
     Ok(Value::Fields(root, added))
 }
 
@@ -214,10 +216,7 @@ fn decode_components<D: CountedDecoder>(
 {
     let mut values = room_for(decoder.alloc(), components.len());
     for component in components {
-        let value = decode_component(decoder, kinds, component)?;
-        if !push_value(&mut values, value) {
-            return Err(decoder.out_of_memory());
-        }
+        put_component(decoder, kinds, component, &mut values)?;
     }
     Ok(values)
 }
@@ -232,40 +231,137 @@ fn room_for(alloc: Global, count: usize) -> Vec<Value>
     values
 }
 
-/// Reads a root component: one that may be absent by its presence bit, and its value behind a bit 1.
+/// Reads a root component, and puts it behind others: one that may be absent by its presence bit, and its value behind
+/// a bit 1.
 #[cycle(reading)]
 #[inline(always)]
-fn decode_component<D: CountedDecoder>(
+fn put_component<D: CountedDecoder>(
     decoder: &mut D,
     kinds: &[Kind],
     component: &Component,
-) -> Result<Value, D::Error>
-    ensures { ReadsComponent D.rules (presence_of false component.now.presence)
-        (schema_at kinds.now component.now.of (D.rules.levels decoder.old)) slot_of decoder.old result decoder.new }
+    values: &mut Vec<Value>,
+) -> Result<(), D::Error>
+    ensures { PutsRead (ReadsComponent D.rules (presence_of false component.now.presence)
+        (schema_at kinds.now component.now.of (D.rules.levels decoder.old)) slot_of decoder.old)
+        values.old.items result values.new.items decoder.new }
 {
     match &component.presence {
-        Presence::Required => decode_value(decoder, kinds, component.of),
-        Presence::Optional => decode_optional(decoder, kinds, component.of),
-        Presence::Group => decode_optional(decoder, kinds, component.of),
-        Presence::Default(otherwise) => decode_default(decoder, kinds, component.of, otherwise),
+        Presence::Required => put_value(decoder, kinds, component.of, values),
+        Presence::Optional => put_optional(decoder, kinds, component.of, values),
+        Presence::Group => put_optional(decoder, kinds, component.of, values),
+        Presence::Default(otherwise) => {
+            put_default(decoder, kinds, component.of, otherwise, values)
+        },
     }
 }
 
-/// Reads a component that may be absent.
+/// Reads a component that may be absent, and puts it behind others.
 #[cycle(reading)]
 #[inline(always)]
-fn decode_optional<D: CountedDecoder>(
+fn put_optional<D: CountedDecoder>(
     decoder: &mut D,
     kinds: &[Kind],
     place: usize,
-) -> Result<Value, D::Error>
-    ensures { ReadsComponent D.rules optional (schema_at kinds.now place (D.rules.levels decoder.old)) slot_of
-        decoder.old result decoder.new }
+    values: &mut Vec<Value>,
+) -> Result<(), D::Error>
+    ensures { PutsRead (ReadsComponent D.rules optional (schema_at kinds.now place (D.rules.levels decoder.old))
+        slot_of decoder.old) values.old.items result values.new.items decoder.new }
 {
     if !decoder.next_presence()? {
-        return Ok(Value::Absent);
+        return put(decoder, values, Value::Absent);
     }
-    decode_value(decoder, kinds, place)
+    put_value(decoder, kinds, place, values)
+}
+
+/// Reads a component with a default, and puts it behind others.
+#[cycle(reading)]
+#[inline(always)]
+fn put_default<D: CountedDecoder>(
+    decoder: &mut D,
+    kinds: &[Kind],
+    place: usize,
+    otherwise: &DefaultValue,
+    values: &mut Vec<Value>,
+) -> Result<(), D::Error>
+    ensures { PutsRead (ReadsComponent D.rules (default (default_value otherwise.now))
+        (schema_at kinds.now place (D.rules.levels decoder.old)) slot_of decoder.old)
+        values.old.items result values.new.items decoder.new }
+{
+    let value = decode_default(decoder, kinds, place, otherwise)?;
+    put(decoder, values, value)
+}
+
+/// Reads a value of the type at a place of a table, and puts it behind others.
+#[cycle(reading)]
+#[inline(always)]
+fn put_value<D: CountedDecoder>(
+    decoder: &mut D,
+    kinds: &[Kind],
+    place: usize,
+    values: &mut Vec<Value>,
+) -> Result<(), D::Error>
+    ensures { PutsRead (ReadsValue D.rules (schema_at kinds.now place (D.rules.levels decoder.old)) decoder.old)
+        values.old.items result values.new.items decoder.new }
+{
+    match kind_at(kinds, place) {
+        None => put_nothing(decoder, values),
+        Some(kind) => put_kind(decoder, kinds, place, kind, values),
+    }
+}
+
+/// Reads a value of what stands at a place of a table, and puts it behind others.
+#[cycle(reading)]
+#[inline(always)]
+fn put_kind<D: CountedDecoder>(
+    decoder: &mut D,
+    kinds: &[Kind],
+    place: usize,
+    kind: &Kind,
+    values: &mut Vec<Value>,
+) -> Result<(), D::Error>
+    requires { slice_get kinds.now place ≡ Some kind.now }
+    ensures { PutsRead (ReadsValue D.rules (schema_at kinds.now place (D.rules.levels decoder.old)) decoder.old)
+        values.old.items result values.new.items decoder.new }
+{
+    match kind {
+        Kind::Simple(simple) => put_leaf(decoder, simple, values),
+        Kind::Record(record) => put_record(decoder, kinds, record, values),
+        _ => put_other(decoder, kinds, place, kind, values),
+    }
+}
+
+/// Reads a SEQUENCE, and puts it behind other values.
+#[cycle(reading)]
+#[inline(always)]
+fn put_record<D: CountedDecoder>(
+    decoder: &mut D,
+    kinds: &[Kind],
+    sequence: &Record,
+    values: &mut Vec<Value>,
+) -> Result<(), D::Error>
+    ensures { PutsRead (ReadsValue D.rules (record_schema kinds.now sequence.now (D.rules.levels decoder.old))
+        decoder.old) values.old.items result values.new.items decoder.new }
+{
+    let value = decode_record(decoder, kinds, sequence)?;
+    put(decoder, values, value)
+}
+
+/// Reads a value of what stands at a place of a table by itself, and puts it behind others.
+#[cycle(reading)]
+#[inline(always)]
+fn put_other<D: CountedDecoder>(
+    decoder: &mut D,
+    kinds: &[Kind],
+    place: usize,
+    kind: &Kind,
+    values: &mut Vec<Value>,
+) -> Result<(), D::Error>
+    requires { slice_get kinds.now place ≡ Some kind.now }
+    ensures { PutsRead (ReadsValue D.rules (schema_at kinds.now place (D.rules.levels decoder.old)) decoder.old)
+        values.old.items result values.new.items decoder.new }
+{
+    let value = decode_kind(decoder, kinds, place, kind)?;
+    put(decoder, values, value)
 }
 
 /// Reads a component with a default, which it is where it isn't there.
@@ -358,7 +454,7 @@ fn boxed<D: CountedDecoder>(decoder: &mut D, value: Value) -> Result<Box<Value>,
 
 /// Reads the additions of a SEQUENCE in turn.
 #[cycle(reading)]
-#[inline(never)]
+#[inline(always)]
 fn decode_additions<D: CountedDecoder>(
     decoder: &mut D,
     kinds: &[Kind],

@@ -1,6 +1,6 @@
 //! How values are read of types in which no other type stands.
 
-ghost use Rattle.std.specs.Prelude.{◌≡◌};
+ghost use Rattle.std.specs.Prelude.{◌≡◌, ◌++◌, ◌∷◌, [], OnOk};
 ghost use Rattle.rasn_types.specs.Contents.{generalized, other, utc, utf8};
 ghost use Rattle.rasn_types.specs.Values.{characters};
 ghost use Rattle.rasn_constraints.specs.Bounds.{unbounded};
@@ -8,9 +8,10 @@ ghost use Rattle.rasn_schema.specs.Enumerations.{items_of};
 ghost use Rattle.rasn_schema.specs.Forms.{bit_schema, character_schema, named_bit_schema};
 ghost use Rattle.rasn_schema.specs.Forms.{number_schema, octet_schema};
 ghost use Rattle.rasn_schema.specs.Schemas.{Schema};
+ghost use Rattle.rasn_traits.specs.Boxes.{Holds};
 ghost use Rattle.rasn_traits.specs.Calls.{Reads};
 ghost use Rattle.rasn_traits.specs.Moments.{date_at};
-ghost use Rattle.rasn_dynamic_codec.specs.Reads.{ReadsValue};
+ghost use Rattle.rasn_dynamic_codec.specs.Reads.{PutsRead, ReadsValue};
 ghost use Rattle.rasn_dynamic.specs.Types.{counts_of, of_characters, of_size, of_value, simple_schema, string_schema};
 
 use crate::characters::StringOf;
@@ -70,6 +71,105 @@ pub(crate) fn decode_simple<D: CountedDecoder>(
         Simple::GeneralizedTime => decode_generalized_time(decoder),
         Simple::Open => decode_any(decoder),
     }
+}
+
+/// Reads a value of a type in which no other stands, and puts it behind others: the commonest in place.
+#[inline(always)]
+pub(crate) fn put_leaf<D: CountedDecoder>(
+    decoder: &mut D,
+    simple: &Simple,
+    values: &mut Vec<Value>,
+) -> Result<(), D::Error>
+    ensures { PutsRead (ReadsValue D.rules (simple_schema simple.now) decoder.old)
+        values.old.items result values.new.items decoder.new }
+{
+    match simple {
+        Simple::Boolean => put_boolean(decoder, values),
+        Simple::Integer(bounds) => put_integer(decoder, bounds, values),
+        Simple::Enumerated(items) => put_enumerated(decoder, items, values),
+        _ => put_simple(decoder, simple, values),
+    }
+}
+
+/// Reads a BOOLEAN, and puts it behind other values.
+#[inline(always)]
+fn put_boolean<D: CountedDecoder>(decoder: &mut D, values: &mut Vec<Value>) -> Result<(), D::Error>
+    ensures { PutsRead (ReadsValue D.rules Schema.boolean decoder.old)
+        values.old.items result values.new.items decoder.new }
+{
+    let value = decode_boolean(decoder)?;
+    put(decoder, values, value)
+}
+
+/// Reads an INTEGER within bounds, and puts it behind other values.
+#[inline(always)]
+fn put_integer<D: CountedDecoder>(
+    decoder: &mut D,
+    bounds: &NumberBounds,
+    values: &mut Vec<Value>,
+) -> Result<(), D::Error>
+    ensures { PutsRead (ReadsValue D.rules (number_schema (of_value bounds.now) unbounded) decoder.old)
+        values.old.items result values.new.items decoder.new }
+{
+    let value = decode_integer(decoder, bounds)?;
+    put(decoder, values, value)
+}
+
+/// Reads an item of an ENUMERATED, and puts it behind other values.
+#[inline(always)]
+fn put_enumerated<D: CountedDecoder>(
+    decoder: &mut D,
+    items: &Items,
+    values: &mut Vec<Value>,
+) -> Result<(), D::Error>
+    ensures { PutsRead (ReadsValue D.rules (items_of (counts_of items.now)) decoder.old)
+        values.old.items result values.new.items decoder.new }
+{
+    let value = decode_enumerated(decoder, items)?;
+    put(decoder, values, value)
+}
+
+/// Reads a value of a type in which no other stands by itself, and puts it behind others.
+#[inline(always)]
+fn put_simple<D: CountedDecoder>(
+    decoder: &mut D,
+    simple: &Simple,
+    values: &mut Vec<Value>,
+) -> Result<(), D::Error>
+    ensures { PutsRead (ReadsValue D.rules (simple_schema simple.now) decoder.old)
+        values.old.items result values.new.items decoder.new }
+{
+    let value = decode_simple(decoder, simple)?;
+    put(decoder, values, value)
+}
+
+/// Refuses where nothing stands at a place, as for a REAL, and puts nothing behind other values.
+#[inline(always)]
+pub(crate) fn put_nothing<D: CountedDecoder>(
+    decoder: &mut D,
+    values: &mut Vec<Value>,
+) -> Result<(), D::Error>
+    ensures { PutsRead (ReadsValue D.rules Schema.real decoder.old)
+        values.old.items result values.new.items decoder.new }
+{
+    let value = decode_nothing(decoder)?;
+    put(decoder, values, value)
+}
+
+/// Puts a value that was read behind others, where there is memory for it.
+#[inline(always)]
+pub(crate) fn put<D: CountedDecoder>(
+    decoder: &mut D,
+    values: &mut Vec<Value>,
+    value: Value,
+) -> Result<(), D::Error>
+    ensures held { Holds D.rules (λ u. value) value decoder.old result decoder.new }
+    ensures behind { OnOk result (values.new.items ≡ values.old.items ++ value ∷ []) }
+{
+    if values.push(value).is_err() {
+        return Err(decoder.out_of_memory());
+    }
+    Ok(())
 }
 
 /// Refuses where nothing stands at a place, as for a REAL.

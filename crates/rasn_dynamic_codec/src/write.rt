@@ -261,10 +261,10 @@ fn encode_fields<E: CountedEncoder>(
     }
     let bits = presence_bit_count(components);
     let count = sequence.added_count();
-    let outside = encoder.open_record(Tag::SEQUENCE, bits, count, Identifier::EMPTY)?;
+    let outside = encoder.open_fields_of(Tag::SEQUENCE, bits, count, Identifier::EMPTY)?;
     encode_components(encoder, kinds, components, root_values)?;
     encode_additions(encoder, kinds, additions, added_values)?;
-    encoder.close_record(outside)
+    encoder.close_fields_of(outside)
 }
 
 /// Refuses components that aren't those of a SEQUENCE, or of which one with a default isn't told.

@@ -5,8 +5,8 @@ use Rattle.std.specs.Cmp.Lexicographic.{pointwise}
 use Rattle.jiff.specs.Types.{Date}
 use Rattle.rasn_types.specs.Contents.{is_date}
 use Rattle.rasn_types.specs.Values.{Value, day}
-use Rattle.rasn_times.specs.Dates.{IsDay}
-use Rattle.rasn_times.specs.Values.{date_value}
+use Rattle.rasn_strings.specs.Dates.{IsDay}
+use Rattle.rasn_strings.specs.Values.{date_value}
 use Rattle.rasn_dynamic.specs.declared.values.Value.TheFolds.{fold-roll-Value}
 use Rattle.rasn_dynamic.specs.declared.values.Value.TheOpen as Open
 use Rattle.rasn_dynamic.specs.declared.values.Value.TheVariants

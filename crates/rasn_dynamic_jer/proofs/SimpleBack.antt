@@ -21,7 +21,7 @@ use Rattle.rasn_schema.specs.Forms.{size_of}
 use Rattle.rasn_schema.specs.Normal.{normal, normal_bits}
 use Rattle.rasn_schema.specs.declared.items.Place.{Place}
 use Rattle.rasn_schema.specs.declared.items.Place.TheVariants.{Root, Added}
-use Rattle.rasn_times.specs.Values.{date_value}
+use Rattle.rasn_strings.specs.Values.{date_value}
 use Rattle.rasn_traits.specs.Counted.{item_at}
 use Rattle.rasn_dynamic.specs.Names.{name_at}
 use Rattle.rasn_dynamic.specs.Types.{behind, of_size, simple_schema}

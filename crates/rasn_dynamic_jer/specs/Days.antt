@@ -5,7 +5,7 @@ use Rattle.std.specs.Cmp.Lexicographic.{pointwise}
 use Rattle.jiff.specs.Types.{Date}
 use Rattle.rasn_types.specs.Contents.{is_date}
 use Rattle.rasn_types.specs.Values.{Value, day}
-use Rattle.rasn_times.specs.Dates.{IsDay}
+use Rattle.rasn_strings.specs.Dates.{IsDay}
 use Rattle.json.specs.Json.{Json, string}
 use Rattle.rasn_jer.specs.Strings.{day_text}
 

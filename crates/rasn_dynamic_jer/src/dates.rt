@@ -17,7 +17,7 @@ use crate::leaves::put_token;
 use json::{Token, Value as Json, Writer};
 use rasn_dynamic::values::Value;
 use rasn_jer::texts::day_of;
-use rasn_times::date::{Date, date_from_parts, date_to_parts};
+use rasn_strings::date::{Date, date_from_parts, date_to_parts};
 use std::alloc::{AllocError, Global};
 
 /// Writes a day, such as `"2026-11-27"`.

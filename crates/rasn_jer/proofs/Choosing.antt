@@ -64,7 +64,7 @@ never_unclosed VariantNotInChoice kind j f k c h = h
 abbrev state_of : Place → Bool → State
 state_of p f = record { place = p; failed = f }
 
-back : (o : Place) (x : State) → o ≡ x.place → x.failed ≡ false → unfailed_at o ≡ x
+pub back : (o : Place) (x : State) → o ≡ x.place → x.failed ≡ false → unfailed_at o ≡ x
 back o x w b = ap₂ state_of w (sym b)
 
 -- a choice is opened

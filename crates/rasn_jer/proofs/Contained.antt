@@ -1,39 +1,41 @@
--- Octets that contain a value are shown as it.
-use Rattle.std.proofs.Common.{◌≡◌, ◌⊎◌, refl, sym, ap, ◌∙◌, subst, Bool, true, false, inl, inr}
-use Rattle.std.specs.Prelude.{Result, Ok, Err, IfErr, OnOk}
+-- Octets that contain a value are shown as it: it is written by itself, and then where they were awaited.
+use Rattle.std.proofs.Common.{◌≡◌, sym, ap, ◌∙◌, subst, inl, inr, List, ℕ}
+use Rattle.std.specs.Prelude.{Result, Ok, Err, IfOk}
 use Rattle.rasn_types.specs.Values.{Value}
 use Rattle.rasn_schema.specs.Schemas.{Schema}
-use Rattle.rasn_traits.specs.Contents.{ClosesContents, OpensContents as IsOpened}
+use Rattle.rasn_traits.specs.Calls.{Written}
+use Rattle.rasn_traits.specs.Contents.{OpenedContents}
+use Rattle.rasn_jer.proofs.Choosing.{alone, back}
+use Rattle.rasn_jer.proofs.Writing.{leaf, over_ok}
+use Rattle.rasn_jer.specs.Laws.Relations.{unrefused}
 use Rattle.rasn_jer.specs.declared.error.EncodeError.{EncodeError}
-use Rattle.rasn_jer.specs.declared.error.EncodeError.TheVariants.{AlreadyFailed}
-use Rattle.rasn_jer.specs.Places.{State}
-use Rattle.rasn_jer.specs.Rules.{IsRefused, jer_rules, OpensContents, Presents, Refuses}
+use Rattle.rasn_jer.specs.declared.place.Kind.TheVariants as Kinds
+use Rattle.rasn_jer.specs.Places.{inside, is_full, Place, State, unfailed_at, vacant_place}
+use Rattle.rasn_jer.specs.Rules.{EntersPlace, IsRefused, jer_rules, OpensContents, Presents, WritesText}
 use Rattle.rasn_jer.specs.Shown.{in_contents, shows_contents}
 
--- a call is refused where one was refused before
-abbrev pub Refused : State → Result (Unit {0}) EncodeError → Type 0
-Refused x r = IfErr r (λ e. (e ≡ AlreadyFailed) × (x.failed ≡ true))
+pub contents_opened : {E : Type 0} (place : Result Place E) (x : State) (r : Result Place EncodeError) (y : State)
+    → EntersPlace place x r y → IfOk place (λ p. p ≡ vacant_place Kinds.One) → OpenedContents jer_rules OpensContents x r y
+contents_opened (Ok p) x (Ok o) y w h =
+    let within : y ≡ inside Kinds.One = w.entered.2 ∙ ap unfailed_at h in (
+      record { begun = w.entered.0; outer = w.entered.1; within = within },
+      record {
+        room = λ e m. m;
+        of_contents = λ e s v q. elim q [
+          | inl z ↦ absurd (unrefused e y (ap (λ (z : State). z.failed) within) (ap (λ (z : State). is_full z.place) within) z)
+          | inr z ↦ inr (in_contents z)
+        ];
+      },
+    )
+contents_opened (Err n) x (Ok o) y w h = absurd w.entered
+contents_opened (Ok p) x (Err e) y w h = elim w.entered [ inl m ↦ inl m | inr q ↦ inr (λ s v. inl (subst (λ (z : EncodeError). IsRefused z x) (sym q.0) q.1)) ]
+contents_opened (Err n) x (Err e) y w h = elim w.entered [ inl m ↦ inl m | inr q ↦ inr (λ s v. inl (subst (λ (z : EncodeError). IsRefused z x) (sym q.0) q.1)) ]
 
-pub contents_opened : (x : State) (r : Result (Unit {0}) EncodeError) → OnOk r (x.failed ≡ false) → Refused x r → IsOpened jer_rules OpensContents x r x
-contents_opened x (Ok u) o e = record {
-  law = ((o, refl), record { room = λ e m. m; of_contents = λ e s v r. within e s v r });
-  behaves = record { again = λ f. absurd (let t : true ≡ false = sym f ∙ o in cc); fails = tt; kept = refl };
-}
-  where
-    within : (e : EncodeError) (s : Schema) (v : Value) → Refuses e x s v → Refuses e x (Schema.containing s) v
-    within e s v (inl m) = inl m
-    within e s v (inr k) = inr (in_contents k)
-contents_opened x (Err d) o e = record {
-  law = inr (λ s v. inl (subst (λ k. IsRefused k x) (sym e.0) e.1));
-  behaves = record { again = λ f. e.0; fails = e.1; kept = refl };
-}
-
-pub contents_closed : (u : Unit {0}) (j : State) (r : Result (Unit {0}) EncodeError) → OnOk r (j.failed ≡ false) → Refused j r → ClosesContents jer_rules OpensContents u j r j
-contents_closed u j (Ok w) o e = record {
-  law = λ x i s v a p. subst (λ z. Presents z (Schema.containing s) v j) a.1 (record { begun = p.begun; left = p.left; json = p.json; shows = shows_contents p.shows; taken = p.taken });
-  behaves = record { again = λ f. absurd (let t : true ≡ false = sym f ∙ o in cc); fails = tt; kept = refl };
-}
-contents_closed u j (Err d) o e = record {
-  law = λ x i s v a p. absurd (let t : true ≡ false = sym e.1 ∙ p.left in cc);
-  behaves = record { again = λ f. e.0; fails = e.1; kept = refl };
-}
+pub contents_closed : {T E : Type 0} (s : Schema) (v : Value) (x i j m : State) (o p : Place) (text : Result T E) (items : T → List ℕ) (r : Result (Unit {0}) EncodeError) (y : State)
+    → OpensContents x o i → Presents i s v j → p ≡ j.place → m ≡ unfailed_at o → IfOk text (λ t. items t ≡ p.text) → WritesText text items m r y
+    → Written jer_rules (Schema.containing s) v x r y
+contents_closed s v x i j m o p text items r y h w e f t q =
+    let one = alone i j s v h.within w in
+    let outside : m ≡ x = f ∙ back o x h.outer h.begun in
+    let written = leaf text items m (Schema.containing s) v r y q (over_ok text t (λ u n. record { json = one.json; is_text = n ∙ ap (λ (z : Place). z.text) e ∙ one.text; shows = shows_contents one.shows })) in
+    subst (λ (z : State). Written jer_rules (Schema.containing s) v z r y) outside written.law

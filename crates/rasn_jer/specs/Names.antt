@@ -2,8 +2,8 @@
 -- lists (ITU-T X.697): those before an extension marker, and behind them those after it.
 use Rattle.std.specs.Prelude.{ℕ, ◌≡◌, ◌+◌, List, [], length, get_or, map, slice_get, Option, Some, None, codes, decimal}
 use Rattle.rasn_types.specs.Values.{Value, item, root, added}
-use Rattle.rasn_times.specs.declared.error.TimeError.{TimeError}
-use Rattle.rasn_times.specs.declared.error.TimeError.TheVariants.{Unrepresentable}
+use Rattle.rasn_strings.specs.declared.time_error.TimeError.{TimeError}
+use Rattle.rasn_strings.specs.declared.time_error.TimeError.TheVariants.{Unrepresentable}
 use Rattle.rasn_schema.specs.Choices.{place_of, VariantShape, variants_behind}
 use Rattle.rasn_schema.specs.Fields.{Shape, shape_of}
 use Rattle.rasn_schema.specs.Schemas

@@ -80,9 +80,9 @@ pub record OpensRecord (s : Schema) (x : State) (o : Place) (i : State) : Type 0
   pub counted : AreCounted s root added bits
   pub within : i ≡ unfailed_at (named_place Kinds.Members root added (due_of root bits added))
 
--- octets that contain a value are shown as it: nothing is opened
-abbrev pub OpensContents : State → Unit {0} → State → Type 0
-OpensContents x o i = (x.failed ≡ false) × (i ≡ x)
+-- octets that contain a value are shown as it, which is awaited by itself: what was open waits outside
+abbrev pub OpensContents : State → Place → State → Type 0
+OpensContents = Opens Kinds.One
 
 -- the value of an addition is awaited, by itself
 pub record Begins (x i : State) : Type 0 where

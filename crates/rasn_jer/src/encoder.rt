@@ -25,8 +25,8 @@ use rasn_schema::choices::Choice;
 use rasn_schema::enumerated::Enumerated;
 use rasn_schema::fields::{AdditionGroup, Constructed};
 use rasn_schema::schema::{Constraints, IntegerType};
+use rasn_strings::civil::{CivilDate, GeneralizedMoment, UtcMoment};
 use rasn_strings::strings::StaticPermittedAlphabet;
-use rasn_times::civil::{CivilDate, GeneralizedMoment, UtcMoment};
 use rasn_traits::encoder;
 use rasn_types::bit_string::BitString;
 use rasn_types::octet_strings::{Any, GeneralString, GraphicString, TeletexString};
@@ -91,8 +91,7 @@ impl<A: Allocator + Copy> encoder::Encoder for Encoder<A> {
 
     type Alternative = Place<A>;
 
-    /// Octets that contain a value are shown as it.
-    type Contents = ();
+    type Contents = Place<A>;
 
     type List = (Place<A>, usize);
 
@@ -390,12 +389,24 @@ impl<A: Allocator + Copy> encoder::Encoder for Encoder<A> {
         self.check_members()
     }
 
-    fn open_contents(&mut self, _tag: Tag, _identifier: Identifier) -> Result<(), EncodeError> {
-        self.check_unfailed()
+    fn open_contents(
+        &mut self,
+        _tag: Tag,
+        _identifier: Identifier,
+    ) -> Result<Place<A>, EncodeError> {
+        let place = Place::new(self.alloc, Kind::One);
+        self.enter(Ok(place))
     }
 
-    fn close_contents(&mut self, _contents: ()) -> Result<(), EncodeError> {
-        self.check_unfailed()
+    /// Octets that contain a value are shown as it.
+    fn close_contents(&mut self, contents: Place<A>) -> Result<(), EncodeError> {
+        match self.leave(contents, Kind::One) {
+            Ok(inner) => {
+                let text = inner.into_text();
+                self.write(Ok(text))
+            }
+            Err(error) => Err(error),
+        }
     }
 
     fn skip_addition(&mut self) -> Result<(), EncodeError> {

@@ -4,7 +4,7 @@ ghost use Rattle.std.specs.Prelude.{◌≡◌};
 ghost use Rattle.rasn_jer.specs.Names.{error_of_time, name_of};
 ghost use Rattle.rasn_jer.specs.declared.error.EncodeError.TheVariants.{OutOfMemory};
 
-use rasn_times::error::TimeError;
+use rasn_strings::time_error::TimeError;
 use std::alloc::AllocError;
 use thiserror::Error;
 

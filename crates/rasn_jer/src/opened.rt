@@ -1,6 +1,6 @@
 //! The open place of an encoder: a text is taken there, a place within it is entered and left, and a refusal stays.
 
-ghost use Rattle.std.specs.Prelude.{◌≡◌, ℕ, List, true, false, if◌then◌else◌, IfOk, IfErr, OnOk};
+ghost use Rattle.std.specs.Prelude.{◌≡◌, ℕ, List, true, false, if◌then◌else◌, IfOk, IfErr};
 ghost use Rattle.std.specs.Prelude.{encode_utf8_all};
 ghost use Rattle.hex.specs.Hex.{encode_upper};
 ghost use Rattle.json.specs.Json.{Members, object as the_object, string};
@@ -165,17 +165,6 @@ impl<A: Allocator + Copy> Encoder<A> {
             return Err(self.refuse(EncodeError::OutOfTurn));
         }
         self.close(outside, Kind::Items, b'[', b']')
-    }
-
-    /// Answers an error where a call was refused before.
-    pub(crate) fn check_unfailed(&self) -> Result<(), EncodeError>
-        ensures ok { OnOk result (self.now.failed ≡ false) }
-        ensures err { IfErr result (λ e. (e ≡ AlreadyFailed) × (self.now.failed ≡ true)) }
-    {
-        if self.failed {
-            return Err(EncodeError::AlreadyFailed);
-        }
-        Ok(())
     }
 
     /// Answers an error where no record is open, or a call was refused before.

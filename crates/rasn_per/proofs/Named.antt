@@ -8,7 +8,7 @@ use Rattle.rasn_types.specs.declared.types.Codec.{Codec}
 use Rattle.rasn_schema.specs.Schemas.{Schema}
 use Rattle.rasn_traits.specs.Calls.{Refuses}
 use Rattle.per_core.specs.Ends.{AreOver}
-use Rattle.per_errors.specs.Counts.{count_of, number_of}
+use Rattle.rasn_constraints.specs.Counts.{count_of, number_of}
 use Rattle.per_bits.specs.Surpluses.{IsWhy}
 use Rattle.per_bits.specs.declared.ended.Surplus.{Surplus}
 use Rattle.per_bits.specs.declared.ended.Surplus.TheVariants.{Missing, NonzeroOctet, NonzeroSpareBits, ExtraOctets}

@@ -8,7 +8,7 @@ use Rattle.per_core.specs.Basic.{basic}
 use Rattle.per_core.specs.Ends.{AreOver, spare}
 use Rattle.per_core.specs.Spellings.{Settings, ZeroIf}
 use Rattle.per_core.specs.Took.{Took}
-use Rattle.per_errors.specs.Counts.{count_of, number_of}
+use Rattle.rasn_constraints.specs.Counts.{count_of, number_of}
 use Rattle.per_bits.specs.Surpluses.{IsWhy}
 use Rattle.per_bits.specs.declared.ended.Surplus.{Surplus}
 use Rattle.per_bits.specs.declared.ended.Surplus.TheVariants.{Missing, NonzeroOctet, NonzeroSpareBits, ExtraOctets}

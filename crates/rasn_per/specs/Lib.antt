@@ -3,3 +3,4 @@ pub mod Kinds
 pub mod Complete
 pub mod Calls
 pub mod Counts
+pub mod Within

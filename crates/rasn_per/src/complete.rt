@@ -14,7 +14,7 @@ use per_bits::{BitList, BitReader};
 use per_de::error::{DecodeError, DecodeErrorKind, ParserFailCause};
 use per_de::{Decoder, DecoderOptions};
 use per_enc::{EncodeError, EncodeErrorKind, Encoder, EncoderOptions};
-use per_errors::count::Count;
+use rasn_constraints::count::Count;
 use rasn_schema::constraints::Constraints;
 use rasn_schema::limits::is_lawful;
 use rasn_types::types::Codec;

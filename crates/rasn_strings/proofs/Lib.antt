@@ -5,3 +5,9 @@ pub mod Own
 pub mod Searching
 pub mod IntervalsOf
 pub mod Walking
+pub mod Calendar
+pub mod Digits
+pub mod Fractions
+pub mod GeneralizedTexts
+pub mod Texts
+pub mod UtcTexts

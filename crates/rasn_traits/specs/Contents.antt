@@ -5,6 +5,7 @@ use Rattle.rasn_types.specs.Values.{Value}
 use Rattle.rasn_schema.specs.Schemas.{Schema}
 use Rattle.rasn_traits.specs.Amounts.{one_value}
 use Rattle.rasn_traits.specs.Calls.{Behaves, DecoderRules, EncoderRules, Refuses, Written}
+use Rattle.rasn_traits.specs.Turns.{RefusesOther}
 
 -- What passes out of octets that were opened at x, and inside which it is i: want of memory, and the refusal of a
 -- value, which is one of what contains it.
@@ -25,11 +26,13 @@ pub record OpensContents {E X O : Type 0} (rules : EncoderRules E X) (opens : X 
   pub law : OpenedContents rules opens x result i
   pub behaves : Behaves rules.already rules.failed rules.codec x result i
 
--- A call that closes octets in which a value was presented: it answers as one call that writes what contains it.
+-- A call that closes octets in which a value was presented: it answers as one call that writes what contains it. All
+-- but one value are refused.
 pub record ClosesContents {E X O : Type 0} (rules : EncoderRules E X) (opens : X → O → X → Type 0) (o : O) (j : X)
     (result : Result (Unit {0}) E) (y : X) : Type 0 where
   pub law : (x i : X) (s : Schema) (v : Value) → opens x o i → rules.presents i s v j
       → Written rules (Schema.containing s) v x result y
+  pub untimely : (x i : X) → opens x o i → RefusesOther rules one_value i j result
   pub behaves : Behaves rules.already rules.failed rules.codec j result y
 
 -- Ok is inside octets that contain a value, and Err, memory aside, comes only where none are read.

@@ -17,7 +17,9 @@ use Rattle.rasn_schema.specs.declared.items.Place.TheVariants.{Root, Added}
 use Rattle.rasn_traits.specs.Amounts.{one_value}
 use Rattle.rasn_traits.specs.Calls.{Behaves, DecoderRules, EncoderRules, Refuses, Written}
 use Rattle.rasn_traits.specs.Additions.{ClosesGroup}
-use Rattle.rasn_traits.specs.Scopes.{ClosesWritten, OpensToRead, OpensToWrite}
+use Rattle.rasn_traits.specs.Scopes.{ClosesInTurn, ClosesWritten, IsInTurn, IsReadInTurn, OpensInTurn, OpensToRead}
+use Rattle.rasn_traits.specs.Scopes.{OpensToWrite}
+use Rattle.rasn_traits.specs.Turns.{RefusesOther}
 
 -- the list of a place, and where it stands there
 abbrev pub side_of : Place → Side
@@ -45,17 +47,41 @@ pub record AreCounted (parts : ℕ → Parts) (marker : Bool) (additions : ℕ �
   pub marked : marker ≡ is_extensible added
   pub added_are : (n : ℕ) → addeds_of added ≡ count (additions n)
 
--- A call that opens any record of such components.
-pub record OpensCounted {E X O : Type 0} (rules : EncoderRules E X) (opens : Schema → X → O → X → Type 0) (bits : ℕ)
+-- A call that opens any record of such components, in which nothing is counted.
+pub record OpensFieldsOf {E X O : Type 0} (rules : EncoderRules E X) (opens : Schema → X → O → X → Type 0) (bits : ℕ)
     (added : Option ℕ) (x : X) (result : Result O E) (y : X) : Type 0 where
   pub opened : (parts : ℕ → Parts) (marker : Bool) (additions : ℕ → Parts)
       → AreCounted parts marker additions bits added
       → OpensToWrite rules opens listed parts marker additions x result y
   pub behaves : Behaves rules.already rules.failed rules.codec x result y
 
--- A call that closes any record. Without a marker it has no additions.
+-- A call that opens any record of such components, so many.
+pub record OpensCounted {E X O : Type 0} (rules : EncoderRules E X) (opens : Schema → X → O → X → Type 0)
+    (components bits : ℕ) (added : Option ℕ) (x : X) (result : Result O E) (y : X) : Type 0 where
+  pub opened : (parts : ℕ → Parts) (marker : Bool) (additions : ℕ → Parts) → ((n : ℕ) → components ≡ count (parts n))
+      → AreCounted parts marker additions bits added
+      → OpensToWrite rules opens listed parts marker additions x result y
+  pub behaves : Behaves rules.already rules.failed rules.codec x result y
+
+-- A call that closes any record, in which all came that is due. Without a marker it has no additions.
 pub record ClosesAny {E X O : Type 0} (rules : EncoderRules E X) (opens : Schema → X → O → X → Type 0) (o : O) (j : X)
     (result : Result (Unit {0}) E) (y : X) : Type 0 where
+  pub closed : (parts : ℕ → Parts) (marker : Bool) (additions : ℕ → Parts)
+      → (marker ≡ false → (n : ℕ) → additions n ≡ no_parts)
+      → ClosesInTurn rules opens listed parts marker additions o j result y
+  pub behaves : Behaves rules.already rules.failed rules.codec j result y
+
+-- A record was opened, whichever, and all its components were presented as they are listed.
+pub record IsAnyInTurn {E X O : Type 0} (rules : EncoderRules E X) (opens : Schema → X → O → X → Type 0) (o : O) (j : X)
+    : Type 0 where
+  pub parts : ℕ → Parts
+  pub marker : Bool
+  pub additions : ℕ → Parts
+  pub in_turn : IsInTurn rules opens listed parts marker additions o j
+
+-- A call that closes any record of which all components were presented. Without a marker it has no additions.
+pub record ClosesFieldsOf {E X O : Type 0} (rules : EncoderRules E X) (opens : Schema → X → O → X → Type 0) (o : O)
+    (j : X) (result : Result (Unit {0}) E) (y : X) : Type 0 where
   pub closed : (parts : ℕ → Parts) (marker : Bool) (additions : ℕ → Parts)
       → (marker ≡ false → (n : ℕ) → additions n ≡ no_parts)
       → ClosesWritten rules opens listed parts marker additions o j result y
@@ -90,10 +116,12 @@ pub record OpensPlaced {E X O : Type 0} (rules : EncoderRules E X) (opens : Sche
   pub behaves : Behaves rules.already rules.failed rules.codec x result y
 
 -- A call that closes one, in which the alternative was presented: it answers as one call that writes the whole choice.
+-- All but one value are refused.
 pub record ClosesPlaced {E X O : Type 0} (rules : EncoderRules E X) (opens : Schema → Side → ℕ → X → O → X → Type 0)
     (o : O) (j : X) (result : Result (Unit {0}) E) (y : X) : Type 0 where
   pub law : (x i : X) (c : Schema) (d : Side) (k : ℕ) (s : Schema) (v : Value) → opens c d k x o i
       → alternative_in c d k ≡ Some s → rules.presents i s v j → Written rules c (alternative d k v) x result y
+  pub untimely : (x i : X) (c : Schema) (d : Side) (k : ℕ) → opens c d k x o i → RefusesOther rules one_value i j result
   pub behaves : Behaves rules.already rules.failed rules.codec j result y
 
 -- a schema of an addition group of which a root component is required, or none is; one that is cut off says nothing
@@ -165,13 +193,29 @@ pub record WritesNothing {E X : Type 0} (rules : EncoderRules E X) (x : X) (resu
   pub law : IsErrAnd result (λ e. rules.memory e x ⊎ ((s : Schema) (v : Value) → rules.refuses e x s v))
   pub behaves : Behaves rules.already rules.failed rules.codec x result y
 
--- A call that opens any record of components and additions that are so counted, to read it.
-pub record OpensCountedToRead {E S O : Type 0} (rules : DecoderRules E S) (opens : Schema → S → O → S → Type 0)
+-- A call that opens any record of components and additions that are so counted, to read it, and counts nothing in it.
+pub record OpensFieldsOfToRead {E S O : Type 0} (rules : DecoderRules E S) (opens : Schema → S → O → S → Type 0)
     (bits : ℕ) (added : Option ℕ) (s : S) (result : Result O E) (t : S) : Type 0 where
   pub opened : (parts : ℕ → Parts) (marker : Bool) (additions : ℕ → Parts)
       → AreCounted parts marker additions bits added → OpensToRead rules opens parts marker additions s result t
   pub deeper : IfOk result (λ o. rules.levels s ≡ suc (rules.levels t))
   pub behaves : Behaves rules.already rules.failed rules.codec s result t
+
+-- A call that opens any record of such components, so many, to read it, and counts what comes in it.
+pub record OpensCountedToRead {E S O : Type 0} (rules : DecoderRules E S) (opens : Schema → S → O → S → Type 0)
+    (components bits : ℕ) (added : Option ℕ) (s : S) (result : Result O E) (t : S) : Type 0 where
+  pub opened : (parts : ℕ → Parts) (marker : Bool) (additions : ℕ → Parts) → ((n : ℕ) → components ≡ count (parts n))
+      → AreCounted parts marker additions bits added → OpensInTurn rules opens parts marker additions s result t
+  pub deeper : IfOk result (λ o. rules.levels s ≡ suc (rules.levels t))
+  pub behaves : Behaves rules.already rules.failed rules.codec s result t
+
+-- A record was opened, whichever, and all its components were read as they are listed.
+pub record IsAnyReadInTurn {E S O : Type 0} (rules : DecoderRules E S) (opens : Schema → S → O → S → Type 0) (o : O)
+    (j : S) : Type 0 where
+  pub parts : ℕ → Parts
+  pub marker : Bool
+  pub additions : ℕ → Parts
+  pub in_turn : IsReadInTurn rules opens parts marker additions o j
 
 -- Ok is where the alternative at a place stands, one level deeper, and Err, memory aside, comes only where no choice is
 -- read.

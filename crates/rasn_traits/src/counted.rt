@@ -1,14 +1,16 @@
-//! Calls for types that are data: a record by how many of its components have presence bits and how many additions it
-//! has, an item and an alternative by how many there are and where it stands.
+//! Calls for types that are data: a record by how many components and additions it has and how many components have
+//! presence bits, an item and an alternative by how many there are and where it stands.
 
 ghost use Rattle.std.specs.Prelude.{ℕ};
 ghost use Rattle.rasn_types.specs.Values.{Side};
 ghost use Rattle.rasn_schema.specs.Enumerations.{items_of};
 ghost use Rattle.rasn_schema.specs.Schemas.{Schema};
 ghost use Rattle.rasn_traits.specs.Calls.{freely_read, Reads, Writes};
-ghost use Rattle.rasn_traits.specs.Counted.{ClosesAny, ClosesGroupOf, ClosesPlaced, OpensCounted, OpensPlaced};
-ghost use Rattle.rasn_traits.specs.Counted.{OpensCountedToRead, OpensPlacedToRead, WritesNothing, WritesOther};
-ghost use Rattle.rasn_traits.specs.Counted.{item_at, stands_in};
+ghost use Rattle.rasn_traits.specs.Counted.{ClosesAny, ClosesFieldsOf, ClosesGroupOf, ClosesPlaced, IsAnyInTurn};
+ghost use Rattle.rasn_traits.specs.Counted.{IsAnyReadInTurn, OpensCounted, OpensCountedToRead, OpensFieldsOf};
+ghost use Rattle.rasn_traits.specs.Counted.{OpensFieldsOfToRead, OpensPlaced, OpensPlacedToRead, WritesNothing};
+ghost use Rattle.rasn_traits.specs.Counted.{WritesOther, item_at, stands_in};
+ghost use Rattle.rasn_traits.specs.Scopes.{ClosesRead};
 ghost use Rattle.std.specs.Prelude.{◌≡◌, true};
 
 use crate::decoder::Decoder;
@@ -37,21 +39,39 @@ pub trait CountedEncoder: Encoder {
         ensures { Writes Self.rules (items_of items) (item_at place) self.old result self.new };
 
     /// Opens a SEQUENCE (X.691 19), or a SET whose components come in ascending order of their smallest tags (X.691
-    /// 21): so many of its root components have a presence bit, and so many additions stand behind its extension
-    /// marker, where it has one. The calls from here to `close_record` write its root components, and then give its
-    /// additions.
+    /// 21): it has so many root components, of which so many have a presence bit, and so many additions behind its
+    /// extension marker, where it has one. The calls from here to `close_record` write its root components, and then
+    /// give its additions.
     fn open_record(
+        &mut self,
+        tag: Tag,
+        components: usize,
+        presence_bits: usize,
+        additions: Option<usize>,
+        identifier: Identifier,
+    ) -> Result<Self::Scope, Self::Error>
+        ensures { OpensCounted Self.rules Self.opens components presence_bits additions self.old result self.new };
+
+    /// Closes a record in which its components were written and its additions given. Where one is missing, or one too
+    /// many came, it refuses.
+    fn close_record(&mut self, scope: Self::Scope) -> Result<(), Self::Error>
+        ensures { ClosesAny Self.rules Self.opens scope self.old result self.new };
+
+    /// Opens a record as `open_record` does, but for `close_fields_of` alone: what is written in it isn't counted.
+    fn open_fields_of(
         &mut self,
         tag: Tag,
         presence_bits: usize,
         additions: Option<usize>,
         identifier: Identifier,
     ) -> Result<Self::Scope, Self::Error>
-        ensures { OpensCounted Self.rules Self.opens_fields presence_bits additions self.old result self.new };
+        ensures { OpensFieldsOf Self.rules Self.opens_fields presence_bits additions self.old result self.new };
 
-    /// Closes a record in which its components were written and its additions given.
-    fn close_record(&mut self, scope: Self::Scope) -> Result<(), Self::Error>
-        ensures { ClosesAny Self.rules Self.opens_fields scope self.old result self.new };
+    /// Closes a record that `open_fields_of` opened. The caller shows that each component was written as it is listed,
+    /// and each addition given, so that nothing need be counted.
+    fn close_fields_of(&mut self, scope: Self::Scope) -> Result<(), Self::Error>
+        requires in_turn { IsAnyInTurn Self.rules Self.opens_fields scope self.old }
+        ensures { ClosesFieldsOf Self.rules Self.opens_fields scope self.old result self.new };
 
     /// Opens a CHOICE (X.691 23) of so many alternatives, to write the one at a place: the calls from here to
     /// `close_alternative` write its value.
@@ -65,7 +85,7 @@ pub trait CountedEncoder: Encoder {
         requires { stands_in alternatives place ≡ true }
         ensures { OpensPlaced Self.rules opens_placed alternatives place self.old result self.new };
 
-    /// Closes a CHOICE in which the value of its alternative was written.
+    /// Closes a CHOICE in which the value of its alternative was written. Where none was, or more, it refuses.
     fn close_alternative(&mut self, outside: Self::Placed) -> Result<(), Self::Error>
         ensures { ClosesPlaced Self.rules opens_placed outside self.old result self.new };
 
@@ -94,16 +114,33 @@ pub trait CountedDecoder: Decoder {
         ensures { Reads (freely_read Self.rules) (items_of items) item_at self.old result self.new };
 
     /// Opens a SEQUENCE (X.691 19), or a SET whose components are read in ascending order of their smallest tags (X.691
-    /// 21), which takes a level: so many of its root components have a presence bit, and so many additions stand behind
-    /// its extension marker, where it has one. The calls from here to `close_sequence` read its root components, and
-    /// then its additions. At no level left it refuses.
+    /// 21), which takes a level: it has so many root components, of which so many have a presence bit, and so many
+    /// additions behind its extension marker, where it has one. The calls from here to `close_sequence` read its root
+    /// components, and then its additions. At no level left it refuses.
     fn open_record(
+        &mut self,
+        tag: Tag,
+        components: usize,
+        presence_bits: usize,
+        additions: Option<usize>,
+    ) -> Result<Self::Scope, Self::Error>
+        ensures { OpensCountedToRead Self.rules Self.opens components presence_bits additions
+            self.old result self.new };
+
+    /// Opens a record as `open_record` does, of which all components are read before `close_fields_of`, so that they
+    /// needn't be counted.
+    fn open_fields_of(
         &mut self,
         tag: Tag,
         presence_bits: usize,
         additions: Option<usize>,
     ) -> Result<Self::Scope, Self::Error>
-        ensures { OpensCountedToRead Self.rules Self.opens presence_bits additions self.old result self.new };
+        ensures { OpensFieldsOfToRead Self.rules Self.opens presence_bits additions self.old result self.new };
+
+    /// Closes a record, all of whose components were read as they are listed, as `close_sequence` does.
+    fn close_fields_of(&mut self, scope: Self::Scope) -> Result<(), Self::Error>
+        requires in_turn { IsAnyReadInTurn Self.rules Self.opens scope self.old }
+        ensures { ClosesRead Self.rules Self.unended Self.closes scope self.old result self.new };
 
     /// Reads the index of a CHOICE of so many alternatives (X.691 23), which takes a level, answers where its
     /// alternative stands, and opens the open type of one behind the extension marker (X.691 23.8): the calls from here

@@ -34,10 +34,10 @@ use rasn_schema::choices::Choice;
 use rasn_schema::enumerated::Enumerated;
 use rasn_schema::fields::Constructed;
 use rasn_schema::schema::{Constraints, IntegerType};
+use rasn_strings::civil::{CivilDate, GeneralizedMoment, UtcMoment};
 use rasn_strings::strings::{
     BmpString, Ia5String, NumericString, PrintableString, StaticPermittedAlphabet, VisibleString,
 };
-use rasn_times::civil::{CivilDate, GeneralizedMoment, UtcMoment};
 use rasn_types::bit_string::BitString;
 use rasn_types::octet_strings::{Any, GeneralString, GraphicString, TeletexString, Utf8String};
 use rasn_types::types::{Codec, Tag};

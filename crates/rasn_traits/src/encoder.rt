@@ -32,10 +32,10 @@ use rasn_schema::choices::Choice;
 use rasn_schema::enumerated::Enumerated;
 use rasn_schema::fields::{AdditionGroup, Constructed};
 use rasn_schema::schema::{Constraints, IntegerType};
+use rasn_strings::civil::{CivilDate, GeneralizedMoment, UtcMoment};
 use rasn_strings::strings::{
     BmpString, Ia5String, NumericString, PrintableString, StaticPermittedAlphabet, VisibleString,
 };
-use rasn_times::civil::{CivilDate, GeneralizedMoment, UtcMoment};
 use rasn_types::bit_string::BitString;
 use rasn_types::octet_strings::{Any, GeneralString, GraphicString, TeletexString};
 use rasn_types::types::{Codec, Identifier, Tag};
@@ -312,9 +312,9 @@ pub trait Encoder: Sized {
     ) -> Result<Self::Scope, Self::Error>
         ensures { OpensToWrite rules opens by_tag C.parts C.IS_EXTENSIBLE C.additions self.old result self.new };
 
-    /// Closes a SET in which its components were written and its additions given.
+    /// Closes a SET in which each component was written and each addition given; where one wasn't, or more, it refuses.
     fn close_components<C: Constructed>(&mut self, scope: Self::Scope) -> Result<(), Self::Error>
-        ensures { ClosesWritten rules opens by_tag C.parts C.IS_EXTENSIBLE C.additions scope
+        ensures { ClosesInTurn rules opens by_tag C.parts C.IS_EXTENSIBLE C.additions scope
             self.old result self.new };
 
     /// Opens a SET (X.691 21): the calls from here to `close_set` write its root components, in ascending order of
@@ -363,7 +363,7 @@ pub trait Encoder: Sized {
         ensures { OpensContents rules opens_contents self.old result self.new };
 
     /// Closes octets in which one value was written: they are its complete encoding (X.691 11.1), behind an
-    /// unconstrained length.
+    /// unconstrained length. Where none was written, or more than one, it refuses.
     fn close_contents(&mut self, contents: Self::Contents) -> Result<(), Self::Error>
         ensures { ClosesContents rules opens_contents contents self.old result self.new };
 

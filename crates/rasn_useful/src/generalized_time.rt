@@ -8,19 +8,19 @@ ghost use Rattle.rasn_schema.specs.Fields.{tagged};
 ghost use Rattle.rasn_schema.specs.Forms.{always};
 ghost use Rattle.rasn_schema.specs.Levels.{simple_levelled};
 ghost use Rattle.rasn_schema.specs.Schemas.{Schema};
-ghost use Rattle.rasn_times.specs.Moments.{generalized_text};
-ghost use Rattle.rasn_times.specs.Values.{generalized_value};
+ghost use Rattle.rasn_strings.specs.Moments.{generalized_text};
+ghost use Rattle.rasn_strings.specs.Values.{generalized_value};
 
 use crate::moment::{write_fraction, write_moment};
 use jiff::civil::DateTime;
 use rasn_codec::codec::{Decode, Decoder, Encode, Encoder};
 use rasn_schema::fields::{TagTree, TypeTree};
 use rasn_schema::schema::{AsnType, Constraints};
-use rasn_times::civil::GeneralizedMoment;
-use rasn_times::error::TimeError;
-use rasn_times::generalized_time::{
+use rasn_strings::civil::GeneralizedMoment;
+use rasn_strings::generalized_time::{
     datetime_to_canonical_generalized_time_bytes, parse_canonical_generalized_time_string,
 };
+use rasn_strings::time_error::TimeError;
 use rasn_types::types::{Identifier, Tag};
 use std::alloc::Allocator;
 use std::fmt;

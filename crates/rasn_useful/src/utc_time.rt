@@ -8,17 +8,19 @@ ghost use Rattle.rasn_schema.specs.Fields.{tagged};
 ghost use Rattle.rasn_schema.specs.Forms.{always};
 ghost use Rattle.rasn_schema.specs.Levels.{simple_levelled};
 ghost use Rattle.rasn_schema.specs.Schemas.{Schema};
-ghost use Rattle.rasn_times.specs.Moments.{utc_text};
-ghost use Rattle.rasn_times.specs.Values.{utc_value};
+ghost use Rattle.rasn_strings.specs.Moments.{utc_text};
+ghost use Rattle.rasn_strings.specs.Values.{utc_value};
 
 use crate::moment::write_moment;
 use jiff::civil::DateTime;
 use rasn_codec::codec::{Decode, Decoder, Encode, Encoder};
 use rasn_schema::fields::{TagTree, TypeTree};
 use rasn_schema::schema::{AsnType, Constraints};
-use rasn_times::civil::UtcMoment;
-use rasn_times::error::TimeError;
-use rasn_times::utc_time::{datetime_to_canonical_utc_time_bytes, parse_canonical_utc_time_string};
+use rasn_strings::civil::UtcMoment;
+use rasn_strings::time_error::TimeError;
+use rasn_strings::utc_time::{
+    datetime_to_canonical_utc_time_bytes, parse_canonical_utc_time_string,
+};
 use rasn_types::types::{Identifier, Tag};
 use std::alloc::Allocator;
 use std::fmt;

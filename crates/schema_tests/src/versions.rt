@@ -1,8 +1,8 @@
 //! Which types of schema files are newer versions of which.
 
 use crate::example::{EXAMPLE, with_line};
-use dynamic_versions::fault::{NotNewer, Reason};
-use dynamic_versions::newer::is_newer;
+use lawful_types::newer::is_newer;
+use lawful_types::not_newer::{NotNewer, Reason};
 use schema_file::load::load;
 use std::test::Fail;
 

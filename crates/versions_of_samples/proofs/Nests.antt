@@ -9,10 +9,10 @@ use Rattle.rasn_schema.specs.Normal.{normal}
 use Rattle.rasn_schema.specs.Schemas.{Schema}
 use Rattle.rasn_below.specs.Types.{date_at}
 use Rattle.per_laws.proofs.Levelled.{levelled_type_unfolds}
-use Rattle.per_samples_lists.specs.AddedNests.{added_nest}
-use Rattle.per_samples_lists.specs.Deeps.{deep, nest_with}
-use Rattle.per_samples_lists.specs.Mutuals.{ping, ping_schema, pong, pong_schema}
-use Rattle.per_samples_lists.specs.Nests.{nest, nest_schema}
+use Rattle.per_samples_c.specs.AddedNests.{added_nest}
+use Rattle.per_samples_c.specs.Deeps.{deep, nest_with}
+use Rattle.per_samples_c.specs.Mutuals.{ping, ping_schema, pong, pong_schema}
+use Rattle.per_samples_c.specs.Nests.{nest, nest_schema}
 use Rattle.per_samples_sets.specs.Dnests.{dnest, dnest_schema}
 
 of_levels : (T : ℕ → Schema) → Levelled T → ((n : ℕ) → IsLawful (T n)) → IsLawfulType T

@@ -3,6 +3,7 @@
 
 ghost use Rattle.per_core.specs.Versions.{NewerType};
 
+use per_laws::computed::is_newer_version;
 use per_samples_b::added_default::AddedDefault;
 use per_samples_b::none_needed::NoneNeeded;
 use per_samples_b::one_needed::OneNeeded;
@@ -11,7 +12,6 @@ use per_samples_b::outer2::Outer2;
 use per_samples_b::outer3::{Outer3, Outers3};
 use rasn_below::AsnType;
 use rasn_below::types::Contains;
-use rasn_versions::is_newer_version;
 
 /// An addition group is added.
 pub fn outer2_adds_to_outer1()

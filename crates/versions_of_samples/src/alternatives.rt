@@ -1,14 +1,14 @@
 //! Which CHOICE and which ENUMERATED is a newer version of which (X.680, 52).
-#![tactic(auto, unfolding(rasn_versions::specs::Judged::are_told_apart))]
+#![tactic(auto, unfolding(per_laws::specs::Judged::are_told_apart))]
 
 ghost use Rattle.per_core.specs.Versions.{NewerType};
 
+use per_laws::computed::is_newer_version;
 use per_samples_b::alt1::Alt1;
 use per_samples_b::alt2::Alt2;
 use per_samples_c::colors::TwoColors;
 use per_samples_c::one_color::OneColor;
 use rasn_below::AsnType;
-use rasn_versions::is_newer_version;
 
 /// An alternative is added behind the marker.
 pub fn alternative_is_added()

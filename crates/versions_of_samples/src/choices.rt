@@ -3,18 +3,18 @@
 
 ghost use Rattle.rasn_schema.specs.Lawful.{IsLawfulType};
 
+use per_laws::computed::is_lawful;
 use per_samples_b::alt1::Alt1;
 use per_samples_b::alt2::Alt2;
 use per_samples_b::two_alternatives::TwoAlternatives;
+use per_samples_c::choice::Outer;
 use per_samples_c::colors::TwoColors;
 use per_samples_c::one_color::OneColor;
-use per_samples_lists::choice::Outer;
 use per_samples_sets::connect::Connect;
 use per_samples_sets::set::Set;
 use per_samples_sets::set_choice::SetChoice;
 use per_samples_sets::set_optional::SetOptional;
 use rasn_below::AsnType;
-use rasn_versions::is_lawful;
 
 /// ENUMERATED in two versions.
 pub fn enumerations_are_lawful()
@@ -26,7 +26,7 @@ pub fn enumerations_are_lawful()
 }
 
 /// CHOICE, with an untagged one in it, in two versions, and within a record.
-#[tactic(auto, unfolding(rasn_versions::specs::Judged::are_told_apart))]
+#[tactic(auto, unfolding(per_laws::specs::Judged::are_told_apart))]
 pub fn choices_are_lawful()
     ensures nested { let own = ⟦<Outer as AsnType>⟧ in IsLawfulType (own.schema own.CONSTRAINTS) }
     ensures older { let own = ⟦<Alt1 as AsnType>⟧ in IsLawfulType (own.schema own.CONSTRAINTS) }
@@ -42,7 +42,7 @@ pub fn choices_are_lawful()
 }
 
 /// SET, also with a CHOICE without a tag of its own.
-#[tactic(auto, unfolding(rasn_versions::specs::Judged::are_told_apart))]
+#[tactic(auto, unfolding(per_laws::specs::Judged::are_told_apart))]
 pub fn sets_are_lawful()
     ensures tagged { let own = ⟦<Set as AsnType>⟧ in IsLawfulType (own.schema own.CONSTRAINTS) }
     ensures optional { let own = ⟦<SetOptional as AsnType>⟧ in IsLawfulType (own.schema own.CONSTRAINTS) }

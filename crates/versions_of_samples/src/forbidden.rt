@@ -9,10 +9,10 @@ ghost use Rattle.rasn_below.specs.Types.{always, any_size, list_at, sequence_at,
 ghost use Rattle.rasn_below.specs.Values.{whole};
 ghost use Rattle.per_core.specs.Versions.{NewerType};
 ghost use Rattle.per_laws.specs.Named.{NewerTypeButForNames};
-ghost use Rattle.rasn_versions.specs.Compared.{comparison};
-ghost use Rattle.rasn_versions.specs.Verdicts.{allowed, at_place, in_additions, in_element, in_root, left_out};
-ghost use Rattle.rasn_versions.specs.Verdicts.{other_bounds, other_default, other_items, other_kind, other_marker};
-ghost use Rattle.rasn_versions.specs.Verdicts.{other_presence, other_range, other_size, other_tag, put_in};
+ghost use Rattle.per_laws.specs.Compared.{comparison};
+ghost use Rattle.per_laws.specs.Verdicts.{allowed, at_place, in_additions, in_element, in_root, left_out};
+ghost use Rattle.per_laws.specs.Verdicts.{other_bounds, other_default, other_items, other_kind, other_marker};
+ghost use Rattle.per_laws.specs.Verdicts.{other_presence, other_range, other_size, other_tag, put_in};
 ghost use Rattle.per_samples_b.specs.Outers.{outer1, outer2, outer3};
 
 /// An addition is left out at the end, or of the middle, so that the next one stands in its place; and one is put in
@@ -71,7 +71,7 @@ pub fn bits_stay_with_names_or_without()
 {}
 
 /// A default is another one.
-#[tactic(auto, unfolding(rasn_versions::specs::Compared::is_widened))]
+#[tactic(auto, unfolding(per_laws::specs::Compared::is_widened))]
 pub fn default_stays_as_it_is()
     ensures other { comparison (sequence_at (automatic (default (whole (pos 4)) (integer u8 (0 to 7)) ∷ [])))
         (sequence_at (automatic (default (whole (pos 3)) (integer u8 (0 to 7)) ∷ [])))

@@ -1,5 +1,5 @@
 //! Which types of worked encodings are newer versions of which, that each is lawful, and what readers of another
-//! version answer to them: the words of `rasn_versions` and of `per_versions`, as a user of the library calls them.
+//! version answer to them: the words of `per_laws` and of `per_versions`, as a user of the library calls them.
 #![tactic(auto)]
 
 pub mod additions;

@@ -3,6 +3,7 @@
 
 ghost use Rattle.rasn_schema.specs.Lawful.{IsLawfulType};
 
+use per_laws::computed::is_lawful;
 use per_samples_a::bounded::{MinusOneTo254, OneToTenExtensible, ZeroTo65536};
 use per_samples_a::half_bounded::{FromMinusOne, Natural, UpTo65535};
 use per_samples_a::strings::{LettersAToE, OnlyX, ShortVisible};
@@ -10,7 +11,6 @@ use rasn_below::AsnType;
 use rasn_below::types::{
     BitString, Contains, Date, Integer, NamedBits, OctetString, SetOf, UtcTime,
 };
-use rasn_versions::is_lawful;
 
 /// BOOLEAN, NULL, INTEGER, BIT STRING with and without names, OCTET STRING, UTCTime, DATE, a SET OF, and an OCTET
 /// STRING that contains one.

@@ -3,6 +3,7 @@
 
 ghost use Rattle.rasn_schema.specs.Lawful.{IsLawfulType};
 
+use per_laws::computed::is_lawful;
 use per_samples_a::absent::OneDefault;
 use per_samples_a::four::Four;
 use per_samples_a::seven::Seven;
@@ -15,18 +16,17 @@ use per_samples_b::one_needed::OneNeeded;
 use per_samples_b::outer1::{Outer1, Outers1};
 use per_samples_b::outer2::Outer2;
 use per_samples_b::outer3::{Outer3, Outers3};
+use per_samples_c::before_nest::BeforeNest;
+use per_samples_c::byte::Byte;
 use per_samples_c::default_outer1::DefaultOuter1;
 use per_samples_c::default_outer3::DefaultOuter3;
+use per_samples_c::elements::Elements;
+use per_samples_c::empty::MaybeEmpty;
 use per_samples_c::grouped1::Grouped1;
 use per_samples_c::grouped2::Grouped2;
 use per_samples_c::items::WithItem;
-use per_samples_lists::before_nest::BeforeNest;
-use per_samples_lists::byte::Byte;
-use per_samples_lists::elements::Elements;
-use per_samples_lists::empty::MaybeEmpty;
-use per_samples_lists::lists::{Bytes, NullList, Nulls};
+use per_samples_c::lists::{Bytes, NullList, Nulls};
 use rasn_below::AsnType;
-use rasn_versions::is_lawful;
 
 /// Records of numbers, items, strings, and bits that have names.
 pub fn records_are_lawful()
@@ -93,7 +93,7 @@ pub fn groups_are_lawful()
 }
 
 /// Defaults of a number and of a record, in the root and among the additions.
-#[tactic(auto, unfolding(rasn_versions::specs::Judged::is_good_default))]
+#[tactic(auto, unfolding(per_laws::specs::Judged::is_good_default))]
 pub fn defaults_are_lawful()
     ensures number { let own = ⟦<OneDefault as AsnType>⟧ in IsLawfulType (own.schema own.CONSTRAINTS) }
     ensures added { let own = ⟦<AddedDefault as AsnType>⟧ in IsLawfulType (own.schema own.CONSTRAINTS) }

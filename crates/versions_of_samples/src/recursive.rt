@@ -4,11 +4,11 @@
 
 ghost use Rattle.rasn_schema.specs.Lawful.{IsLawfulType};
 
-use per_samples_lists::added_nest::AddedNest;
-use per_samples_lists::deep::Deep;
-use per_samples_lists::nest::Nest;
-use per_samples_lists::ping::Ping;
-use per_samples_lists::pong::Pong;
+use per_samples_c::added_nest::AddedNest;
+use per_samples_c::deep::Deep;
+use per_samples_c::nest::Nest;
+use per_samples_c::ping::Ping;
+use per_samples_c::pong::Pong;
 use per_samples_sets::dnest::Dnest;
 use rasn_below::AsnType;
 

@@ -4,16 +4,16 @@
 
 ghost use Rattle.per_core.specs.Versions.{NewerType};
 
+use per_laws::computed::is_newer_version;
 use per_samples_b::many::Many;
 use per_samples_b::none_needed::NoneNeeded;
+use per_samples_c::added_nest::AddedNest;
+use per_samples_c::before_nest::BeforeNest;
 use per_samples_c::default_outer1::DefaultOuter1;
 use per_samples_c::default_outer3::DefaultOuter3;
 use per_samples_c::grouped1::Grouped1;
 use per_samples_c::grouped2::Grouped2;
-use per_samples_lists::added_nest::AddedNest;
-use per_samples_lists::before_nest::BeforeNest;
 use rasn_below::AsnType;
-use rasn_versions::is_newer_version;
 
 /// The type of an addition group, which has a marker of its own, is a newer version.
 pub fn group_is_added_to()
@@ -24,7 +24,7 @@ pub fn group_is_added_to()
 }
 
 /// The type of a component is a newer version, and its default the older one with both additions absent.
-#[tactic(auto, unfolding(rasn_versions::specs::Compared::is_widened, rasn_versions::specs::Judged::is_good_default))]
+#[tactic(auto, unfolding(per_laws::specs::Compared::is_widened, per_laws::specs::Judged::is_good_default))]
 pub fn default_is_widened()
     ensures { let newer = ⟦<DefaultOuter3 as AsnType>⟧ in let older = ⟦<DefaultOuter1 as AsnType>⟧ in
         NewerType (newer.schema newer.CONSTRAINTS) (older.schema older.CONSTRAINTS) }

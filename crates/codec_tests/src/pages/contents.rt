@@ -2,11 +2,11 @@
 
 use crate::expected::expect_octets;
 use crate::pages::expected::{Rows, expect_refused, expect_rows};
-use per_contents::{EncodingOf, unwrap, wrap};
-use per_errors::count::Count;
 use per_samples_a::carrier::Carrier;
 use per_samples_a::pair::Pair;
 use rasn_below::types::{Codec, OctetString};
+use rasn_constraints::count::Count;
+use rasn_per::contents::{EncodingOf, unwrap, wrap};
 use rasn_per::uper::{DecodeError, DecodeErrorKind};
 use std::alloc::Global;
 use std::process::Abort;

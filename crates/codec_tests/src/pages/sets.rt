@@ -3,11 +3,11 @@
 use crate::pages::expected::{Rows, decode, expect_rows, expect_written};
 use its_header::header::ItsPduHeader;
 use its_header::message::Message;
+use per_samples_c::filter::Filter;
 use per_samples_c::group1::Group1;
 use per_samples_c::grouped1::Grouped1;
-use per_samples_lists::filter::Filter;
-use per_samples_lists::ping::Ping;
-use per_samples_lists::tree::Tree;
+use per_samples_c::ping::Ping;
+use per_samples_c::tree::Tree;
 use per_samples_sets::extended_set::ExtendedSet;
 use per_samples_sets::holder::Holder;
 use per_samples_sets::period::Period;

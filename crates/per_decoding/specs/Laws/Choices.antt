@@ -13,7 +13,7 @@ use Rattle.per_core.specs.Basic.{Open, Small}
 use Rattle.per_core.specs.Took.{Took}
 use Rattle.per_core.proofs.Readings.{one_reading}
 use Rattle.per_core.proofs.Took.{took_then, then_took, took_map, took_agree}
-use Rattle.per_read_types.specs.Choices.{index_form}
+use Rattle.per_decoding.specs.ChoiceIndexes.{index_form}
 use Rattle.per_read.specs.Kinds.{NoneIn}
 use Rattle.per_read.specs.declared.error.DecodeError.{DecodeError}
 use Rattle.per_read.specs.declared.error.DecodeErrorKind.TheVariants.{OutOfMemory}

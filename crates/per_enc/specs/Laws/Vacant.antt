@@ -10,7 +10,7 @@ use Rattle.rasn_schema.specs.Schemas.{Schema, Parts, no_parts, part, Presence, r
 use Rattle.rasn_schema.specs.Schemas.{by_tag, listed}
 use Rattle.rasn_traits.specs.Counted.{all_may_be, may_be}
 use Rattle.per_core.specs.Canon.{shown}
-use Rattle.per_errors.specs.Bounds.{value_of, lower_of, upper_of}
+use Rattle.rasn_constraints.specs.ToldBounds.{value_of, lower_of, upper_of}
 use Rattle.per_write.specs.declared.error.EncodeErrorKind.{EncodeErrorKind}
 use Rattle.per_write.specs.declared.error.EncodeErrorKind.TheVariants.{SizeConstraintNotSatisfied}
 use Rattle.per_write.specs.declared.error.EncodeErrorKind.TheVariants.{ValueConstraintNotSatisfied}

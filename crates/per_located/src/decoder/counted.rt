@@ -18,13 +18,38 @@ impl<D: Positioned + CountedDecoder> CountedDecoder for Located<D> {
     fn open_record(
         &mut self,
         tag: Tag,
+        components: usize,
         presence_bits: usize,
         additions: Option<usize>,
     ) -> Result<D::Scope, D::Error> {
         self.trail.begin();
         let extended = additions.is_some() && self.inner.is_extended();
-        let answer = self.inner.open_record(tag, presence_bits, additions);
+        let answer = self
+            .inner
+            .open_record(tag, components, presence_bits, additions);
         self.enter_record(&answer, RecordFrame::counted(extended));
+        self.seen(answer)
+    }
+
+    fn open_fields_of(
+        &mut self,
+        tag: Tag,
+        presence_bits: usize,
+        additions: Option<usize>,
+    ) -> Result<D::Scope, D::Error> {
+        self.trail.begin();
+        let extended = additions.is_some() && self.inner.is_extended();
+        let answer = self.inner.open_fields_of(tag, presence_bits, additions);
+        self.enter_record(&answer, RecordFrame::counted(extended));
+        self.seen(answer)
+    }
+
+    fn close_fields_of(&mut self, scope: D::Scope) -> Result<(), D::Error> {
+        self.trail.pause();
+        let answer = self.inner.close_fields_of(scope);
+        if answer.is_ok() {
+            self.trail.leave();
+        }
         self.seen(answer)
     }
 

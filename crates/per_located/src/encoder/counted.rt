@@ -28,6 +28,7 @@ impl<E: CountedEncoder + Drop> CountedEncoder for Located<E> {
     fn open_record(
         &mut self,
         tag: Tag,
+        components: usize,
         presence_bits: usize,
         additions: Option<usize>,
         identifier: Identifier,
@@ -35,13 +36,33 @@ impl<E: CountedEncoder + Drop> CountedEncoder for Located<E> {
         self.trail.begin(tag);
         let answer = self
             .inner
-            .open_record(tag, presence_bits, additions, identifier);
+            .open_record(tag, components, presence_bits, additions, identifier);
         self.entered(answer, Frame::Record(RecordFrame::counted()))
     }
 
     fn close_record(&mut self, scope: E::Scope) -> Result<(), E::Error> {
         self.trail.pause();
         let answer = self.inner.close_record(scope);
+        self.left(answer)
+    }
+
+    fn open_fields_of(
+        &mut self,
+        tag: Tag,
+        presence_bits: usize,
+        additions: Option<usize>,
+        identifier: Identifier,
+    ) -> Result<E::Scope, E::Error> {
+        self.trail.begin(tag);
+        let answer = self
+            .inner
+            .open_fields_of(tag, presence_bits, additions, identifier);
+        self.entered(answer, Frame::Record(RecordFrame::counted()))
+    }
+
+    fn close_fields_of(&mut self, scope: E::Scope) -> Result<(), E::Error> {
+        self.trail.pause();
+        let answer = self.inner.close_fields_of(scope);
         self.left(answer)
     }
 

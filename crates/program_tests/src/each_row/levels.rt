@@ -1,10 +1,10 @@
 //! Rows of recursive types.
 
 use crate::each_row::{Rows, is_any_row_refused};
-use per_samples_lists::added_nest::AddedNest;
-use per_samples_lists::before_nest::BeforeNest;
-use per_samples_lists::deep::Deep;
-use per_samples_lists::nest::Nest;
+use per_samples_c::added_nest::AddedNest;
+use per_samples_c::before_nest::BeforeNest;
+use per_samples_c::deep::Deep;
+use per_samples_c::nest::Nest;
 use per_samples_sets::dnest::Dnest;
 use rasn_below::types::Codec::{Aper, Uper};
 use std::alloc::Global;

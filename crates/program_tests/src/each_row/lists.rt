@@ -3,8 +3,8 @@
 use crate::each_row::{Rows, is_any_row_refused};
 use per_samples_b::outer1::Outers1;
 use per_samples_b::outer3::Outers3;
-use per_samples_lists::elements::Elements;
-use per_samples_lists::lists::{Bytes, NullList, Nulls};
+use per_samples_c::elements::Elements;
+use per_samples_c::lists::{Bytes, NullList, Nulls};
 use rasn_below::types::Codec::{Aper, Uper};
 use rasn_below::types::{Integer, SetOf};
 use std::alloc::Global;

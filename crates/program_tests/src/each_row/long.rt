@@ -3,8 +3,8 @@
 use crate::each_call::is_any_refused;
 use per_samples_a::strings::OnlyX;
 use per_samples_b::outer1::Outer1;
-use per_samples_lists::before_nest::BeforeNest;
-use per_samples_lists::lists::Bytes;
+use per_samples_c::before_nest::BeforeNest;
+use per_samples_c::lists::Bytes;
 use rasn_below::codec::{Decode, Encode};
 use rasn_below::types::Codec::{Aper, Uper};
 use rasn_below::types::{BitString, Codec, OctetString};

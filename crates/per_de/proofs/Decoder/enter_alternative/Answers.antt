@@ -1,7 +1,7 @@
 use Rattle.std.proofs.Common.{ℕ, refl, rules, inr, ap, ◌∙◌}
 use Rattle.std.proofs.lemmas.Result.{err_from_is_err_and}
 use Rattle.rasn_schema.specs.Choices.{one_level_in}
-use Rattle.per_read_types.specs.Choices.{index_of}
+use Rattle.per_decoding.specs.ChoiceIndexes.{index_of}
 use Rattle.per_de.proofs.AtPlaces.{choice_opened, contents_refused, index_refused, level_inside, stands}
 use Rattle.per_decoding.specs.Scopes.{with_outside_record}
 use Rattle.per_de.specs.Outsides.{outside_contents_of}

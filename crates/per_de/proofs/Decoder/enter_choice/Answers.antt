@@ -4,7 +4,7 @@ use Rattle.rasn_schema.specs.Choices.{choices_of, choice_schema, is_extensible, 
 use Rattle.rasn_schema.specs.Laws.Choices.{variants_counted}
 use Rattle.rasn_schema.specs.Fields.{tag_of}
 use Rattle.rasn_schema.specs.Schemas.{Schema}
-use Rattle.per_read_types.specs.Choices.{index_of}
+use Rattle.per_decoding.specs.ChoiceIndexes.{index_of}
 use Rattle.per_decoding.specs.Laws.Choices.{level_inside}
 use Rattle.per_de.proofs.Calls.{too_deep}
 use Rattle.per_de.proofs.Choosing.{alternative_there, at_level, below, below_variants, opens_choice, place_found, refused_contents, refused_index}

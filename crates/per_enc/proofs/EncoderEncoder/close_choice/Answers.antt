@@ -8,7 +8,7 @@ use Rattle.rasn_schema.specs.Laws.Choices.{variants_counted}
 use Rattle.per_enc.specs.Rules.{noting}
 use Rattle.per_write.specs.State.{State}
 use Rattle.per_pieces.specs.Turns.{awaits}
-use Rattle.per_enc.proofs.Choices.{closes_choice, closes_well, none_found, some_found}
+use Rattle.per_enc.proofs.ChoiceScopes.{closes_choice, closes_well, none_found, some_found}
 use Rattle.per_enc.proofs.Inside.{value_inside}
 use Rattle.per_enc.proofs.Noting.{behaves_begun, written_noted}
 use Rattle.per_enc.proofs.Turns.{choice_opened_well, not_failed_since, one_untimely}

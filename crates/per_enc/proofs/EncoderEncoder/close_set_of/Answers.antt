@@ -1,7 +1,7 @@
 use Rattle.std.proofs.Common.{refl, sym, ◌≡◌, ◌∙◌, true, false}
 use Rattle.std.proofs.lemmas.Result.{err_from_is_err_and}
 use Rattle.per_enc.specs.Rules.{noting}
-use Rattle.per_enc.proofs.Bags.{bag_left}
+use Rattle.per_enc.proofs.OpenBags.{bag_left}
 use Rattle.per_enc.proofs.Noting.{behaves_begun, written_noted}
 use Rattle.per_enc.proofs.EncoderEncoder.close_set_of.Goals as goal
 

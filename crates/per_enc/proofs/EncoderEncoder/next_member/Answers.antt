@@ -2,7 +2,7 @@ use Rattle.std.proofs.Common.{refl, sym, ◌≡◌, ◌∙◌, true, false}
 use Rattle.std.proofs.lemmas.Result.{err_from_is_err_and}
 use Rattle.per_enc.specs.Rules.{noting}
 use Rattle.per_enc.proofs.Around.{member_awaited}
-use Rattle.per_enc.proofs.Bags.{bag_left}
+use Rattle.per_enc.proofs.OpenBags.{bag_left}
 use Rattle.per_enc.proofs.Noting.{behaves_begun}
 use Rattle.per_enc.proofs.EncoderEncoder.next_member.Goals as goal
 

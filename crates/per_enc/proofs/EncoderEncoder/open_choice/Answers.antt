@@ -5,9 +5,9 @@ use Rattle.rasn_schema.specs.Laws.Choices.{variants_counted}
 use Rattle.rasn_traits.specs.Choices.{OpenedChoice}
 use Rattle.per_write.specs.Components.{Encoding}
 use Rattle.per_write.specs.Rules.{encoder_rules}
-use Rattle.per_enc.specs.Choices.{OpensChoice}
+use Rattle.per_enc.specs.AlternativeCounts.{OpensChoice}
 use Rattle.per_enc.proofs.Around.{choice_opened}
-use Rattle.per_enc.proofs.Choices.{added_counted, opens_choice}
+use Rattle.per_enc.proofs.ChoiceScopes.{added_counted, opens_choice}
 use Rattle.per_enc.proofs.Noting.{behaves_begun, behaves_refused, noting_codec}
 use Rattle.per_enc.proofs.Presenting.{refuses_again}
 use Rattle.per_enc.proofs.EncoderEncoder.open_choice.Goals as goal

@@ -12,7 +12,7 @@ pub returns : goal.returns
 returns g c =
     let m = c.self.view_is ∙ c.in_ok-set.ensures.inside in
     record {
-      law = contents_opened c.args.self.now (record { writer = c.open_unplaced.new.self; set = c.self.inside.set }) c.in_ok-waiting.waiting c.in_ok-set.set c.in_ok-set.ensures.waits (ap (λ (z : Encoding). z.set) m)
+      law = contents_opened c.args.self.now (record { writer = c.open_unplaced.new.self; set = c.awaiting.result }) c.in_ok-waiting.waiting c.in_ok-set.set c.in_ok-set.ensures.waits c.awaiting.ensures
           (subst (λ (z : Encoding). BeginsUnplaced z.writer c.in_ok-waiting.waiting c.open_unplaced.new.self) m c.in_ok-waiting.ensures.ok);
       behaves = behaves_begun c.in_ok-set.ensures.ok tt (c.in_ok-waiting.ensures.kept ∙ ap (λ (z : Encoding). z.writer.codec) m ∙ noting_codec c.args.self.now);
     }

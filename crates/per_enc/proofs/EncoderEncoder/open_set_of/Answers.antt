@@ -3,7 +3,7 @@ use Rattle.std.proofs.lemmas.Result.{err_from_is_err_and}
 use Rattle.rasn_schema.specs.Forms.{is_size_marked, size_of}
 use Rattle.rasn_traits.specs.Bags.{BagOpened}
 use Rattle.per_write.specs.Components.{Encoding}
-use Rattle.per_write_types.specs.Bags.{IsOpenBag}
+use Rattle.per_enc.specs.Bags.{IsOpenBag}
 use Rattle.per_write.specs.Rules.{encoder_rules}
 use Rattle.per_enc.proofs.Around.{bag_opened, bag_refused}
 use Rattle.per_enc.proofs.Noting.{behaves_begun, behaves_refused, noting_codec}

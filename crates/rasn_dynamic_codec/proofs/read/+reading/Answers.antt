@@ -1,22 +1,24 @@
-use Rattle.std.proofs.Common.{◌≡◌, ◌∙◌, refl, sym, ap, subst, rules, true, false, inr, ◌∷◌, ◌++◌, Some}
+use Rattle.std.proofs.Common.{◌≡◌, ◌∙◌, refl, sym, ap, subst, rules, true, false, inr, ◌∷◌, ◌++◌, Err, Some}
 use Rattle.std.specs.Prelude.{count_by, is_some, option_map}
 use Rattle.std.proofs.lemmas.Result.{err_from_is_err_and}
 use Rattle.rasn_schema.specs.Forms.{is_size_marked, size_of}
 use Rattle.rasn_schema.specs.Lists.{list_at}
 use Rattle.rasn_schema.specs.Schemas
-use Rattle.rasn_schema.specs.Schemas.{default, optional, required}
+use Rattle.rasn_schema.specs.Schemas.{default, optional}
 use Rattle.rasn_traits.specs.Scopes.{FaultyPart, ReadsPart, reads_left_out}
 use Rattle.rasn_traits.proofs.Optionals.{bit_refused, value_read}
 use Rattle.rasn_traits.proofs.Reading.{addition_lacks, both_read, inside_left, record_addition_failed, record_ended, record_endless, record_root_failed}
 use Rattle.rasn_dynamic.specs.Types.{behind, contained_at, default_value, grouped, in_root, is_not_required, of_size, parts_at, record_schema, schema_at, choice_of}
-use Rattle.rasn_dynamic.specs.declared.types.Kind.TheVariants.{Simple as SimpleKind}
+use Rattle.rasn_dynamic.specs.declared.types.Kind.TheVariants.{Record as RecordKind, Simple as SimpleKind}
+use Rattle.rasn_dynamic.specs.declared.values.Value.TheVariants.{Absent}
 use Rattle.rasn_schema.specs.Bags.{set_at}
 use Rattle.rasn_dynamic.specs.Values.{value_of}
 use Rattle.rasn_dynamic_codec.proofs.OneAddition.{addition_unread}
 use Rattle.rasn_dynamic_codec.proofs.BagsReading.{bag_answered, bag_refused}
 use Rattle.rasn_dynamic.proofs.Places.{choice_plain, contained_none, contained_there, containing_plain, containing_there, date_plain, list_plain, none_there, open_plain, plain_there, record_plain, set_plain, simple_plain}
 use Rattle.rasn_dynamic_codec.proofs.Presences.{group_left}
-use Rattle.rasn_dynamic_codec.proofs.Reading.{contents_unread, default_added, default_taken, given_read, inside_unread, lacking_read, none_given, none_opened, octets_unended, octets_unopened, onward_all, onward_fails, onward_read, onward_room, open_unended, read_additions, read_components, reads_same, required_taken, slotted}
+use Rattle.rasn_dynamic_codec.proofs.Putting.{component_put, put_done, put_failed, puts_same, required_read, value_put}
+use Rattle.rasn_dynamic_codec.proofs.Reading.{contents_unread, default_added, default_taken, given_read, inside_unread, lacking_read, none_given, none_opened, octets_unended, octets_unopened, onward_all, onward_fails, onward_read, onward_room, open_unended, read_additions, read_components, reads_same, slotted}
 use Rattle.rasn_dynamic.proofs.Trees.{absent_slot, bag_slot, elements_slot, fields_slot, slot_there, value_there, alternative_slot}
 use Rattle.rasn_dynamic_codec.proofs.Unfit.{record_counted}
 use Rattle.rasn_schema.specs.Choices.{one_level_in}
@@ -24,70 +26,110 @@ use Rattle.rasn_traits.specs.Counted.{index_in, side_of}
 use Rattle.rasn_dynamic_codec.proofs.Choosing.{chosen, is_choice_of, placed_ended, placed_endless, placed_failed, placed_left, stands_there}
 use Rattle.rasn_dynamic_codec.proofs.read.+reading.Goals as goal
 
-pub decode_component-returns-in-Required : goal.decode_component-returns-in-Required
-decode_component-returns-in-Required g t c =
+pub put_component-returns-in-Required : goal.put_component-returns-in-Required
+put_component-returns-in-Required g t c = rw c.in-Required.is (puts_same (λ a w. required_read g.D.Decoder.rules _ _ _ a w) c.put_value.ensures)
+
+pub put_component-returns-in-Optional : goal.put_component-returns-in-Optional
+put_component-returns-in-Optional g t c = rw c.in-Optional.is c.put_optional.ensures
+
+pub put_component-returns-in-Group : goal.put_component-returns-in-Group
+put_component-returns-in-Group g t c = rw c.in-Group.is c.put_optional-in-Group.ensures
+
+pub put_component-returns-in-Default : goal.put_component-returns-in-Default
+put_component-returns-in-Default g t c = rw c.in-Default.is c.put_default.ensures
+
+pub put_optional-returns : goal.put_optional-returns
+put_optional-returns g t c =
     let r = g.D.Decoder.rules in
-    let w = c.decode_value.ensures in
-    let s = schema_at c.args.kinds.now c.args.component.now.of (r.levels c.args.decoder.now) in
-    rw c.in-Required.is (record {
-      law = slotted r.memory (λ e. FaultyPart r e required s) (ReadsPart r required s) c.args.decoder.now c.decode_value.result c.decode_value.new.decoder w.value (required_taken r s c.args.decoder.now c.decode_value.result c.decode_value.new.decoder w.read.law);
-      behaves = w.read.behaves;
-    })
-
-pub decode_component-returns-in-Optional : goal.decode_component-returns-in-Optional
-decode_component-returns-in-Optional g t c = rw c.in-Optional.is c.decode_optional.ensures
-
-pub decode_optional-returns-in_err-next_presence : goal.decode_optional-returns-in_err-next_presence
-decode_optional-returns-in_err-next_presence g t c =
-    let p = err_from_is_err_and c.from_residual.result c.from_residual.ensures.1 in
-    let b = c.in_err-next_presence.ensures in
-    rw (p.1, p.2) (record { law = bit_refused refl b.law; behaves = record { again = b.behaves.again; fails = b.behaves.fails; kept = b.behaves.kept } })
-
-pub decode_optional-returns-then-not-branch : goal.decode_optional-returns-then-not-branch
-decode_optional-returns-then-not-branch g t c =
-    let b = c.in_ok-next_presence.ensures.behaves in
-    record { law = rw absent_slot (reads_left_out refl (rw c.if-not-branch.true at c.in_ok-next_presence.ensures.law)); behaves = record { again = b.again; fails = tt; kept = b.kept } }
-
-pub decode_optional-returns : goal.decode_optional-returns
-decode_optional-returns g t c =
-    let r = g.D.Decoder.rules in
-    let w = c.decode_value.ensures in
     let b = c.in_ok-next_presence.ensures.behaves in
     let s = schema_at c.args.kinds.now c.args.place in
+    let x = c.args.decoder.now in
     let k = rw c.if-not-branch.false at c.in_ok-next_presence.ensures.law in
     let l = g.met.D.Decoder.lawful.marked.level _ _ _ k in
-    record {
-      law = slotted r.memory (λ e. FaultyPart r e optional (s (r.levels c.args.decoder.now))) (ReadsPart r optional (s (r.levels c.args.decoder.now))) c.args.decoder.now c.decode_value.result c.decode_value.new.decoder w.value
-          (value_read g.met.D.Decoder.lawful value_of optional (s (r.levels c.args.decoder.now)) c.args.decoder.now c.decode_value.new.decoder c.decode_value.result refl k (rw l at w.read.law));
+    puts_same (λ a w. record {
+      law = slotted r.memory (λ e. FaultyPart r e optional (s (r.levels x))) (ReadsPart r optional (s (r.levels x))) x a c.put_value.new.decoder w.value
+          (value_read g.met.D.Decoder.lawful value_of optional (s (r.levels x)) x c.put_value.new.decoder a refl k (rw l at w.read.law));
       behaves = record { again = λ q. absurd (b.again q); fails = w.read.behaves.fails; kept = w.read.behaves.kept ∙ b.kept };
-    }
+    }) c.put_value.ensures
 
-pub decode_components-returns-in_err-value : goal.decode_components-returns-in_err-value
-decode_components-returns-in_err-value g t c =
+pub put_value-returns-in-None : goal.put_value-returns-in-None
+put_value-returns-in-None g t c =
+    let e = none_there c.args.kinds.now c.args.place (sym c.kind_at.ensures ∙ ap (option_map (λ k. k.now)) c.in-None.is) (g.D.Decoder.rules.levels c.args.decoder.now) in
+    puts_same (λ a w. reads_same _ Schemas.real _ a _ e w) c.put_nothing.ensures
+
+pub put_kind-returns-in-Simple : goal.put_kind-returns-in-Simple
+put_kind-returns-in-Simple g t c =
+    let ts = c.args.kinds.now in
+    let s = c.in-Simple.simple in
+    let n = g.D.Decoder.rules.levels c.args.decoder.now in
+    let there = plain_there ts c.args.place (SimpleKind s) (c.requires ∙ ap Some c.in-Simple.is) (λ j e. absurd (cc)) in
+    puts_same (λ a w. reads_same _ _ _ a _ (there n ∙ simple_plain ts s n) w) c.put_leaf.ensures
+
+pub put_kind-returns-in-Record : goal.put_kind-returns-in-Record
+put_kind-returns-in-Record g t c =
+    let ts = c.args.kinds.now in
+    let d = c.in-Record.record in
+    let n = g.D.Decoder.rules.levels c.args.decoder.now in
+    let there = plain_there ts c.args.place (RecordKind d) (c.requires ∙ ap Some c.in-Record.is) (λ j e. absurd (cc)) in
+    puts_same (λ a w. reads_same _ _ _ a _ (there n ∙ record_plain ts d n) w) c.put_record.ensures
+
+pub put_kind-returns-in_default : goal.put_kind-returns-in_default
+put_kind-returns-in_default g t c = c.put_other.ensures
+
+pub put_optional-returns-in_err-next_presence : goal.put_optional-returns-in_err-next_presence
+put_optional-returns-in_err-next_presence g t c =
+    let p = err_from_is_err_and c.from_residual.result c.from_residual.ensures.1 in
+    let b = c.in_err-next_presence.ensures in
+    rw (p.1, p.2) (record { answer = Err _; put = refl; owed = record { law = bit_refused refl b.law; behaves = record { again = b.behaves.again; fails = b.behaves.fails; kept = b.behaves.kept } } })
+
+pub put_optional-returns-then-not-branch : goal.put_optional-returns-then-not-branch
+put_optional-returns-then-not-branch g t c =
+    let b = c.in_ok-next_presence.ensures.behaves in
+    let x = c.args.decoder.now in
+    component_put g.met.D.Decoder.lawful optional (schema_at c.args.kinds.now c.args.place (g.D.Decoder.rules.levels x)) x c.next_presence.new.self c.put.new.decoder Absent _ _ _
+    (record { law = rw absent_slot (reads_left_out refl (rw c.if-not-branch.true at c.in_ok-next_presence.ensures.law)); behaves = record { again = b.again; fails = tt; kept = b.kept } })
+    c.put.ensures.held c.put.ensures.behind
+
+pub decode_components-returns-in_err-put_component : goal.decode_components-returns-in_err-put_component
+decode_components-returns-in_err-put_component g t c =
     let p = err_from_is_err_and c.from_residual.result c.from_residual.ensures.1 in
     let r = g.D.Decoder.rules in
     let m = read_components r g.met.D.Decoder.lawful in
     let i = c.loop-component.invariant in
-    let w = c.in_err-value.ensures in
+    let w = put_failed c.in_err-put_component.ensures in
     rw (p.1, p.2) (record { takes = record { law = onward_fails r m i _ c.loop-component-test.true c.component-item.is _ w.law; fails = w.behaves.fails; kept = w.behaves.kept ∙ i.kept }; level = tt })
-
-pub decode_components-returns-then-not-push_value : goal.decode_components-returns-then-not-push_value
-decode_components-returns-then-not-push_value g t c =
-    let r = g.D.Decoder.rules in
-    let m = read_components r g.met.D.Decoder.lawful in
-    let i = c.loop-component.invariant in
-    let w = c.in_ok-value.ensures in
-    let n = onward_read r m i _ c.loop-component-test.true c.component-item.is c.in_ok-value.value c.decode_component.new.decoder w.law w.behaves.kept in
-    record { takes = record { law = onward_room r m n c.out_of_memory.result c.out_of_memory.ensures.memory; fails = c.out_of_memory.ensures.fails; kept = c.out_of_memory.ensures.kept ∙ n.kept }; level = tt }
 
 pub decode_components-loop-component-preserved : goal.decode_components-loop-component-preserved
 decode_components-loop-component-preserved g t c =
     let r = g.D.Decoder.rules in
     let m = read_components r g.met.D.Decoder.lawful in
     let i = c.loop-component.invariant in
-    let w = c.in_ok-value.ensures in
-    let n = onward_read r m i _ c.loop-component-test.true c.component-item.is c.in_ok-value.value c.decode_component.new.decoder w.law w.behaves.kept in
-    rw (c.push_value.ensures c.if-not-push_value.false) n
+    let q = put_done c.in_ok-put_component.ensures in
+    rw q.1 (onward_read r m i _ c.loop-component-test.true c.component-item.is q.0 c.put_component.new.decoder q.2.law q.2.behaves.kept)
+
+pub put_default-returns-in_err-value : goal.put_default-returns-in_err-value
+put_default-returns-in_err-value g t c =
+    let p = err_from_is_err_and c.from_residual.result c.from_residual.ensures.1 in
+    rw (p.1, p.2) (record { answer = Err _; put = refl; owed = c.in_err-value.ensures })
+
+pub put_default-returns : goal.put_default-returns
+put_default-returns g t c = component_put g.met.D.Decoder.lawful (default (default_value c.args.otherwise.now)) _ _ _ _ _ _ _ _ c.in_ok-value.ensures c.put.ensures.held c.put.ensures.behind
+
+pub put_record-returns-in_err-value : goal.put_record-returns-in_err-value
+put_record-returns-in_err-value g t c =
+    let p = err_from_is_err_and c.from_residual.result c.from_residual.ensures.1 in
+    rw (p.1, p.2) (record { answer = Err _; put = refl; owed = c.in_err-value.ensures })
+
+pub put_record-returns : goal.put_record-returns
+put_record-returns g t c = value_put g.met.D.Decoder.lawful _ _ _ _ _ _ _ _ c.in_ok-value.ensures c.put.ensures.held c.put.ensures.behind
+
+pub put_other-returns-in_err-value : goal.put_other-returns-in_err-value
+put_other-returns-in_err-value g t c =
+    let p = err_from_is_err_and c.from_residual.result c.from_residual.ensures.1 in
+    rw (p.1, p.2) (record { answer = Err _; put = refl; owed = c.in_err-value.ensures })
+
+pub put_other-returns : goal.put_other-returns
+put_other-returns g t c = value_put g.met.D.Decoder.lawful _ _ _ _ _ _ _ _ c.in_ok-value.ensures c.put.ensures.held c.put.ensures.behind
 
 pub decode_components-returns : goal.decode_components-returns
 decode_components-returns g t c =
@@ -276,9 +318,9 @@ decode_record-returns-in_err-added g t c =
       value = tt;
     })
 
-pub decode_record-returns-in_err-close_sequence : goal.decode_record-returns-in_err-close_sequence
-decode_record-returns-in_err-close_sequence g t c =
-    let p = err_from_is_err_and c.from_residual-in_err-close_sequence.result c.from_residual-in_err-close_sequence.ensures.1 in
+pub decode_record-returns-in_err-close_fields_of : goal.decode_record-returns-in_err-close_fields_of
+decode_record-returns-in_err-close_fields_of g t c =
+    let p = err_from_is_err_and c.from_residual-in_err-close_fields_of.result c.from_residual-in_err-close_fields_of.ensures.1 in
     let L = g.met.D.Decoder.lawful in
     let K = g.met.D.Decoder.scopes in
     let ts = c.args.kinds.now in
@@ -290,7 +332,7 @@ decode_record-returns-in_err-close_sequence g t c =
     let w = rw c.root-components.ensures at c.in_ok-root.ensures.takes in
     let a = rw c.behind-additions.ensures at c.in_ok-added.ensures in
     let both = both_read L K ps (is_some r.additions) qs o.law.0 o.law.1 _ _ _ _ w.law a.law in
-    let d = c.in_err-close_sequence.ensures in
+    let d = c.in_err-close_fields_of.ensures in
     rw (p.1, p.2) (record {
       read = record {
         law = record_endless L K ps (is_some r.additions) qs o.law.0 o.law.1 _ _ _ both (d.law (inside_left L K ps (is_some r.additions) qs o.law.0 o.law.1 _ _ _ both));
@@ -298,6 +340,35 @@ decode_record-returns-in_err-close_sequence g t c =
       };
       value = tt;
     })
+
+pub decode_record-close_fields_of-requires : goal.decode_record-close_fields_of-requires
+decode_record-close_fields_of-requires g t c =
+    let L = g.met.D.Decoder.lawful in
+    let K = g.met.D.Decoder.scopes in
+    let ts = c.args.kinds.now in
+    let r = c.args.sequence.now in
+    let ps = parts_at in_root ts r.root.items in
+    let qs = parts_at (grouped ts) ts (behind r.additions) in
+    let k = record_counted ts r c.presence_bit_count-bits.result c.added_count-count.result (c.presence_bit_count-bits.ensures ∙ ap (λ cs. count_by (λ d. is_not_required d.presence) cs) c.root-components.ensures) c.added_count-count.ensures in
+    let o = c.in_ok-outside.ensures.opened ps (is_some r.additions) qs k in
+    let w = rw c.root-components.ensures at c.in_ok-root.ensures.takes in
+    let a = rw c.behind-additions.ensures at c.in_ok-added.ensures in
+    record {
+      in_turn = record {
+        parts = ps;
+        marker = is_some r.additions;
+        additions = qs;
+        in_turn = record {
+          before = _;
+          inside = c.open_fields_of.new.self;
+          levels = g.D.Decoder.rules.levels c.open_fields_of.new.self;
+          root = _;
+          added = _;
+          opened = o.law.1;
+          read = both_read L K ps (is_some r.additions) qs o.law.0 o.law.1 _ _ _ _ w.law a.law;
+        };
+      };
+    }
 
 pub decode_record-returns : goal.decode_record-returns
 decode_record-returns g t c =
@@ -312,11 +383,11 @@ decode_record-returns g t c =
     let w = rw c.root-components.ensures at c.in_ok-root.ensures.takes in
     let a = rw c.behind-additions.ensures at c.in_ok-added.ensures in
     let both = both_read L K ps (is_some r.additions) qs o.law.0 o.law.1 _ _ _ _ w.law a.law in
-    let d = c.in_ok-close_sequence.ensures in
+    let d = c.in_ok-close_fields_of.ensures in
     let e = fields_slot c.in_ok-root.root c.in_ok-added.added in
     record {
       read = record {
-        law = subst (λ v. g.D.Decoder.rules.spells (record_schema ts r (g.D.Decoder.rules.levels c.args.decoder.now)) c.args.decoder.now v c.close_sequence.new.self) (sym (value_there _ _ e)) (record_ended L K ps (is_some r.additions) qs o.law.0 o.law.1 _ _ _ _ both (d.law (inside_left L K ps (is_some r.additions) qs o.law.0 o.law.1 _ _ _ both)));
+        law = subst (λ v. g.D.Decoder.rules.spells (record_schema ts r (g.D.Decoder.rules.levels c.args.decoder.now)) c.args.decoder.now v c.close_fields_of.new.self) (sym (value_there _ _ e)) (record_ended L K ps (is_some r.additions) qs o.law.0 o.law.1 _ _ _ _ both (d.law (inside_left L K ps (is_some r.additions) qs o.law.0 o.law.1 _ _ _ both)));
         behaves = record { again = λ q. absurd (o.behaves.again q); fails = tt; kept = d.behaves.kept ∙ a.kept ∙ w.kept ∙ o.behaves.kept };
       };
       value = slot_there _ _ e;
@@ -547,17 +618,11 @@ decode_set_of-returns g t c =
       value = slot_there _ _ e;
     }
 
-pub decode_component-returns-in-Group : goal.decode_component-returns-in-Group
-decode_component-returns-in-Group g t c = rw c.in-Group.is c.decode_optional-in-Group.ensures
-
 pub decode_addition-returns-in-Group : goal.decode_addition-returns-in-Group
 decode_addition-returns-in-Group g t c =
     let w = c.in_ok-value.ensures in
     let b = grouped c.args.kinds.now c.args.component.now in
     rw c.in-Group.is (record { law = lacking_read _ _ _ _ _ (group_left b) (sym c.if-is_there.false ∙ c.is_there.ensures) w.law; behaves = record { again = w.behaves.again; fails = tt; kept = w.behaves.kept } })
-
-pub decode_component-returns-in-Default : goal.decode_component-returns-in-Default
-decode_component-returns-in-Default g t c = rw c.in-Default.is c.decode_default.ensures
 
 pub decode_default-returns-in_err-there : goal.decode_default-returns-in_err-there
 decode_default-returns-in_err-there g t c =

@@ -34,13 +34,28 @@ abbrev pub decreases-decode_record : goal.decreases-decode_record
 decreases-decode_record g l = 16 * g.D.Decoder.rules.levels l.decoder.now + 1
 
 abbrev pub decreases-decode_components : goal.decreases-decode_components
-decreases-decode_components g l = 16 * g.D.Decoder.rules.levels l.decoder.now + 9
+decreases-decode_components g l = 16 * g.D.Decoder.rules.levels l.decoder.now + 11
 
-abbrev pub decreases-decode_component : goal.decreases-decode_component
-decreases-decode_component g l = 16 * g.D.Decoder.rules.levels l.decoder.now + 8
+abbrev pub decreases-put_component : goal.decreases-put_component
+decreases-put_component g l = 16 * g.D.Decoder.rules.levels l.decoder.now + 10
 
-abbrev pub decreases-decode_optional : goal.decreases-decode_optional
-decreases-decode_optional g l = 16 * g.D.Decoder.rules.levels l.decoder.now + 7
+abbrev pub decreases-put_optional : goal.decreases-put_optional
+decreases-put_optional g l = 16 * g.D.Decoder.rules.levels l.decoder.now + 9
+
+abbrev pub decreases-put_default : goal.decreases-put_default
+decreases-put_default g l = 16 * g.D.Decoder.rules.levels l.decoder.now + 9
+
+abbrev pub decreases-put_value : goal.decreases-put_value
+decreases-put_value g l = 16 * g.D.Decoder.rules.levels l.decoder.now + 8
+
+abbrev pub decreases-put_kind : goal.decreases-put_kind
+decreases-put_kind g l = 16 * g.D.Decoder.rules.levels l.decoder.now + 7
+
+abbrev pub decreases-put_record : goal.decreases-put_record
+decreases-put_record g l = 16 * g.D.Decoder.rules.levels l.decoder.now + 6
+
+abbrev pub decreases-put_other : goal.decreases-put_other
+decreases-put_other g l = 16 * g.D.Decoder.rules.levels l.decoder.now + 6
 
 abbrev pub decreases-decode_default : goal.decreases-decode_default
 decreases-decode_default g l = 16 * g.D.Decoder.rules.levels l.decoder.now + 7

@@ -6,7 +6,9 @@ use Rattle.std.proofs.lemmas.Result.{err_from_is_err_and}
 use Rattle.rasn_schema.specs.Forms.{always, is_size_marked, size_of}
 use Rattle.rasn_schema.specs.Lists.{deepest, list_at, list_value}
 use Rattle.rasn_schema.specs.Records.{record_value}
+use Rattle.rasn_schema.specs.Normal.{normals}
 use Rattle.rasn_schema.specs.Schemas
+use Rattle.rasn_traits.specs.Scopes.{presents_fields}
 use Rattle.rasn_traits.proofs.Writing.{record_addition_refused, record_ended, record_root_refused}
 use Rattle.rasn_dynamic_codec.proofs.Given.{contents_closed, contents_refused, group_closed, group_refused, group_surplus, is_group_of, octets_refused, settled_written, value_closed, value_refused}
 use Rattle.rasn_dynamic_codec.proofs.Members.{awaits_member, bags}
@@ -546,7 +548,7 @@ encode_fields-returns-in_err-outside g t c =
     let k = record_counted ts r c.presence_bit_count-bits.result c.added_count-count.result (c.presence_bit_count-bits.ensures ∙ ap (λ cs. count_by (λ d. is_not_required d.presence) cs) c.root-components.ensures) c.added_count-count.ensures in
     let o = c.in_err-outside.ensures.opened ps (is_some r.additions) qs k in
     rw (p.1, p.2) (record {
-      law = record_unopened g.E.Encoder.rules ps (is_some r.additions) qs _ _ c.args.encoder.now c.open_record.new.self _ o.law;
+      law = record_unopened g.E.Encoder.rules ps (is_some r.additions) qs _ _ c.args.encoder.now c.open_fields_of.new.self _ o.law;
       behaves = record { again = o.behaves.again; fails = o.behaves.fails; kept = o.behaves.kept };
     })
 
@@ -563,7 +565,7 @@ encode_fields-returns-in_err-encode_components g t c =
     let o = c.in_ok-outside.ensures.opened ps (is_some r.additions) qs k in
     let w = rw c.root-components.ensures at c.in_err-encode_components.ensures in
     rw (p.1, p.2) (record {
-      law = record_root_refused g.E.Encoder.rules ps (is_some r.additions) qs (map slot_of vs) (map slot_of ws) _ c.args.encoder.now c.open_record.new.self c.encode_components.new.encoder c.encode_components.new.encoder _ (λ n. (o.law n).1)
+      law = record_root_refused g.E.Encoder.rules ps (is_some r.additions) qs (map slot_of vs) (map slot_of ws) _ c.args.encoder.now c.open_fields_of.new.self c.encode_components.new.encoder c.encode_components.new.encoder _ (λ n. (o.law n).1)
           (λ n le. w.law.at n (le_trans (le-max_left (deepest levels_of vs) (deepest levels_of ws)) le));
       behaves = record { again = λ q. absurd (o.behaves.again q); fails = w.fails; kept = w.kept ∙ o.behaves.kept };
     })
@@ -582,7 +584,7 @@ encode_fields-returns-in_err-encode_additions g t c =
     let w = rw c.root-components.ensures at c.in_ok-encode_components.ensures in
     let a = rw c.behind-additions.ensures at c.in_err-encode_additions.ensures in
     rw (p.1, p.2) (record {
-      law = record_addition_refused g.E.Encoder.rules g.met.E.Encoder.lawful ps (is_some r.additions) qs (map slot_of vs) (map slot_of ws) _ c.args.encoder.now c.open_record.new.self c.encode_components.new.encoder c.encode_additions.new.encoder c.encode_additions.new.encoder _ (λ n. (o.law n).1)
+      law = record_addition_refused g.E.Encoder.rules g.met.E.Encoder.lawful ps (is_some r.additions) qs (map slot_of vs) (map slot_of ws) _ c.args.encoder.now c.open_fields_of.new.self c.encode_components.new.encoder c.encode_additions.new.encoder c.encode_additions.new.encoder _ (λ n. (o.law n).1)
           (λ n le. w.law.at n (le_trans (le-max_left (deepest levels_of vs) (deepest levels_of ws)) le)) (λ n le. a.law.at n (le_trans (le-max_right (deepest levels_of vs) (deepest levels_of ws)) le));
       behaves = record { again = λ q. absurd (o.behaves.again q); fails = a.fails; kept = a.kept ∙ w.kept ∙ o.behaves.kept };
     })
@@ -599,11 +601,41 @@ encode_fields-returns g t c =
     let o = c.in_ok-outside.ensures.opened ps (is_some r.additions) qs k in
     let w = rw c.root-components.ensures at c.in_ok-encode_components.ensures in
     let a = rw c.behind-additions.ensures at c.in_ok-encode_additions.ensures in
-    let d = c.close_record.ensures.closed ps (is_some r.additions) qs (unmarked_none ts r.additions) in
+    let d = c.close_fields_of.ensures.closed ps (is_some r.additions) qs (unmarked_none ts r.additions) in
     record {
-      law = record_ended g.E.Encoder.rules g.E.Encoder.opens_fields ps (is_some r.additions) qs (map slot_of vs) (map slot_of ws) _ c.args.encoder.now c.open_record.new.self c.encode_components.new.encoder c.encode_additions.new.encoder _ (λ n. (o.law n).0)
-          (λ n le. w.law.at n (le_trans (le-max_left (deepest levels_of vs) (deepest levels_of ws)) le)) (λ n le. a.law.at n (le_trans (le-max_right (deepest levels_of vs) (deepest levels_of ws)) le)) c.close_record.result c.close_record.new.self d;
+      law = record_ended g.E.Encoder.rules g.E.Encoder.opens_fields ps (is_some r.additions) qs (map slot_of vs) (map slot_of ws) _ c.args.encoder.now c.open_fields_of.new.self c.encode_components.new.encoder c.encode_additions.new.encoder _ (λ n. (o.law n).0)
+          (λ n le. w.law.at n (le_trans (le-max_left (deepest levels_of vs) (deepest levels_of ws)) le)) (λ n le. a.law.at n (le_trans (le-max_right (deepest levels_of vs) (deepest levels_of ws)) le)) c.close_fields_of.result c.close_fields_of.new.self d;
       behaves = record { again = λ q. absurd (o.behaves.again q); fails = d.behaves.fails; kept = d.behaves.kept ∙ a.kept ∙ w.kept ∙ o.behaves.kept };
+    }
+
+pub encode_fields-close_fields_of-requires : goal.encode_fields-close_fields_of-requires
+encode_fields-close_fields_of-requires g t c =
+    let ts = c.args.kinds.now in
+    let r = c.args.sequence.now in
+    let ps = parts_at in_root ts r.root.items in
+    let qs = parts_at (grouped ts) ts (behind r.additions) in
+    let vs = c.args.root_values.now in
+    let ws = c.args.added_values.now in
+    let k = record_counted ts r c.presence_bit_count-bits.result c.added_count-count.result (c.presence_bit_count-bits.ensures ∙ ap (λ cs. count_by (λ d. is_not_required d.presence) cs) c.root-components.ensures) c.added_count-count.ensures in
+    let o = c.in_ok-outside.ensures.opened ps (is_some r.additions) qs k in
+    let w = rw c.root-components.ensures at c.in_ok-encode_components.ensures in
+    let a = rw c.behind-additions.ensures at c.in_ok-encode_additions.ensures in
+    let l = max (deepest levels_of vs) (deepest levels_of ws) in
+    record {
+      in_turn = record {
+        parts = ps;
+        marker = is_some r.additions;
+        additions = qs;
+        in_turn = record {
+          before = c.args.encoder.now;
+          inside = c.open_fields_of.new.self;
+          levels = l;
+          root = normals (ps l) (map slot_of vs);
+          added = normals (qs l) (map slot_of ws);
+          opened = (o.law l).0;
+          presented = presents_fields {m = c.encode_components.new.encoder} (w.law.at l (le-max_left (deepest levels_of vs) (deepest levels_of ws))) (a.law.at l (le-max_right (deepest levels_of vs) (deepest levels_of ws)));
+        };
+      };
     }
 
 pub encode_record-returns : goal.encode_record-returns

@@ -1,32 +1,46 @@
-use Rattle.std.proofs.Common.{refl}
+use Rattle.std.proofs.Common.{refl, ap, ◌∙◌}
 use Rattle.std.proofs.lemmas.Result.{err_from_is_err_and}
-use Rattle.per_pieces.specs.Turns.{uncounted}
+use Rattle.rasn_schema.specs.Schemas.{count}
+use Rattle.per_pieces.specs.Turns.{awaits, is_complete}
 use Rattle.per_enc.specs.Rules.{noting}
 use Rattle.per_enc.proofs.Around.{sequence_closed}
 use Rattle.per_enc.proofs.Inside.{fields_inside}
-use Rattle.per_enc.proofs.Records.{closes_record, not_failed_inside}
+use Rattle.per_enc.proofs.Records.{closes_record}
 use Rattle.per_enc.proofs.Noting.{behaves_begun}
+use Rattle.per_enc.proofs.Turns.{all_came, behaves_unclosed, not_unclosed, record_untimely, unclosed_untimely, unfailed_in_record}
 use Rattle.per_enc.proofs.counted.EncoderCountedEncoder.close_record.Goals as goal
 
-pub returns-in_err-check_unfailed : goal.returns-in_err-check_unfailed
-returns-in_err-check_unfailed g c =
+pub returns-in_err-check_scope : goal.returns-in_err-check_scope
+returns-in_err-check_scope g c =
     let p = err_from_is_err_and c.from_residual.result c.from_residual.ensures.1 in
-    record {
+    let j = c.args.self.now in
+    let u = c.in_err-check_scope.ensures.err in
+    let behaves = behaves_unclosed _ j _ u c.in_err-check_scope.ensures.fails c.in_err-check_scope.ensures.kept in
+    rw (p.1, p.2) (record {
       closed = λ ps marker adds w. record {
-        law = rw (← c.self.view_is) (λ x i n rs xs h k. absurd (not_failed_inside (ps n) marker (adds n) (noting x).writer i.writer c.self.inside.writer rs xs c.args.outside.0 h.opened
-            (fields_inside (ps n) (adds n) i _ rs xs h.inside k).0 c.in_err-check_unfailed.ensures.failed));
-        behaves = rw (p.1, p.2, ← c.self.view_is) (record { again = λ q. c.in_err-check_unfailed.ensures.err; fails = c.in_err-check_unfailed.ensures.failed; kept = refl });
+        closes = record {
+          law = λ x i n rs xs h k. absurd (not_unclosed _ j u (unfailed_in_record (ps n) marker (adds n) x i j rs xs c.args.outside h k)
+              (ap is_complete (fields_inside (ps n) (adds n) i j rs xs h.inside k).1 ∙ all_came (count (ps n))));
+          behaves = behaves;
+        };
+        untimely = λ x i n h. unclosed_untimely _ i j (awaits (count (ps n))) _ h.inside h.opened.unfailed u;
       };
-      behaves = rw (p.1, p.2, ← c.self.view_is) (record { again = λ q. c.in_err-check_unfailed.ensures.err; fails = c.in_err-check_unfailed.ensures.failed; kept = refl });
-    }
+      behaves = behaves;
+    })
 
 pub returns : goal.returns
 returns g c =
-    record {
+    let m = c.self.view_is ∙ c.in_ok-check_scope.ensures.stays in
+    let begun = (rw (← m) at c.in_ok-check_scope.ensures.begun) in
+    let complete = (rw (← m) at c.in_ok-check_scope.ensures.complete) in
+    rw (← m) (record {
       closed = λ ps marker adds w. record {
-        law = rw (← c.self.view_is) (λ x i n rs xs h k. sequence_closed uncounted (ps n) marker (adds n) x i _ (record { writer = c.close_record.new.self; set = c.args.outside.1 }) rs xs c.args.outside c.close_record.result refl
-            (λ f o. closes_record (ps n) marker (adds n) (noting x).writer i.writer c.self.inside.writer _ rs xs c.args.outside.0 c.close_record.result (λ m. w m n) o f c.close_record.ensures) h k);
-        behaves = rw (← c.self.view_is) (behaves_begun c.in_ok-check_unfailed.ensures.ok c.close_record.ensures.fails c.close_record.ensures.kept);
+        closes = record {
+          law = λ x i n rs xs h k. sequence_closed (awaits (count (ps n))) (ps n) marker (adds n) x i _ (record { writer = c.close_record.new.self; set = c.args.outside.1 }) rs xs c.args.outside c.close_record.result refl
+              (λ f o. closes_record (ps n) marker (adds n) (noting x).writer i.writer c.self.inside.writer _ rs xs c.args.outside.0 c.close_record.result (λ m. w m n) o f c.close_record.ensures) h k;
+          behaves = behaves_begun begun c.close_record.ensures.fails c.close_record.ensures.kept;
+        };
+        untimely = λ x i n h. record_untimely (ps n) marker (adds n) x i _ c.args.outside _ c.close_record.result (λ m. w m n) h complete c.close_record.ensures;
       };
-      behaves = rw (← c.self.view_is) (behaves_begun c.in_ok-check_unfailed.ensures.ok c.close_record.ensures.fails c.close_record.ensures.kept);
-    }
+      behaves = behaves_begun begun c.close_record.ensures.fails c.close_record.ensures.kept;
+    })

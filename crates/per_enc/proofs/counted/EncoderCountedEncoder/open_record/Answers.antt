@@ -1,10 +1,10 @@
-use Rattle.std.proofs.Common.{ap, inl, inr, ◌∙◌, subst, Ok}
+use Rattle.std.proofs.Common.{ap, inl, inr, ◌∙◌, subst, ℕ, Ok}
 use Rattle.std.proofs.lemmas.Result.{err_from_is_err_and}
-use Rattle.rasn_schema.specs.Schemas.{listed}
+use Rattle.rasn_schema.specs.Schemas.{count, listed}
 use Rattle.rasn_traits.specs.Scopes.{OpenedToWrite}
 use Rattle.per_write.specs.Components.{Encoding}
 use Rattle.per_write.specs.Rules.{encoder_rules}
-use Rattle.per_pieces.specs.Turns.{uncounted}
+use Rattle.per_pieces.specs.Turns.{awaits, counts}
 use Rattle.per_enc.specs.Records.{Opens}
 use Rattle.per_enc.proofs.Around.{sequence_opened}
 use Rattle.per_enc.proofs.Counting.{counted_behind, none_behind}
@@ -18,8 +18,8 @@ returns g c =
     let m = c.self.view_is ∙ c.in_ok-set.ensures.inside in
     let behaves = behaves_begun c.in_ok-set.ensures.ok tt (c.in_ok-scope.ensures.kept ∙ ap (λ (z : Encoding). z.writer.codec) m ∙ noting_codec c.args.self.now) in
     record {
-      opened = λ ps marker adds k. record {
-        law = sequence_opened (λ n. uncounted) ps marker adds c.args.self.now (record { writer = c.open_record.new.self; set = c.self.inside.set }) c.in_ok-scope.scope c.in_ok-set.set c.in_ok-set.ensures.waits (λ n. ap (λ (z : Encoding). z.set) m)
+      opened = λ ps marker adds many k. record {
+        law = sequence_opened (λ n. awaits (count (ps n))) ps marker adds c.args.self.now (record { writer = c.open_record.new.self; set = c.awaiting.result }) c.in_ok-scope.scope c.in_ok-set.set c.in_ok-set.ensures.waits (λ n. c.awaiting.ensures ∙ ap (λ (l : ℕ). counts (awaits l)) (many n))
             (subst (λ (z : Encoding). OpenedToWrite encoder_rules Opens listed ps marker adds z.writer (Ok c.in_ok-scope.scope) c.open_record.new.self) m
             (opens_record ps marker adds _ _ c.self.inside.writer _ (Ok c.in_ok-scope.scope) k.bits_are
             (λ n. counted_behind c.args.additions marker (adds n) k.marked (k.added_are n))
@@ -33,7 +33,7 @@ pub returns-in_err-set : goal.returns-in_err-set
 returns-in_err-set g c =
     let p = err_from_is_err_and c.from_residual.result c.from_residual.ensures.1 in
     rw (p.1, p.2) (record {
-      opened = λ ps marker adds k. record {
+      opened = λ ps marker adds many k. record {
         law = inr (λ n v. refuses_again _ c.args.self.now.writer _ v c.in_err-set.ensures.err c.in_err-set.ensures.failed);
         behaves = behaves_refused c.in_err-set.ensures.err c.in_err-set.ensures.failed c.in_err-set.ensures.stays;
       };
@@ -46,7 +46,7 @@ returns-in_err-scope g c =
     let m = c.self.view_is ∙ c.in_ok-set.ensures.inside in
     let codec = ap (λ (z : Encoding). z.writer.codec) m ∙ noting_codec c.args.self.now in
     rw (p.1, p.2) (record {
-      opened = λ ps marker adds k. record {
+      opened = λ ps marker adds many k. record {
         law = inl (record { kind_is = c.in_err-scope.ensures.err.kind_is; codec_is = c.in_err-scope.ensures.err.codec_is ∙ codec });
         behaves = behaves_begun c.in_ok-set.ensures.ok c.in_err-scope.ensures.fails (c.in_err-scope.ensures.kept ∙ codec);
       };

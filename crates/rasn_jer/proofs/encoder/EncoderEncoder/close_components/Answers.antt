@@ -1,3 +1,4 @@
+use Rattle.rasn_jer.proofs.Turns.{record_untimely}
 use Rattle.rasn_jer.proofs.Writing.{record_closed}
 use Rattle.rasn_schema.specs.Schemas.{by_tag}
 use Rattle.rasn_jer.proofs.encoder.EncoderEncoder.close_components.Goals as goal
@@ -6,6 +7,9 @@ pub returns : goal.returns
 returns g c =
     let C = g.C.Constructed in
     record {
-      law = λ x i n rs xs h k. record_closed by_tag (C.parts n) C.IS_EXTENSIBLE (C.additions n) x i c.args.self.now rs xs c.args.scope c.close.result c.close.new.self c.close.ensures.closed h k;
-      behaves = c.close.ensures.behaves;
+      closes = record {
+        law = λ x i n rs xs h k. record_closed by_tag (C.parts n) C.IS_EXTENSIBLE (C.additions n) x i c.args.self.now rs xs c.args.scope c.close.result c.close.new.self c.close.ensures.closed h k;
+        behaves = c.close.ensures.behaves;
+      };
+      untimely = λ x i n h. record_untimely by_tag (C.parts n) C.IS_EXTENSIBLE (C.additions n) x i c.args.self.now c.args.scope c.close.result h c.close.ensures.lacks;
     }

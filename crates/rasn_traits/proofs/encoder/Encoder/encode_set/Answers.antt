@@ -27,9 +27,9 @@ returns g c =
       law = λ rs xs k counted owed.
           record_closed g.Self.Encoder.rules g.Self.Encoder.opens by_tag g.C.Constructed.parts g.C.Constructed.IS_EXTENSIBLE g.C.Constructed.additions rs xs k
           c.args.self.now c.open_components.new.self c.scope.new.arg2 _ _ (λ n. (o n).0)
-          (rw c.in_default.is at (owed.keeps c.open_components.new.self c.scope.result c.scope.new.arg2 gave)) _ _ c.close_components.ensures;
-      swallowed = ends_left (rw c.in_default.is at gave) c.close_components.ensures.behaves.again;
+          (rw c.in_default.is at (owed.keeps c.open_components.new.self c.scope.result c.scope.new.arg2 gave)) _ _ c.close_components.ensures.closes;
+      swallowed = ends_left (rw c.in_default.is at gave) c.close_components.ensures.closes.behaves.again;
       again = search rules;
       fails = search rules;
-      kept = λ owed. c.close_components.ensures.behaves.kept ∙ owed.stays c.open_components.new.self c.scope.result c.scope.new.arg2 gave ∙ c.in_ok-outside.ensures.behaves.kept;
+      kept = λ owed. c.close_components.ensures.closes.behaves.kept ∙ owed.stays c.open_components.new.self c.scope.result c.scope.new.arg2 gave ∙ c.in_ok-outside.ensures.behaves.kept;
     }

@@ -1,5 +1,5 @@
 use Rattle.std.proofs.Common.{◌∙◌, sym}
-use Rattle.rasn_times.proofs.GeneralizedTexts.{is_time-generalized_text}
+use Rattle.rasn_strings.proofs.GeneralizedTexts.{is_time-generalized_text}
 use Rattle.rasn_useful.proofs.generalized_time.GeneralizedTimeGeneralizedMoment.to_canonical_generalized_time_bytes.Goals as goal
 
 pub returns-clause-refused : goal.returns-clause-refused

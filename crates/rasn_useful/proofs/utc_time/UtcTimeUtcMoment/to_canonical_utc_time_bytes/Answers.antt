@@ -1,5 +1,5 @@
 use Rattle.std.proofs.Common.{◌∙◌, sym}
-use Rattle.rasn_times.proofs.UtcTexts.{is_time-utc_text}
+use Rattle.rasn_strings.proofs.UtcTexts.{is_time-utc_text}
 use Rattle.rasn_useful.proofs.utc_time.UtcTimeUtcMoment.to_canonical_utc_time_bytes.Goals as goal
 
 pub returns-clause-refused : goal.returns-clause-refused

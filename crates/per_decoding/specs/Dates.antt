@@ -1,0 +1,48 @@
+-- DATE as it is read (ITU-T X.691, 32): why a year, a month and a day are refused.
+use Rattle.std.specs.Prelude.{◌≡◌, ℕ, suc, false, [], Option, ℤ, pos}
+use Rattle.rasn_types.specs.Bits.{Bits}
+use Rattle.rasn_types.specs.Contents.{is_date}
+use Rattle.rasn_constraints.specs.Bounds.{between}
+use Rattle.per_core.specs.Basic.{IsConstrainedWhole, Octets, Year}
+use Rattle.per_core.specs.Spellings.{Settings, Spelling, Field, Then}
+use Rattle.per_core.specs.Took.{Took}
+use Rattle.rasn_constraints.specs.ToldBounds.{lower_of, upper_of, value_of}
+use Rattle.per_read.specs.Kinds.{IsTested}
+use Rattle.per_read.specs.Numbers.{IsOutside}
+use Rattle.per_read.specs.declared.error.DecodeErrorKind.{DecodeErrorKind}
+use Rattle.per_read.specs.declared.error.DecodeErrorKind.TheVariants.{InvalidDate}
+use Rattle.per_read.specs.declared.error.DecodeErrorKind.TheVariants.{UnexpectedEmptyInput, ValueConstraintNotSatisfied}
+
+-- X.691 32: a year, a month and a day, whether they are a day of the calendar or not; month and day are counted from 0
+abbrev pub numbers_form : Settings → ℤ → ℕ → ℕ → Spelling
+numbers_form a year month day = Then (Year a year) (Then (IsConstrainedWhole a 12 month) (IsConstrainedWhole a 31 day))
+
+-- X.680 38.4: such numbers are no day of the calendar
+pub record IsNoDay (a : Settings) (s : Bits) : Type 0 where
+  pub year : ℤ
+  pub month : ℕ
+  pub day : ℕ
+  pub rest : Bits
+  pub took : Took (numbers_form a year month day) s rest
+  pub no_day : is_date year (suc month) (suc day) ≡ false
+
+-- a number that is none of 1 to 12 stands behind a year, or behind its month one that is none of 1 to 31
+pub data IsNoPart (a : Settings) (named low high : Option ℤ) (s : Bits) : Type 0 where
+  no_month : {m : Bits} (year : ℤ) → Took (Year a year) s m → IsOutside a
+      (between (pos 1) (pos 12)) false named low high m
+      → IsNoPart a named low high s
+  no_day_in_month : {m n : Bits} (year : ℤ) (month : ℕ) → Took (Year a year) s m
+      → Took (IsConstrainedWhole a 12 month) m n
+      → IsOutside a (between (pos 1) (pos 31)) false named low high n → IsNoPart a named low high s
+
+-- a year that is none of a range stands as a number of no octets
+pub record IsEmptyYear (a : Settings) (s : Bits) : Type 0 where
+  pub rest : Bits
+  pub took : Took (Then (Field 2 3) (Octets a [])) s rest
+
+-- what a kind says of a DATE
+abbrev pub IsOfDate : Settings → Bits → DecodeErrorKind → Type 0
+IsOfDate a s InvalidDate = IsNoDay a s
+IsOfDate a s (ValueConstraintNotSatisfied told) = IsNoPart a (value_of told) (lower_of told) (upper_of told) s
+IsOfDate a s UnexpectedEmptyInput = IsEmptyYear a s
+IsOfDate a s k = IsTested k

@@ -1,3 +1,0 @@
--- What errors tell.
-pub mod Bounds
-pub mod Counts

@@ -1,0 +1,5 @@
+use Rattle.per_laws.proofs.by_parts.more_additions_make_a_newer_version.Goals as goal
+use Rattle.per_laws.proofs.Components
+
+pub returns : goal.returns
+returns c = Components.more_additions

@@ -1,8 +1,0 @@
-pub mod Enumerations
-pub mod Fits
-pub mod Indexes
-pub mod Marks
-pub mod Moments
-pub mod Within
-pub mod DatesRead
-pub mod Short

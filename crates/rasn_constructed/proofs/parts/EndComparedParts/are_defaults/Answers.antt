@@ -1,0 +1,5 @@
+use Rattle.rasn_constructed.proofs.Told.{told_none}
+use Rattle.rasn_constructed.proofs.parts.EndComparedParts.are_defaults.Goals as goal
+
+pub returns : goal.returns
+returns c = told_none

@@ -1,0 +1,4 @@
+pub mod Alternatives
+pub mod Listed
+pub mod Parts
+pub mod Held

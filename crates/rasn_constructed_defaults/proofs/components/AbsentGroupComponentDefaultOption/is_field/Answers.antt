@@ -1,5 +1,0 @@
-use Rattle.rasn_constructed_defaults.proofs.Told.{told_absent_group}
-use Rattle.rasn_constructed_defaults.proofs.components.AbsentGroupComponentDefaultOption.is_field.Goals as goal
-
-pub returns : goal.returns
-returns g c = told_absent_group g.G.Components.components.0 g.G.Components.depth _ c.args.field.now _ c.is_none.ensures

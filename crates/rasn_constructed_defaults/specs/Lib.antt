@@ -1,3 +1,0 @@
-pub mod Alternatives
-pub mod Listed
-pub mod Parts

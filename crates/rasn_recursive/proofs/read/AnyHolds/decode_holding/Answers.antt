@@ -1,4 +1,0 @@
-use Rattle.rasn_recursive.proofs.read.AnyHolds.decode_holding.Goals as goal
-
-pub returns : goal.returns
-returns g c = rw (g.met.C.Choice.is_choice g.C.AsnType.CONSTRAINTS) c.choice.ensures

@@ -1,7 +1,0 @@
-use Rattle.rasn_recursive.proofs.read.first.Goals as goal
-
-pub returns : goal.returns
-returns g c = record {
-  law = rw (c.given_or_own-in_use.ensures, c.CONSTRAINTS.ensures) at c.decode_component.ensures.law;
-  behaves = c.decode_component.ensures.behaves;
-}

@@ -1,4 +1,0 @@
-use Rattle.rasn_times.proofs.fraction.+push_digits.Given as goal
-
-abbrev pub decreases-push_digits : goal.decreases-push_digits
-decreases-push_digits g l = l.places

@@ -1,5 +1,0 @@
-use Rattle.rasn_versions.proofs.is_lawful.Goals as goal
-use Rattle.rasn_versions.proofs.Judged.{judged_type}
-
-pub returns : goal.returns
-returns g c = judged_type (g.T.AsnType.schema g.T.AsnType.CONSTRAINTS) (g.T.AsnType.levelled g.T.AsnType.CONSTRAINTS) c.requires

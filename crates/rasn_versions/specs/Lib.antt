@@ -1,5 +1,0 @@
-pub mod Alike
-pub mod Compared
-pub mod Components
-pub mod Judged
-pub mod Verdicts
