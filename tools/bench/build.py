@@ -6,6 +6,7 @@ import shutil
 import subprocess
 
 from inputs import MESSAGES, SCHEMAS, TYPES, lines, octets_line
+from osmocom import FLAGS, OTHER_LIBRARIES, put_aligned
 from program import built_program
 from repository import FURTHER, TOP, Failure, below, put_crate, read_crates
 
@@ -27,6 +28,10 @@ SIZES = {"1k": 1 << 10, "64k": 1 << 16, "1m": 1 << 20, "16m": 1 << 24}
 GROUP = (r"\[\[.*\]\]", "group Inner OPTIONAL")
 # It leaves out the length of zero behind whole fragments of 64 KiB.
 KNOWN_DIFFERENCES = {("asn1c", "uper", "octets1m"), ("asn1c", "uper", "behind1m")}
+# Osmocom's library reads no additions in APER, and of octets the first fragment alone.
+NOT_READ = {("osmocom", "group"), ("osmocom", "octets1m"), ("osmocom", "behind1m")}
+# The programs of asn1c's code, each for one variant.
+OF_ASN1C = {"asn1c": "uper", "osmocom": "aper"}
 
 
 def ran(words, folder, **how):
@@ -152,17 +157,33 @@ def fetch_modules(folder):
     return made
 
 
-def build_asn1c(folder):
-    made = f"{folder.path}/asn1c"
+def generated(folder, name, modules):
+    """Returns a folder in which asn1c has generated the C of Bench.asn1 and of modules."""
+    made = f"{folder.path}/{name}"
     shutil.rmtree(made, ignore_errors=True)
     os.makedirs(made)
     with open(f"{HERE}/Bench.asn1", encoding="utf-8") as it:
-        folder.written("asn1c/Bench.asn1", re.sub(*GROUP, it.read()))
-    modules = [f"{folder.path}/modules/{it}.asn" for it in MODULES["uper"]]
+        folder.written(f"{name}/Bench.asn1", re.sub(*GROUP, it.read()))
     ran(["asn1c", "-gen-PER", "-pdu=all", "Bench.asn1", *modules], made)
+    return made
+
+
+def compile_generated(folder, name, made, flags, libraries):
+    """Compiles what asn1c generated in a folder, and the program that calls it."""
     sources = sorted(it for it in os.listdir(made) if it.endswith(".c") and it != "converter-sample.c")
-    words = ["gcc", "-O2", "-w", "-I.", f"-I{HERE}/c", "-o", f"{folder.path}/bin/asn1c", f"{HERE}/c/with_asn1c.c"]
-    ran([*words, *sources], made)
+    words = ["gcc", "-O2", "-w", "-I.", f"-I{HERE}/c", *flags, "-o", f"{folder.path}/bin/{name}", f"{HERE}/c/with_asn1c.c"]
+    ran([*words, *sources, *libraries], made)
+
+
+def build_asn1c(folder):
+    modules = [f"{folder.path}/modules/{it}.asn" for it in MODULES["uper"]]
+    compile_generated(folder, "asn1c", generated(folder, "asn1c", modules), [], [])
+
+
+def build_osmocom(folder):
+    made = f"{folder.path}/osmocom_aligned"
+    put_aligned(generated(folder, "osmocom", [f"{HERE}/Areas.asn1"]), made)
+    compile_generated(folder, "osmocom", made, FLAGS, OTHER_LIBRARIES)
 
 
 def build_erlang(folder):
@@ -193,23 +214,26 @@ def check(folder):
             if (name, variant, kind) not in KNOWN_DIFFERENCES:
                 raise Failure(f"{name} {variant} {kind}: other octets")
             told.append(f"{name} writes {kind} otherwise in {variant}: it leaves out the length of zero behind whole fragments.")
+    told += [f"{name} doesn't read {kind}." for name, kind in sorted(NOT_READ)]
     folder.written("differences.txt", "".join(f"{it}\n" for it in told))
 
 
 def programs():
     """Returns each program with each variant that it knows."""
-    return [(name, it) for name in ("rasn", "table", "asn1c", "erlang", "c") for it in VARIANTS if (name, it) != ("asn1c", "aper")]
+    names = ("rasn", "table", *OF_ASN1C, "erlang", "c")
+    return [(name, it) for name in names for it in VARIANTS if OF_ASN1C.get(name, it) == it]
 
 
 def knows(name, kind):
     """Returns whether a program has a kind: the C by hand has no messages."""
-    return name != "c" or kind not in MESSAGES
+    return (name, kind) not in NOT_READ and (name != "c" or kind not in MESSAGES)
 
 
 def build(folder):
     write_inputs(folder)
     fetch_modules(folder)
     build_asn1c(folder)
+    build_osmocom(folder)
     build_erlang(folder)
     ran(["gcc", "-O2", "-Wall", "-o", f"{folder.path}/bin/c", f"{HERE}/c/by_hand.c"], folder.path)
     build_this_project(folder)

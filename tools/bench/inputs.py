@@ -1,5 +1,6 @@
 """The encodings that every program of the benchmark reads, made by the rules of X.691 here and by no program under test, and
 messages of protocols, as rows/protocols has them."""
+import collections
 import random
 
 from repository import TOP
@@ -173,6 +174,16 @@ MESSAGES = {
     "cam": ("CAM (ITS)", "uper", message("cam", "cam_high_frequency_all")),
     "areas": ("SupportedTAList (NGAP)", "aper", element(message("ngap", "ng_setup_request"), 102)),
 }
+
+# Whole messages, which threads read and write again at once, and the file of schemas/ that has the type of each.
+Message = collections.namedtuple("Message", "title variant octets type file")
+AT_ONCE = (
+    Message(*MESSAGES["cam"], "CAM-PDU-Descriptions.CAM", "its"),
+    Message(
+        "InitialContextSetupRequest (NGAP)", "aper", message("ngap", "initial_context_setup_request"),
+        "NGAP-PDU-Descriptions.NGAP-PDU", "ngap",
+    ),
+)
 
 # The types of the kinds, as schema files name them, and the file of schemas/ of one that isn't of Bench.asn1.
 TYPES = {

@@ -1,5 +1,6 @@
 """Times the programs, counts their instructions, and takes the memory of long values."""
 import concurrent.futures
+import itertools
 import json
 import os
 import re
@@ -8,7 +9,7 @@ import statistics
 import subprocess
 
 from build import SIZES, VARIANTS, knows, programs
-from inputs import lines
+from inputs import MESSAGES, lines
 from repository import TOP, Failure
 
 REPEATS = int(os.environ.get("REPEATS", "3"))
@@ -16,7 +17,7 @@ SECONDS = float(os.environ.get("SECONDS", "0.1"))
 WORKERS = int(os.environ.get("WORKERS", os.cpu_count()))
 # Into the same buffer, into a new one, back.
 OPERATIONS = ("enc", "new", "dec")
-# In APER only what Erlang has too.
+# In APER only what Erlang has too, save of messages.
 IN_APER = ("new", "dec")
 
 
@@ -67,10 +68,10 @@ class Cell:
 
 def rows():
     """Returns the rows: a variant, an operation and a kind, with the programs that have it."""
-    for variant in VARIANTS:
-        for operation in OPERATIONS if variant == "uper" else IN_APER:
-            names = [name for name, it in programs() if it == variant and (name != "erlang" or operation != "enc")]
-            for kind in lines(variant):
+    for variant, operation in itertools.product(VARIANTS, OPERATIONS):
+        names = [name for name, it in programs() if it == variant and (name != "erlang" or operation != "enc")]
+        for kind in lines(variant):
+            if variant == "uper" or operation in IN_APER or kind in MESSAGES:
                 yield variant, operation, kind, [it for it in names if knows(it, kind)]
 
 
@@ -97,11 +98,15 @@ def time_rows(folder):
 COUNTED = {"octets1m": 1, "behind1m": 1, "octets1k": 50, "behind1k": 50, "visible1k": 50, "list": 20}
 
 
-def functions(folder, name, operation, kind, count):
-    """Returns the instructions of each function of a run in UPER, its own alone."""
-    file = f"{folder.path}/profiles/{name}.{operation}.{kind}.{count}"
-    words = ["valgrind", "--tool=callgrind", f"--callgrind-out-file={file}", *folder.program(name, "uper", operation, kind, count)]
-    with open(folder.input("uper", kind), encoding="utf-8") as line:
+# The programs whose instructions are counted.
+COUNTED_PROGRAMS = {"uper": ("rasn", "table", "asn1c", "c"), "aper": ("rasn", "table", "osmocom", "c")}
+
+
+def functions(folder, name, variant, operation, kind, count):
+    """Returns the instructions of each function of a run, its own alone."""
+    file = f"{folder.path}/profiles/{name}.{variant}.{operation}.{kind}.{count}"
+    words = ["valgrind", "--tool=callgrind", f"--callgrind-out-file={file}", *folder.program(name, variant, operation, kind, count)]
+    with open(folder.input(variant, kind), encoding="utf-8") as line:
         done = subprocess.run(words, stdin=line, capture_output=True, text=True)
     if done.returncode:
         raise Failure(f"{' '.join(words)}: status {done.returncode}")
@@ -113,17 +118,17 @@ def functions(folder, name, operation, kind, count):
     return found
 
 
-def count_cell(folder, name, operation, kind):
+def count_cell(folder, name, variant, operation, kind):
     """Returns the instructions of an operation by function: the difference of runs of 2 N and of N."""
     count = COUNTED.get(kind, 500)
-    few, many = (functions(folder, name, operation, kind, it) for it in (count, 2 * count))
+    few, many = (functions(folder, name, variant, operation, kind, it) for it in (count, 2 * count))
     return {it: (many[it] - few.get(it, 0)) / count for it in many if many[it] != few.get(it, 0)}
 
 
 def count_instructions(folder):
-    """Counts the instructions of an operation in UPER. They don't depend on other work, so the runs go side by side."""
-    names = ("rasn", "table", "asn1c", "c")
-    cells = [(name, it, kind) for kind in lines("uper") for it in IN_APER for name in names if knows(name, kind)]
+    """Counts the instructions of an operation. They don't depend on other work, so the runs go side by side."""
+    every = [(name, variant) for variant in VARIANTS for name in COUNTED_PROGRAMS[variant]]
+    cells = [(*it, operation, kind) for it in every for kind in lines(it[1]) for operation in IN_APER if knows(it[0], kind)]
     with concurrent.futures.ThreadPoolExecutor(WORKERS) as pool:
         found = list(pool.map(lambda cell: count_cell(folder, *cell), cells))
     folder.written("instructions.json", json.dumps({" ".join(cell): it for cell, it in zip(cells, found)}, indent=1))

@@ -5,11 +5,12 @@ import platform
 import re
 import subprocess
 
-from inputs import titles
+from inputs import MESSAGES, titles
 from repository import TOP
+from threads import THREADS
 
 SIDES = {"enc": "encode_buf", "new": "encode", "dec": "decode"}
-OTHERS = {"table": "the table", "asn1c": "asn1c", "erlang": "Erlang", "c": "C"}
+OTHERS = {"table": "the table", "asn1c": "asn1c", "osmocom": "Osmocom", "erlang": "Erlang", "c": "C"}
 MOST = 3
 # The instructions that an encoding and a decoding of a kind are to take at most.
 GOALS = {
@@ -43,7 +44,8 @@ def machine():
 
 def versions():
     commit = first_line("git", "log", "-1", "--format=%h of %cs")
-    others = f"asn1c {package('asn1c')}, Erlang asn1 {package('erlang-asn1')}, {first_line('gcc', '--version')} at -O2"
+    others = ", ".join(f"{it} {package(it)}" for it in ("asn1c", "osmo-libasn1c-dev", "erlang-asn1"))
+    others += f", {first_line('gcc', '--version')} at -O2"
     return f"Commit {commit}; {first_line('rt', 'version')}; {others}. {machine()}; load at the end {os.getloadavg()[0]:.1f}."
 
 
@@ -56,7 +58,7 @@ def time_table(times, variant):
     """A line for each kind, a column for each operation and each other program: this project's time over the other's."""
     columns = []
     for operation in SIDES:
-        found = next((row for key, row in times.items() if key.startswith(f"{variant} {operation} ")), {})
+        found = times.get(f"{variant} {operation} four", {})
         columns += [(operation, name) for name in found]
     head = [variant.upper()] + [f"{SIDES[it]} ns" if name == "rasn" else f"/ {OTHERS[name]}" for it, name in columns]
     rows = []
@@ -91,11 +93,11 @@ def goals(times, grown):
 
 
 def behind(times):
-    """Returns the rows on which this project isn't ahead of asn1c or Erlang."""
+    """Returns the rows on which this project isn't ahead of asn1c, Osmocom or Erlang."""
     found = []
     for key, row in times.items():
         variant, operation, kind = key.split()
-        for name in ("asn1c", "erlang"):
+        for name in ("asn1c", "osmocom", "erlang"):
             if name in row and row[name][1] >= 1:
                 found.append(f"{variant.upper()} {SIDES[operation]} of {titles()[kind]}: {row[name][1]:.2f} of {OTHERS[name]}'s time")
     return found
@@ -109,13 +111,13 @@ def plain(function):
 def instruction_rows(counted):
     rows, most = [], []
     for kind, title in titles().items():
-        if f"rasn new {kind}" not in counted:
+        if f"rasn uper new {kind}" not in counted:
             continue
         row = [title]
         for operation, goal in zip(("new", "dec"), GOALS.get(kind, ("", ""))):
-            found = [counted.get(f"{name} {operation} {kind}") for name in ("rasn", "asn1c", "c")]
+            found = [counted.get(f"{name} uper {operation} {kind}") for name in ("rasn", "asn1c", "c")]
             sums = [f"{sum(it.values()):,.0f}" if it else "" for it in found]
-            own = counted[f"rasn {operation} {kind}"]
+            own = counted[f"rasn uper {operation} {kind}"]
             total = sum(own.values()) or 1
             verdict = "" if goal == "" else "reached" if total <= goal else f"{total / goal:.1f}"
             row += [sums[0], f"{goal:,}" if goal else "", verdict, *sums[1:]]
@@ -131,7 +133,7 @@ def rows_by_table(counted):
     for kind, title in titles().items():
         row = [title]
         for operation, goal in zip(("new", "dec"), TIMES_BY_TABLE):
-            found = [counted.get(f"{it} {operation} {kind}", {}) for it in ("rasn", "table", "asn1c")]
+            found = [counted.get(f"{it} uper {operation} {kind}", {}) for it in ("rasn", "table", "asn1c")]
             page, by_table, other = (sum(it.values()) for it in found)
             if page and by_table:
                 reached = by_table <= goal * page
@@ -139,6 +141,39 @@ def rows_by_table(counted):
                 row += [f"{by_table / other:.2f}" if other else ""]
         rows += [row] if row[1:] else []
     return rows
+
+
+def rows_in_aper(counted):
+    """A line for each kind: what a page and a table take in APER, and the page's over Osmocom's and C's."""
+    rows = []
+    for kind, title in titles().items():
+        row = [title]
+        for operation in ("new", "dec"):
+            found = [counted.get(f"{it} aper {operation} {kind}", {}) for it in ("rasn", "table", "osmocom", "c")]
+            page, by_table, *others = (sum(it.values()) for it in found)
+            row += [f"{page:,.0f}", f"{by_table:,.0f}", *(f"{page / it:.2f}" if it else "" for it in others)] if page else []
+        rows += [row] if row[1:] else []
+    return rows
+
+
+def messages_a_second(times):
+    """A line for each message: how many a second each program encodes into the same buffer, and decodes. Erlang's is new."""
+    rows = []
+    for kind, (title, variant, _) in MESSAGES.items():
+        row = [f"{title}, {variant.upper()}"]
+        for operation in ("enc", "dec"):
+            found = times.get(f"{variant} {operation} {kind}", {})
+            found = {"erlang": times.get(f"{variant} new {kind}", {}).get("erlang"), **found}
+            for names in (("rasn",), ("table",), ("asn1c", "osmocom"), ("erlang",)):
+                cell = next((found[it] for it in names if found.get(it)), None)
+                row.append(f"{1e9 / cell[0]:,.0f}" if cell else "")
+        rows.append(row)
+    return rows
+
+
+def rows_of_threads(threads):
+    """A line for each message: how many a second, and how many times those of one thread."""
+    return [[title, *(f"{it:,.0f} ({it / found[0]:.2f})" for it in found)] for title, found in threads.items()]
 
 
 def growth_rows(grown):
@@ -151,6 +186,27 @@ def growth_rows(grown):
     return rows
 
 
+def text_of_times(times, grown):
+    text = "".join(f"\n{time_table(times, variant)}" for variant in ("uper", "aper"))
+    head = ["Messages a second"]
+    for side in ("encode_buf", "decode"):
+        head += [side, "by table", "asn1c or Osmocom", "Erlang"]
+    text += f"\n{table(head, messages_a_second(times))}\n{table(['Goal', 'Measured', ''], goals(times, grown))}"
+    late = behind(times)
+    return text + "\nNot ahead of asn1c, Osmocom or Erlang:" + ("\n\n" + "".join(f"- {it}\n" for it in late) if late else " nowhere.\n")
+
+
+def text_of_instructions(counted):
+    rows, most = instruction_rows(counted)
+    head, by_table, aper = ["Instructions, UPER"], ["Instructions by table, UPER"], ["Instructions, APER"]
+    for side in ("encode", "decode"):
+        head += [side, "goal", "times the goal", "asn1c", "C"]
+        by_table += [f"{side} by page", "by table", "times the page's", "goal", "/ asn1c"]
+        aper += [f"{side} by page", "by table", "page / Osmocom", "page / C"]
+    text = f"\n{table(head, rows)}\n{table(['Most instructions', 'of this project, by function'], most)}"
+    return f"{text}\n{table(by_table, rows_by_table(counted))}\n{table(aper, rows_in_aper(counted))}"
+
+
 def report(folder):
     """Returns the text of the stages that have run."""
     def kept(name):
@@ -160,24 +216,15 @@ def report(folder):
         with open(path, encoding="utf-8") as it:
             return json.load(it)
 
-    times, counted, grown, sizes = kept("times"), kept("instructions"), kept("growth"), kept("sizes")
+    times, threads, counted, grown, sizes = map(kept, ("times", "threads", "instructions", "growth", "sizes"))
     text = versions() + "\n"
     if times:
-        for variant in ("uper", "aper"):
-            text += f"\n{time_table(times, variant)}"
-        text += "\n" + table(["Goal", "Measured", ""], goals(times, grown))
-        late = behind(times)
-        text += "\nNot ahead of asn1c or Erlang:" + ("\n\n" + "".join(f"- {it}\n" for it in late) if late else " nowhere.\n")
+        text += text_of_times(times, grown)
+    if threads:
+        head = ["Messages a second, read and written by table, by the clock", *(f"{it} at once" for it in THREADS)]
+        text += "\n" + table(head, rows_of_threads(threads))
     if counted:
-        rows, most = instruction_rows(counted)
-        head = ["Instructions, UPER"]
-        for side in ("encode", "decode"):
-            head += [side, "goal", "times the goal", "asn1c", "C"]
-        text += f"\n{table(head, rows)}\n{table(['Most instructions', 'of this project, by function'], most)}"
-        head = ["Instructions by table, UPER"]
-        for side in ("encode", "decode"):
-            head += [f"{side} by page", "by table", "times the page's", "goal", "/ asn1c"]
-        text += f"\n{table(head, rows_by_table(counted))}"
+        text += text_of_instructions(counted)
     if grown:
         text += "\n" + table(["Octets of value", "seconds", "KiB resident", "more octets for each octet more"], growth_rows(grown))
     if sizes:

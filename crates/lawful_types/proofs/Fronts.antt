@@ -21,11 +21,11 @@ front_then ps qs rs (a, e) (b, f) = (a ++ b, f ∙ ap (λ l. l ++ b) e ∙ appen
 pub listed_more : (ps qs : List Pair) (i j : ℕ) → IsFront ps qs → IsListed ps i j → IsListed qs i j
 listed_more ps qs i j (a, e) l = subst (λ x. IsListed x i j) (sym e) (Contains-append_left ps a (record { newer = i; older = j }) l)
 
-pub versions_front : (ts : List Kind) (ps qs : List Pair) (s' s : ℕ → Schema) → IsFront ps qs → AreVersions ts qs s' s → AreVersions ts ps s' s
-versions_front ts ps qs s' s f v = record { newer = λ i j l. v.newer i j (listed_more ps qs i j f l); defaults = v.defaults }
+pub versions_front : (ts' ts : List Kind) (ps qs : List Pair) (s' s : ℕ → Schema) → IsFront ps qs → AreVersions ts' ts qs s' s → AreVersions ts' ts ps s' s
+versions_front ts' ts ps qs s' s f v = record { newer = λ i j l. v.newer i j (listed_more ps qs i j f l); newer_defaults = v.newer_defaults; defaults = v.defaults }
 
 pub pair_more : (ts' ts : List Kind) (ps qs : List Pair) → IsFront ps qs → (p : Pair) → IsNewerPair ts' ts ps p → IsNewerPair ts' ts qs p
-pair_more ts' ts ps qs f p h = λ s' s n v. h s' s n (versions_front ts ps qs s' s f v)
+pair_more ts' ts ps qs f p h = λ s' s n v. h s' s n (versions_front ts' ts ps qs s' s f v)
 
 pub component_more : (b : Bool) (ts' ts : List Kind) (ps qs : List Pair) (c' c : Component) → IsFront ps qs → IsNewerComponent b ts' ts ps c' c → IsNewerComponent b ts' ts qs c' c
 component_more b ts' ts ps qs c' c f h = record { tag = h.tag; listed = listed_more ps qs c'.of c.of f h.listed; presence = h.presence }
@@ -34,7 +34,7 @@ pub alternative_more : (ps qs : List Pair) (c' c : Alternative) → IsFront ps q
 alternative_more ps qs c' c f h = record { tag = h.tag; listed = listed_more ps qs c'.of c.of f h.listed }
 
 pub components_more : (b : Bool) (ts' ts : List Kind) (ps qs : List Pair) (cs' cs : List Component) → IsFront ps qs → AreNewerComponents b ts' ts ps cs' cs → AreNewerComponents b ts' ts qs cs' cs
-components_more b ts' ts ps qs cs' cs f h = λ s' s v. h s' s (versions_front ts ps qs s' s f v)
+components_more b ts' ts ps qs cs' cs f h = λ s' s v. h s' s (versions_front ts' ts ps qs s' s f v)
 
 pub alternatives_more : (b : Bool) (ps qs : List Pair) (cs' cs : List Alternative) → IsFront ps qs → AreNewerAlternatives b ps cs' cs → AreNewerAlternatives b qs cs' cs
 alternatives_more b ps qs cs' cs f h = λ s' s v. h s' s (λ i j l. v i j (listed_more ps qs i j f l))

@@ -1,18 +1,20 @@
 -- A table whose types keep the rules is lawful to any number of levels, and a type that is lawful to two keeps them.
-use Rattle.std.proofs.Common.{◌≡◌, refl, sym, ap, ap₂, ◌∙◌, ℕ, zero, suc, ◌+◌, Bool, true, false, cond, ◌&&◌, List, [], ◌∷◌, ◌++◌, Option, Some, None, Result, Ok, Err, true≢false}
+use Rattle.std.proofs.Common.{◌≡◌, refl, sym, ap, ap₂, ◌∙◌, ℕ, zero, suc, ◌+◌, Bool, true, false, cond, ◌&&◌, List, [], ◌∷◌, ◌++◌, ◌≤◌, Option, Some, None, Result, Ok, Err, true≢false, arith}
 use Rattle.std.specs.Prelude.{MatchResult, count_by, is_some, nat_lt, slice_get}
 use Rattle.std.proofs.lemmas.List.Sums.{sum_by-cons}
-use Rattle.rasn_types.specs.Values.{Value, same}
+use Rattle.rasn_types.specs.Values.{elements, no_values, same, Value}
 use Rattle.rasn_types.proofs.Codes.{same_true}
-use Rattle.rasn_schema.specs.Depth.{meets_cut}
+use Rattle.rasn_schema.specs.Depth.{meets_cut, Unfolds}
 use Rattle.rasn_schema.specs.Fields.{tag_of}
 use Rattle.rasn_schema.specs.Lawful.{all_pass, are_distinct, are_required, AreLawful, has_bit, if_bag, is_group_schema, is_value, IsLawful, IsLawfulDefault, IsLawfulPresence, IsLawfulType, leaves, no_groups, presence_bits, tags_below}
+use Rattle.rasn_schema.specs.Lists.{deepest}
 use Rattle.rasn_schema.specs.Normal.{normal, over_bag}
 use Rattle.rasn_schema.specs.Schemas
 use Rattle.rasn_schema.specs.Schemas.{leaf, part, Schema}
 use Rattle.rasn_schema.proofs.Places.{and_first, and_second}
 use Rattle.rasn_dynamic.specs.declared.types.Alternative.{Alternative}
 use Rattle.rasn_dynamic.specs.declared.types.Component.{Component}
+use Rattle.rasn_dynamic.specs.declared.types.DefaultTree.{DefaultTree}
 use Rattle.rasn_dynamic.specs.declared.types.DefaultValue.{DefaultValue}
 use Rattle.rasn_dynamic.specs.declared.types.DefaultValue.TheVariants
 use Rattle.rasn_dynamic.specs.declared.types.Kind.{Kind}
@@ -22,14 +24,17 @@ use Rattle.rasn_dynamic.specs.declared.types.Presence.TheVariants.{Default, Grou
 use Rattle.rasn_dynamic.specs.declared.types.Simple.{Simple}
 use Rattle.rasn_dynamic.specs.declared.types.Simple.TheVariants.{BitString, Boolean, Characters, Integer, NamedBits, OctetString}
 use Rattle.rasn_dynamic.specs.declared.types.Simple.TheVariants as Simples
-use Rattle.rasn_dynamic.specs.Types.{alternatives_in, at_place, behind, default_value, grouped, in_root, is_not_required, kind_in, parts_in, plain_in, presence_of, required_in, schema_at, simple_schema}
+use Rattle.rasn_dynamic.specs.Types.{alternatives_in, at_place, behind, default_value, grouped, in_root, is_not_required, kind_in, parts_in, plain_in, presence_of, required_in, schema_at, simple_schema, tree_value}
 use Rattle.rasn_dynamic.proofs.Levelled.{schema_levels}
 use Rattle.rasn_dynamic.proofs.SameDefaults.{same_self}
+use Rattle.per_laws.specs.Levels.{levels_of}
+use Rattle.per_laws.proofs.FewVersions.{levelled_holds}
 use Rattle.per_laws.proofs.Levelled.{levelled_type_unfolds}
 use Rattle.lawful_types.specs.declared.fault.Reason.{Reason}
 use Rattle.lawful_types.specs.declared.fault.Reason.TheVariants as Reasons
 use Rattle.lawful_types.specs.declared.fault.Fault.{Fault}
-use Rattle.lawful_types.specs.Keeps.{IsFaultOf, has_lawful_default, is_default_of, is_default_of_plain, is_default_of_simple, is_default_within, is_lawful_kind, keeps, keeps_bounds, keeps_defaults, keeps_presence_bits, keeps_size, keeps_tags, tags_of}
+use Rattle.lawful_types.specs.Keeps.{deepest_default, default_levels, held_levels, IsFaultOf, has_lawful_default, is_default_of, is_default_of_plain, is_default_of_simple, is_default_tree_of, is_default_within, is_lawful_kind, is_right, keeps, keeps_bounds, keeps_defaults, keeps_presence_bits, keeps_size, keeps_tags, tags_of, tree_levels}
+use Rattle.lawful_types.proofs.OneKind.{one_right}
 use Rattle.lawful_types.proofs.Passing.{and_true, passes_at}
 
 -- ---- defaults: they are in normal form, and values of what the kinds say, unless cut off
@@ -43,12 +48,8 @@ unfolding is_value normal
 simple_value d (NamedBits c) = refl
 simple_value d k = and_self (is_value (simple_schema k) (default_value d)) (default_value d)
 
--- whether a default is a value of a schema, and in normal form
-abbrev is_right : Schema → DefaultValue → Bool
-is_right s d = is_value s (default_value d) && same (normal s (default_value d)) (default_value d)
-
 module _ (ts : List Kind) (s : ℕ → Schema) where
-  plain_value : (n : ℕ) (d : DefaultValue) (k : Kind) → meets_cut (plain_in ts s n k) (default_value d) ≡ false → is_right (plain_in ts s n k) d ≡ is_default_of_plain d k
+  plain_value : (n : ℕ) (d : DefaultValue) (k : Kind) → meets_cut (plain_in ts s n k) (default_value d) ≡ false → is_right (plain_in ts s n k) (default_value d) ≡ is_default_of_plain d k
   unfolding meets_cut is_value if_bag normal over_bag
   plain_value n d (SimpleKind k) e = simple_value d k
   plain_value zero d Date e = absurd cc
@@ -87,7 +88,7 @@ module _ (ts : List Kind) (s : ℕ → Schema) where
   plain_uncut n d (Containing i) = refl
   plain_uncut n d (OpenKind o) = refl
 
-  within_value : (n : ℕ) (d : DefaultValue) (o : Option Kind) → meets_cut (at_place (plain_in ts s n) o) (default_value d) ≡ false → is_right (at_place (plain_in ts s n) o) d ≡ is_default_within d o
+  within_value : (n : ℕ) (d : DefaultValue) (o : Option Kind) → meets_cut (at_place (plain_in ts s n) o) (default_value d) ≡ false → is_right (at_place (plain_in ts s n) o) (default_value d) ≡ is_default_within d o
   unfolding is_value
   within_value n d None e = refl
   within_value n d (Some k) e = plain_value n d k e
@@ -97,7 +98,7 @@ module _ (ts : List Kind) (s : ℕ → Schema) where
   within_uncut n d None = refl
   within_uncut n d (Some k) = plain_uncut n d k
 
-  place_value : (n : ℕ) (d : DefaultValue) (o : Option Kind) → meets_cut (at_place (kind_in ts s n) o) (default_value d) ≡ false → is_right (at_place (kind_in ts s n) o) d ≡ is_default_of ts d o
+  place_value : (n : ℕ) (d : DefaultValue) (o : Option Kind) → meets_cut (at_place (kind_in ts s n) o) (default_value d) ≡ false → is_right (at_place (kind_in ts s n) o) (default_value d) ≡ is_default_of ts d o
   unfolding meets_cut is_value normal
   place_value n d None e = refl
   place_value n d (Some (Containing i)) e = within_value n d (slice_get ts i) e
@@ -121,33 +122,46 @@ module _ (ts : List Kind) (s : ℕ → Schema) where
   place_uncut n d (Some (ChoiceKind c)) = plain_uncut n d (ChoiceKind c)
   place_uncut n d (Some (OpenKind o)) = plain_uncut n d (OpenKind o)
 
-  module _ (n : ℕ) (d : DefaultValue) (o : Option Kind) where
-    abbrev of_kind : Bool
-    of_kind = is_value (at_place (kind_in ts s n) o) (default_value d)
+-- one that holds no values
+pub plain_right : (ts : List Kind) (i n : ℕ) (d : DefaultValue) → is_default_of ts d (slice_get ts i) ≡ is_right (schema_at ts i (suc (suc n))) (default_value d)
+unfolding schema_at
+plain_right ts i n d = sym (place_value ts (λ j. schema_at ts j (suc n)) (suc (suc n)) d (slice_get ts i) (place_uncut ts (λ j. schema_at ts j (suc n)) n d (slice_get ts i)))
 
-    abbrev in_form : Bool
-    in_form = same (normal (at_place (kind_in ts s n) o) (default_value d)) (default_value d)
+empty_uncut : (ts : List Kind) (i n : ℕ) → meets_cut (schema_at ts i (suc (suc n))) (elements no_values) ≡ false
+unfolding schema_at
+empty_uncut ts i n = place_uncut ts (λ j. schema_at ts j (suc n)) n TheVariants.NoElements (slice_get ts i)
 
-    place_lawful : is_default_of ts d o ≡ true → IsLawfulDefault (at_place (kind_in ts s n) o) (default_value d)
-    place_lawful h = record {
-      is_of_kind = λ e. and_first of_kind in_form (place_value n d o e ∙ h);
-      is_normal = λ e. same_true (normal (at_place (kind_in ts s n) o) (default_value d)) (default_value d) (and_second of_kind in_form (place_value n d o e ∙ h));
+module _ (ts : List Kind) (i : ℕ) where
+  unfolds : Unfolds (schema_at ts i)
+  unfolds = levelled_type_unfolds (schema_at ts i) (λ n. schema_levels ts n i)
+
+  holds : (v : Value) (n : ℕ) → levels_of v + 2 ≤ n → meets_cut (schema_at ts i n) v ≡ false
+  holds = levelled_holds (schema_at ts i) (λ n. schema_levels ts n i)
+
+  empty_holds : (n : ℕ) → 2 ≤ n → meets_cut (schema_at ts i n) (elements no_values) ≡ false
+  empty_holds zero le = absurd (omega (arith, le))
+  empty_holds (suc zero) le = absurd (omega (arith, le))
+  empty_holds (suc (suc n)) le = empty_uncut ts i n
+
+  uncut : (v : Value) (n : ℕ) → held_levels v + 2 ≤ n → meets_cut (schema_at ts i n) v ≡ false
+  uncut (elements no_values) n le = empty_holds n le
+  uncut v n le = holds v n le
+
+  module _ (d : DefaultTree) where
+    -- the same to each number of levels that holds it
+    alike : (n : ℕ) → meets_cut (schema_at ts i n) (tree_value d) ≡ false → is_right (schema_at ts i n) (tree_value d) ≡ is_default_tree_of ts i d
+    alike n u = one_right (schema_at ts i) unfolds (tree_value d) n (tree_levels d + 2) u (holds (tree_value d) (tree_levels d + 2) (omega arith))
+
+    default_lawful : (n : ℕ) → is_default_tree_of ts i d ≡ true → IsLawfulDefault (schema_at ts i n) (tree_value d)
+    default_lawful n h = record {
+      is_of_kind = λ e. and_first (is_value (schema_at ts i n) (tree_value d)) (same (normal (schema_at ts i n) (tree_value d)) (tree_value d)) (alike n e ∙ h);
+      is_normal = λ e. same_true (normal (schema_at ts i n) (tree_value d)) (tree_value d) (and_second (is_value (schema_at ts i n) (tree_value d)) (same (normal (schema_at ts i n) (tree_value d)) (tree_value d)) (alike n e ∙ h));
     }
 
-    lawful_form : meets_cut (at_place (kind_in ts s n) o) (default_value d) ≡ false → IsLawfulDefault (at_place (kind_in ts s n) o) (default_value d) → is_default_of ts d o ≡ true
-    lawful_form u x = sym (place_value n d o u) ∙ and_true of_kind in_form (x.is_of_kind u) (ap (λ v. same v (default_value d)) (x.is_normal u) ∙ same_self (default_value d))
-
-  lawful_place : (n : ℕ) (d : DefaultValue) (o : Option Kind) → IsLawfulDefault (at_place (kind_in ts s (suc (suc n))) o) (default_value d) → is_default_of ts d o ≡ true
-  lawful_place n d o x = lawful_form (suc (suc n)) d o (place_uncut n d o) x
-
-default_lawful : (ts : List Kind) (n i : ℕ) (d : DefaultValue) → is_default_of ts d (slice_get ts i) ≡ true → IsLawfulDefault (schema_at ts i n) (default_value d)
-unfolding schema_at
-default_lawful ts zero i d h = place_lawful ts (λ j. Schemas.cut) zero d (slice_get ts i) h
-default_lawful ts (suc n) i d h = place_lawful ts (λ j. schema_at ts j n) (suc n) d (slice_get ts i) h
-
-lawful_default : (ts : List Kind) (n i : ℕ) (d : DefaultValue) → IsLawfulDefault (schema_at ts i (suc (suc n))) (default_value d) → is_default_of ts d (slice_get ts i) ≡ true
-unfolding schema_at
-lawful_default ts n i d x = lawful_place ts (λ j. schema_at ts j (suc n)) n d (slice_get ts i) x
+    lawful_default : (n : ℕ) → held_levels (tree_value d) + 2 ≤ n → IsLawfulDefault (schema_at ts i n) (tree_value d) → is_default_tree_of ts i d ≡ true
+    lawful_default n le x =
+        let u = uncut (tree_value d) n le in
+        sym (alike n u) ∙ and_true (is_value (schema_at ts i n) (tree_value d)) (same (normal (schema_at ts i n) (tree_value d)) (tree_value d)) (x.is_of_kind u) (ap (λ v. same v (tree_value d)) (x.is_normal u) ∙ same_self (tree_value d))
 
 -- ---- groups: their types are SEQUENCEs
 
@@ -241,7 +255,7 @@ module _ (ts : List Kind) (s : ℕ → Schema) (lawful : (j : ℕ) → IsLawful 
   alternatives_lawful (c ∷ cs) = (tt, lawful c.of, alternatives_lawful cs)
 
   module _ (of_group : (j : ℕ) → is_some (required_in (slice_get ts j)) ≡ true → is_group_schema (s j) ≡ true)
-      (of_default : (j : ℕ) (d : DefaultValue) → is_default_of ts d (slice_get ts j) ≡ true → IsLawfulDefault (s j) (default_value d)) where
+      (of_default : (j : ℕ) (d : DefaultTree) → is_default_tree_of ts j d ≡ true → IsLawfulDefault (s j) (tree_value d)) where
     presence_lawful : (g : Bool) (c : Component) → (g ≡ true → is_group_schema (s c.of) ≡ true) → has_lawful_default ts c ≡ true → IsLawfulPresence (s c.of) (presence_of g c.presence)
     presence_lawful g c h e = go g c.presence h e
       where
@@ -307,7 +321,7 @@ module _ (ts : List Kind) (s : ℕ → Schema) (lawful : (j : ℕ) → IsLawful 
       place_is_lawful n i (Some k) e = kind_lawful n k (all i k e)
 
 -- where all is cut off
-cut_default : (ts : List Kind) (j : ℕ) (d : DefaultValue) → is_default_of ts d (slice_get ts j) ≡ true → IsLawfulDefault Schemas.cut (default_value d)
+cut_default : (ts : List Kind) (j : ℕ) (d : DefaultTree) → is_default_tree_of ts j d ≡ true → IsLawfulDefault Schemas.cut (tree_value d)
 unfolding meets_cut
 cut_default ts j d h = record { is_of_kind = λ e. absurd cc; is_normal = λ e. absurd cc }
 
@@ -318,7 +332,7 @@ cut_lawful j = tt
 schema_lawful : (ts : List Kind) → ((i : ℕ) (k : Kind) → slice_get ts i ≡ Some k → is_lawful_kind ts k ≡ true) → (n i : ℕ) → IsLawful (schema_at ts i n)
 unfolding schema_at
 schema_lawful ts all zero i = place_is_lawful ts (λ j. Schemas.cut) cut_lawful (λ j e. refl) (cut_default ts) all zero i (slice_get ts i) refl
-schema_lawful ts all (suc n) i = place_is_lawful ts (λ j. schema_at ts j n) (λ j. schema_lawful ts all n j) (λ j e. group_at ts n j e) (λ j d e. default_lawful ts n j d e) all (suc n) i (slice_get ts i) refl
+schema_lawful ts all (suc n) i = place_is_lawful ts (λ j. schema_at ts j n) (λ j. schema_lawful ts all n j) (λ j e. group_at ts n j e) (λ j d e. default_lawful ts j d n e) all (suc n) i (slice_get ts i) refl
 
 pub types_lawful : (ts : List Kind) → all_pass (is_lawful_kind ts) ts ≡ true → (i : ℕ) → IsLawfulType (schema_at ts i)
 types_lawful ts h i = record {
@@ -326,16 +340,16 @@ types_lawful ts h i = record {
   lawful = λ n. schema_lawful ts (passes_at (is_lawful_kind ts) ts h) n i;
 }
 
--- ---- a kind that is lawful to three levels keeps each rule
+-- ---- a kind that is lawful to three levels more than its defaults take keeps each rule
 
-module _ (ts : List Kind) where
-  kept_bounds : (k : Kind) → IsLawful (kind_in ts (λ j. schema_at ts j 2) 3 k) → keeps_bounds k ≡ true
+module _ (ts : List Kind) (n : ℕ) where
+  kept_bounds : (k : Kind) → IsLawful (kind_in ts (λ j. schema_at ts j n) (suc n) k) → keeps_bounds k ≡ true
   unfolding IsLawful
   kept_bounds (SimpleKind (Integer c)) x = x
   kept_bounds (SimpleKind _) x = refl
   kept_bounds _ x = refl
 
-  kept_size : (k : Kind) → IsLawful (kind_in ts (λ j. schema_at ts j 2) 3 k) → keeps_size k ≡ true
+  kept_size : (k : Kind) → IsLawful (kind_in ts (λ j. schema_at ts j n) (suc n) k) → keeps_size k ≡ true
   unfolding IsLawful
   kept_size (SimpleKind (OctetString c)) x = x
   kept_size (SimpleKind (BitString c)) x = x
@@ -346,52 +360,53 @@ module _ (ts : List Kind) where
   kept_size (SetOf i c) x = x.0
   kept_size _ x = refl
 
-  kept_bits : (k : Kind) → IsLawful (kind_in ts (λ j. schema_at ts j 2) 3 k) → keeps_presence_bits k ≡ true
+  kept_bits : (k : Kind) → IsLawful (kind_in ts (λ j. schema_at ts j n) (suc n) k) → keeps_presence_bits k ≡ true
   unfolding IsLawful
-  kept_bits (RecordKind r) x = sym (ap (λ b. nat_lt b 65536) (bits_in in_root (λ j. schema_at ts j 2) r.root.items)) ∙ x.0.few_bits
+  kept_bits (RecordKind r) x = sym (ap (λ b. nat_lt b 65536) (bits_in in_root (λ j. schema_at ts j n) r.root.items)) ∙ x.0.few_bits
   kept_bits _ x = refl
 
-  kept_tags : (k : Kind) → IsLawful (kind_in ts (λ j. schema_at ts j 2) 3 k) → keeps_tags k ≡ true
+  kept_tags : (k : Kind) → IsLawful (kind_in ts (λ j. schema_at ts j n) (suc n) k) → keeps_tags k ≡ true
   unfolding IsLawful
-  kept_tags (ChoiceKind c) x = sym (distinct_in (λ j. schema_at ts j 2) c.roots.items (behind c.addeds)) ∙ x.0.distinct_tags
+  kept_tags (ChoiceKind c) x = sym (distinct_in (λ j. schema_at ts j n) c.roots.items (behind c.addeds)) ∙ x.0.distinct_tags
   kept_tags _ x = refl
 
-  kept_default : (g : Bool) (c : Component) → IsLawfulPresence (schema_at ts c.of 2) (presence_of g c.presence) → has_lawful_default ts c ≡ true
-  kept_default g c x = go g c.presence x
+  kept_default : (g : Bool) (c : Component) → default_levels c.presence + 2 ≤ n → IsLawfulPresence (schema_at ts c.of n) (presence_of g c.presence) → has_lawful_default ts c ≡ true
+  kept_default g c le x = go g c.presence le x
     where
-      go : (g : Bool) (p : Presence) → IsLawfulPresence (schema_at ts c.of 2) (presence_of g p) → has_lawful_default ts (record { name = c.name; tag = c.tag; presence = p; of = c.of }) ≡ true
-      go g Required x = refl
-      go g Optional x = refl
-      go g Group x = refl
-      go g (Default d) x = lawful_default ts 0 c.of d x
+      go : (g : Bool) (p : Presence) → default_levels p + 2 ≤ n → IsLawfulPresence (schema_at ts c.of n) (presence_of g p) → has_lawful_default ts (record { name = c.name; tag = c.tag; presence = p; of = c.of }) ≡ true
+      go g Required le x = refl
+      go g Optional le x = refl
+      go g Group le x = refl
+      go g (Default d) le x = lawful_default ts c.of d n le x
 
-  kept_parts : (g : Component → Bool) (cs : List Component) → AreLawful (parts_in g (λ j. schema_at ts j 2) cs) → all_pass (has_lawful_default ts) cs ≡ true
+  kept_parts : (g : Component → Bool) (cs : List Component) → deepest (λ c. default_levels c.presence) cs + 2 ≤ n → AreLawful (parts_in g (λ j. schema_at ts j n) cs) → all_pass (has_lawful_default ts) cs ≡ true
   unfolding IsLawful
-  kept_parts g [] x = refl
-  kept_parts g (c ∷ cs) x = ap₂ (λ a b. a && b) (kept_default (g c) c x.0) (kept_parts g cs x.2)
+  kept_parts g [] le x = refl
+  kept_parts g (c ∷ cs) le x = ap₂ (λ a b. a && b) (kept_default (g c) c (omega (arith, le)) x.0) (kept_parts g cs (omega (arith, le)) x.2)
 
-  kept_defaults : (k : Kind) → IsLawful (kind_in ts (λ j. schema_at ts j 2) 3 k) → keeps_defaults ts k ≡ true
+  kept_defaults : (k : Kind) → deepest_default k + 2 ≤ n → IsLawful (kind_in ts (λ j. schema_at ts j n) (suc n) k) → keeps_defaults ts k ≡ true
   unfolding IsLawful
-  kept_defaults (RecordKind r) x = ap₂ (λ a b. a && b) (kept_parts in_root r.root.items x.1) (kept_parts (grouped ts) (behind r.additions) x.2)
-  kept_defaults _ x = refl
+  kept_defaults (RecordKind r) le x = ap₂ (λ a b. a && b) (kept_parts in_root r.root.items (omega (arith, le)) x.1) (kept_parts (grouped ts) (behind r.additions) (omega (arith, le)) x.2)
+  kept_defaults _ le x = refl
 
-  each_kept : (r : Reason) (k : Kind) → IsLawful (kind_in ts (λ j. schema_at ts j 2) 3 k) → keeps r ts k ≡ true
-  each_kept Reasons.Bounds k x = kept_bounds k x
-  each_kept Reasons.Size k x = kept_size k x
-  each_kept Reasons.PresenceBits k x = kept_bits k x
-  each_kept Reasons.Tags k x = kept_tags k x
-  each_kept Reasons.Default k x = kept_defaults k x
+  each_kept : (r : Reason) (k : Kind) → deepest_default k + 2 ≤ n → IsLawful (kind_in ts (λ j. schema_at ts j n) (suc n) k) → keeps r ts k ≡ true
+  each_kept Reasons.Bounds k le x = kept_bounds k x
+  each_kept Reasons.Size k le x = kept_size k x
+  each_kept Reasons.PresenceBits k le x = kept_bits k x
+  each_kept Reasons.Tags k le x = kept_tags k x
+  each_kept Reasons.Default k le x = kept_defaults k le x
 
-  lawful_keeps : (i : ℕ) (r : Reason) (k : Kind) → slice_get ts i ≡ Some k → IsLawful (schema_at ts i 3) → keeps r ts k ≡ true
+  lawful_keeps : (i : ℕ) (r : Reason) (k : Kind) → slice_get ts i ≡ Some k → deepest_default k + 2 ≤ n → IsLawful (schema_at ts i (suc n)) → keeps r ts k ≡ true
   unfolding schema_at
-  lawful_keeps i r k e x = each_kept r k (go (slice_get ts i) e x)
+  lawful_keeps i r k e le x = each_kept r k le (go (slice_get ts i) e x)
     where
-      go : (o : Option Kind) → o ≡ Some k → IsLawful (at_place (kind_in ts (λ j. schema_at ts j 2) 3) o) → IsLawful (kind_in ts (λ j. schema_at ts j 2) 3 k)
+      go : (o : Option Kind) → o ≡ Some k → IsLawful (at_place (kind_in ts (λ j. schema_at ts j n) (suc n)) o) → IsLawful (kind_in ts (λ j. schema_at ts j n) (suc n) k)
       go o f y = rw f at y
 
 -- a type that breaks a rule isn't
-pub unlawful : (ts : List Kind) (i : ℕ) (r : Reason) (k : Kind) → slice_get ts i ≡ Some k → keeps r ts k ≡ false → IsLawful (schema_at ts i 3) → ⊥
-unlawful ts i r k e f x = true≢false (sym (lawful_keeps ts i r k e x) ∙ f)
+pub unlawful : (ts : List Kind) (i : ℕ) (r : Reason) (k : Kind) → slice_get ts i ≡ Some k → keeps r ts k ≡ false → (n : ℕ) → deepest_default k + 3 ≤ n → IsLawful (schema_at ts i n) → ⊥
+unlawful ts i r k e f zero le x = absurd (omega (arith, le))
+unlawful ts i r k e f (suc n) le x = true≢false (sym (lawful_keeps ts n i r k e (omega (arith, le)) x) ∙ f)
 
 -- what is told of a table's types
 pub judged : (ts : List Kind) (r : Result (Unit {0}) Fault) → MatchResult r (λ done. all_pass (is_lawful_kind ts) ts ≡ true) (λ fault. IsFaultOf ts fault) →

@@ -10,3 +10,7 @@ pub mod Parts
 pub mod Presences
 pub mod SameValues
 pub mod Within
+pub mod OneKind
+pub mod RightTrees
+pub mod Pairwise
+pub mod SameTrees

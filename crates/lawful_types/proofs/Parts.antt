@@ -16,9 +16,10 @@ use Rattle.rasn_dynamic.specs.declared.types.Component.{Component}
 use Rattle.rasn_dynamic.specs.declared.types.Kind.{Kind}
 use Rattle.rasn_dynamic.specs.declared.types.Kind.TheVariants.{List as ListKind, SetOf, Record as RecordKind, Choice as ChoiceKind}
 use Rattle.rasn_dynamic.specs.declared.types.Record.{Record}
+use Rattle.rasn_dynamic.specs.Defaults.{groups}
 use Rattle.rasn_dynamic.specs.Types.{alternatives_in, behind, choice_in, grouped, parts_in}
 use Rattle.lawful_types.specs.declared.pairs.Pair.{Pair}
-use Rattle.lawful_types.specs.OneLevel.{AreNewerAlternatives, AreNewerComponents, AreVersions, IsListed, IsNewerAlternative, IsNewerComponent, IsNewerPlain, IsSameSize, groups}
+use Rattle.lawful_types.specs.OneLevel.{AreNewerAlternatives, AreNewerComponents, AreVersions, IsListed, IsNewerAlternative, IsNewerComponent, IsNewerPlain, IsSameSize}
 
 -- ---- lists and bags
 
@@ -71,7 +72,7 @@ one_part : (may : Bool) (t' t : Tag) (p' p : Presence) (s' s : Schema) (qs' qs :
     NewerParts may (part (leaf t') p' s' qs') (part (leaf t) p s qs)
 one_part may t' t p' p s' s qs' qs e h k r = rw e (also h k r)
 
-module _ (b : Bool) (ts' ts : List Kind) (ps : List Pair) (s' s : ℕ → Schema) (v : AreVersions ts ps s' s) where
+module _ (b : Bool) (ts' ts : List Kind) (ps : List Pair) (s' s : ℕ → Schema) (v : AreVersions ts' ts ps s' s) where
   parts_newer : (cs' cs : List Component) → (b ≡ false → length cs' ≤ length cs) → Along (IsNewerComponent b ts' ts ps) cs' cs (length cs) →
       NewerParts b (parts_in (groups b ts') s' cs') (parts_in (groups b ts) s cs)
   parts_newer [] [] short a = no_more
@@ -84,7 +85,7 @@ module _ (b : Bool) (ts' ts : List Kind) (ps : List Pair) (s' s : ℕ → Schema
   parts_newer (c' ∷ cs') (c ∷ cs) short a =
       let h = along_head (IsNewerComponent b ts' ts ps) c' c cs' cs (length cs) a in
       let k = v.newer c'.of c.of h.listed in
-      one_part b (tag_of c'.tag) (tag_of c.tag) _ _ (s' c'.of) (s c.of) _ _ h.tag (h.presence s' s k v.defaults) k
+      one_part b (tag_of c'.tag) (tag_of c.tag) _ _ (s' c'.of) (s c.of) _ _ h.tag (h.presence s' s k v.newer_defaults v.defaults) k
       (parts_newer cs' cs (λ e. let l = short e in omega (arith, l)) (along_tail (IsNewerComponent b ts' ts ps) c' c cs' cs (length cs) a))
 
 pub components_newer : (b : Bool) (ts' ts : List Kind) (ps : List Pair) (cs' cs : List Component) (n : ℕ) → length cs ≤ n → (b ≡ false → length cs' ≤ length cs) →

@@ -3,16 +3,16 @@
 ghost use Rattle.std.specs.Prelude.{◌≡◌, ◌≤◌, IfOk, false, is_some, slice_get, true};
 ghost use Rattle.rasn_schema.specs.Fields.{tag_of};
 ghost use Rattle.rasn_schema.specs.Lawful.{same_tag};
-ghost use Rattle.rasn_dynamic.specs.Types.{default_value, required_in};
-ghost use Rattle.lawful_types.specs.Keeps.{is_default_of};
+ghost use Rattle.rasn_dynamic.specs.Types.{required_in, tree_value};
+ghost use Rattle.lawful_types.specs.Keeps.{is_default_tree_of};
 ghost use Rattle.lawful_types.specs.OneLevel.{AreNewerAlternatives, AreNewerComponents, IsFront};
 ghost use Rattle.lawful_types.specs.OneLevel.{IsNewerAlternative, IsNewerComponent, IsNewerPresence};
 
-use crate::defaults::is_default_at;
+use crate::default_trees::is_default_tree_at;
 use crate::not_newer::Reason;
 use crate::pairs::{Pair, list};
 use crate::same_defaults::are_same;
-use rasn_dynamic::types::{Alternative, Component, DefaultValue, Kind, Presence, required_in};
+use rasn_dynamic::types::{Alternative, Component, DefaultTree, Kind, Presence, required_in};
 use rasn_types::types::Tag;
 
 /// Compares the components of two records, each with the one in its place, and lists the pairs of their types. Behind
@@ -94,7 +94,7 @@ fn compare_presences(
     match (&newer.presence, &older.presence) {
         (Presence::Required, Presence::Required) => Ok(()),
         (Presence::Default(default), Presence::Default(old)) => {
-            compare_defaults(older_kinds, older.of, default, old)
+            compare_defaults(newer_kinds, older_kinds, newer.of, older.of, default, old)
         }
         (Presence::Optional, Presence::Optional) => Ok(()),
         (Presence::Group, Presence::Group) if group == old_group => Ok(()),
@@ -111,17 +111,23 @@ fn is_record(kinds: &[Kind], place: usize) -> bool
     required_in(kinds, place).is_some()
 }
 
-/// Compares two defaults, of which the older one has to be a value of its type.
+/// Compares two defaults, of which each has to be a value of its type.
 fn compare_defaults(
-    kinds: &[Kind],
-    of: usize,
-    newer: &DefaultValue,
-    older: &DefaultValue,
+    newer_kinds: &[Kind],
+    older_kinds: &[Kind],
+    newer_of: usize,
+    older_of: usize,
+    newer: &DefaultTree,
+    older: &DefaultTree,
 ) -> Result<(), Reason>
-    ensures same { IfOk result (λ done. default_value newer.now ≡ default_value older.now) }
-    ensures lawful { IfOk result (λ done. is_default_of kinds.now older.now (slice_get kinds.now of) ≡ true) }
+    ensures same { IfOk result (λ done. tree_value newer.now ≡ tree_value older.now) }
+    ensures newer_lawful { IfOk result (λ done. is_default_tree_of newer_kinds.now newer_of newer.now ≡ true) }
+    ensures lawful { IfOk result (λ done. is_default_tree_of older_kinds.now older_of older.now ≡ true) }
 {
-    if !is_default_at(kinds, of, older) {
+    if !is_default_tree_at(newer_kinds, newer_of, newer) {
+        return Err(Reason::UnlawfulDefault);
+    }
+    if !is_default_tree_at(older_kinds, older_of, older) {
         return Err(Reason::UnlawfulDefault);
     }
     if !are_same(newer, older) {

@@ -10,6 +10,7 @@ ghost use Rattle.rasn_dynamic.specs.Types.{counts_of, default_value};
 ghost use Rattle.lawful_types.specs.Keeps.{has_lawful_default, is_default_of, is_default_of_plain};
 ghost use Rattle.lawful_types.specs.Keeps.{is_default_of_named, is_default_of_simple};
 
+use crate::default_trees::is_default_tree_at;
 use crate::identifiers::are_contents;
 use rasn_dynamic::defaults::are_normal;
 use rasn_dynamic::times::{generalized_moment, utc_moment};
@@ -34,13 +35,13 @@ fn has_lawful_default(kinds: &[Kind], component: &Component) -> bool
     ensures { result ≡ has_lawful_default kinds.now component.now }
 {
     match &component.presence {
-        Presence::Default(default) => is_default_at(kinds, component.of, default),
+        Presence::Default(default) => is_default_tree_at(kinds, component.of, default),
         _ => true,
     }
 }
 
-/// Whether a default is a value of the type at a place of a table (X.680 25.9), and in normal form. Of octets that
-/// contain a value it is one of what they contain.
+/// Whether a default that holds no values is a value of the type at a place of a table (X.680 25.9), and in normal
+/// form. Of octets that contain a value it is one of what they contain.
 pub fn is_default_at(kinds: &[Kind], place: usize, default: &DefaultValue) -> bool
     ensures { result ≡ is_default_of kinds.now default.now (slice_get kinds.now place) }
 {

@@ -10,7 +10,8 @@ use crate::rules::{keeps_bounds, keeps_defaults, keeps_presence_bits, keeps_size
 use rasn_dynamic::types::{Kind, Types};
 
 /// Judges whether each type of a table is lawful (X.680 25, 29, 51), at every depth. A fault is that of the first type
-/// that isn't lawful: its schema to three levels isn't, as it breaks the rule that the fault names.
+/// that isn't lawful: its schema to three levels more than its deepest default takes isn't, as it breaks the rule that
+/// the fault names.
 ///
 /// It takes no memory. Two alternatives of each CHOICE are compared with one another, so it takes time with the square
 /// of their number.

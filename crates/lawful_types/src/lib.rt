@@ -3,6 +3,7 @@
 #![tactic(auto)]
 
 mod components;
+pub mod default_trees;
 pub mod defaults;
 pub mod fault;
 mod identifiers;

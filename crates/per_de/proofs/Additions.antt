@@ -8,11 +8,13 @@ use Rattle.rasn_traits.specs.AdditionsRead.{ReadsNoAddition}
 use Rattle.per_core.specs.Basic.{Fills, Octets, Unknown, basic}
 use Rattle.per_core.specs.Took.{Took}
 use Rattle.per_core.proofs.Took.{then_took, took_agree, took_then}
-use Rattle.per_read.specs.Kinds.{NoneIn, Stopped}
+use Rattle.per_read.specs.Fields.{IsOfUnconstrained}
+use Rattle.per_read.specs.Kinds.{NoneIn}
+use Rattle.per_read.proofs.OfFields.{unconstrained_tested}
 use Rattle.per_read.specs.declared.error.DecodeError.{DecodeError}
 use Rattle.per_read.specs.declared.error.DecodeErrorKind.{DecodeErrorKind}
 use Rattle.per_read.specs.declared.error.DecodeErrorKind.TheVariants.{MissingTag, OutOfMemory}
-use Rattle.per_read.specs.Bitmaps.{skipped_unknown}
+use Rattle.per_read.specs.Bitmaps.{IsOfUnknown, skipped_unknown}
 use Rattle.per_read.proofs.Opened.{no_open}
 use Rattle.per_decoding.specs.Laws.Additions.{of_next}
 use Rattle.per_decoding.specs.Additions.{Adds, Asks, OpensAddition, OpensContents, Shown, OutsideAddition}
@@ -22,7 +24,7 @@ use Rattle.per_decoding.specs.Scopes.{Closes, OutsideRecord, with_outside_record
 use Rattle.per_decoding.specs.State.{Extension, State, ahead, settings_of, with_bits}
 use Rattle.per_decoding.specs.Laws.Tails.{asks_agree, shown_agree, tested_new}
 use Rattle.per_de.specs.Sources.{flags_in}
-use Rattle.per_de.specs.Steps.{IsOfBitmap, IsUnskipped, RefusedAs, SkipsRest, SkipsUnknown, TakesFlags, Unasked}
+use Rattle.per_de.specs.Steps.{IsOfBitmap, IsOfOctets, IsUnskipped, RefusedAs, SkipsRest, SkipsUnknown, TakesFlags, Unasked}
 use Rattle.per_de.specs.declared.source.Flags.{Flags}
 
 -- how many parts there are
@@ -62,7 +64,7 @@ unknown_unread s t w e done none r =
       (λ u c. let q = then_took c.skipped in
           let g = took_agree (shown_agree (settings_of s) s.extension c.flags h.flags) q.1 h.shows in
           h.none tt u.bits (subst (λ z. Took (Unknown (settings_of s) z) h.left u.bits) g.0 (subst (λ z. Took (Unknown (settings_of s) c.flags) z u.bits) g.1 q.2))),
-      subst (λ z. Unended z s) (sym r.is) (record { codec = refl; stands = unskipped done none (behind_bitmap h.flags h.shows (in_unknown h.tested h.none)) }),
+      subst (λ z. Unended z s) (sym r.is) (record { codec = refl; stands = unskipped done none (behind_bitmap h.flags h.shows (in_unknown h.says h.none)) }),
     )
 
 -- what is left of the additions, behind the presence bits that are shown
@@ -81,10 +83,11 @@ rest_skipped s n flags t result h r = go result r
         (flags_in s.source.bits flags, took_then h.0 k, r.1 ∙ ap (λ z. with_bits z t.bits) h.1)
     go (Err e) r =
         let no : NoneIn (skipped_unknown (flags_in s.source.bits flags) (settings_of s)) n.bits = subst (λ z. NoneIn (skipped_unknown (flags_in s.source.bits flags) z) n.bits) settings_kept (subst (λ z. NoneIn (skipped_unknown z (settings_of n)) n.bits) same_flags r.because.1) in
+        let f : IsOfUnknown (flags_in s.source.bits flags) (settings_of s) n.bits r.kind = subst (λ z. IsOfUnknown (flags_in s.source.bits flags) z n.bits r.kind) settings_kept (subst (λ z. IsOfUnknown z (settings_of n) n.bits r.kind) same_flags r.because.0) in
         inr (record {
           kind = r.kind;
           is = r.is ∙ ap (λ z. refusal r.kind z) h.1;
-          because = record { flags = flags_in s.source.bits flags; left = n.bits; shows = h.0; tested = r.because.0; none = no };
+          because = record { flags = flags_in s.source.bits flags; left = n.bits; shows = h.0; says = f; none = no };
           failed = r.failed;
           codec = r.codec ∙ ap (λ z. z.codec) h.1;
         })
@@ -118,7 +121,7 @@ no_addition s e (inr h) = inr (record { nothing = λ c r t a. go c r t a; stands
     go c None t (inr a) = h.none None t a
 
 -- no open type stands where one is shown
-pub no_contents : (s m : State) (e : DecodeError) (t : State) → Asks s (Some true) m → RefusedAs (Stopped (NoneIn (Octets (settings_of m)) m.bits)) m e t → (e ≡ refusal OutOfMemory s) ⊎ ReadsNoAddition plain_rules e s
+pub no_contents : (s m : State) (e : DecodeError) (t : State) → Asks s (Some true) m → RefusedAs (IsOfOctets m) m e t → (e ≡ refusal OutOfMemory s) ⊎ ReadsNoAddition plain_rules e s
 no_contents s m e t asks h = go h.kind h.is h.because
   where
     at : (d : DecodeErrorKind) → refusal d m ≡ refusal d s
@@ -134,7 +137,7 @@ no_contents s m e t asks h = go h.kind h.is h.because
     nothing none c None u (inl a) = let g = (asks_agree s (Some false) (Some true) u m a asks).0 in absurd cc
     nothing none c None u (inr a) = let g = (asks_agree s None (Some true) u m a asks).0 in absurd cc
 
-    go : (d : DecodeErrorKind) → e ≡ refusal d m → Stopped (NoneIn (Octets (settings_of m)) m.bits) d → (e ≡ refusal OutOfMemory s) ⊎ ReadsNoAddition plain_rules e s
+    go : (d : DecodeErrorKind) → e ≡ refusal d m → IsOfOctets m d → (e ≡ refusal OutOfMemory s) ⊎ ReadsNoAddition plain_rules e s
     go d i (inl o) = inl (i ∙ ap (λ z. refusal z m) o ∙ at OutOfMemory)
     go d i (inr o) =
         let none : NoneIn (Octets (settings_of s)) m.bits = subst (λ z. NoneIn (Octets z) m.bits) same o.1 in
@@ -143,6 +146,6 @@ no_contents s m e t asks h = go h.kind h.is h.because
           nothing = nothing none;
           stands = λ c. record {
             codec = ap (λ z. z.codec) f;
-            stands = subst (λ (z : DecodeError). IsOfNext z.kind c s) (sym f) (of_next d c s (tested_new d o.0) (in_open asks (in_octets o.0 none)));
+            stands = subst (λ (z : DecodeError). IsOfNext z.kind c s) (sym f) (of_next d c s (tested_new d (unconstrained_tested d o.0)) (in_open asks (in_octets (subst (λ z. IsOfUnconstrained z 8 m.bits d) same o.0) none)));
           };
         })

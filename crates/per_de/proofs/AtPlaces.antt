@@ -16,7 +16,6 @@ use Rattle.per_core.specs.Spellings.{Settings}
 use Rattle.per_core.specs.Took.{Took}
 use Rattle.per_decoding.specs.ChoiceIndexes.{index_form, index_of}
 use Rattle.per_decoding.specs.Enumerations.{item_form, placed_item}
-use Rattle.per_read.specs.Kinds.{NoneIn, Stopped}
 use Rattle.per_read.specs.declared.error.DecodeError.{DecodeError}
 use Rattle.per_read.specs.declared.error.DecodeErrorKind.TheVariants.{OutOfMemory}
 use Rattle.per_decoding.specs.Choices.{OpensChoice, StandsFrom}
@@ -24,7 +23,7 @@ use Rattle.per_decoding.specs.Faults.{Fault, refusal}
 use Rattle.per_decoding.specs.Scopes.{Enters, OutsideRecord, no_record}
 use Rattle.per_decoding.specs.State.{State, Spells, settings_of}
 use Rattle.per_de.specs.Outsides.{outside_choice_of, outside_contents_of, outside_record_of}
-use Rattle.per_de.specs.Steps.{RefusedAs, TakesIndex}
+use Rattle.per_de.specs.Steps.{IsOfOctets, RefusedAs, TakesIndex}
 use Rattle.per_de.specs.declared.Addition.{Addition}
 use Rattle.per_de.specs.declared.Scope.{Scope}
 use Rattle.per_de.proofs.Choosing.{index_below, opens_choice, refused_contents, refused_index}
@@ -67,7 +66,7 @@ module _ (c : ItemCounts) (s x : State) (start : x ≡ s) where
 
   module _ (p : Place) (m : ℕ) (t u : State) (inside : OutsideRecord) (o : Scope) (live : s.failed ≡ false) (deeper : s.levels ≡ suc m) (none : inside ≡ no_record m)
       (index : TakesIndex c.roots (addeds_of c.addeds) (is_extensible c.addeds) x (Ok p) t) (enters : Enters inside t (outside_record_of u.source o) u) where
-    pub contents_refused : (choice : Schema) → IsChoiceOf c choice → (err : DecodeError) (i : State) → (index_of p).0 ≡ added → RefusedAs (Stopped (NoneIn (Octets (settings_of u)) u.bits)) u err i
+    pub contents_refused : (choice : Schema) → IsChoiceOf c choice → (err : DecodeError) (i : State) → (index_of p).0 ≡ added → RefusedAs (IsOfOctets u) u err i
         → (err ≡ refusal OutOfMemory s) ⊎ Refuses (Spells choice) (Fault choice) err s
     contents_refused (Schema.choice ps qs marker) k err i side h =
         subst (λ (b : Bool). (err ≡ refusal OutOfMemory s) ⊎ Refuses (Spells (choice_schema ps b qs)) (Fault (choice_schema ps b qs)) err s) (sym k.2)

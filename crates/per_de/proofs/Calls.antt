@@ -1,56 +1,90 @@
 -- What each call reads, and why it refuses.
-use Rattle.std.proofs.Common.{◌≡◌, ◌≤◌, ◌⊎◌, inl, inr, ℕ, Bool, true, false, [], length, refl, sym, ◌∙◌, ap, subst, ℤ, arith, length-append}
+use Rattle.std.proofs.Common.{◌≡◌, ◌≤◌, ◌⊎◌, inl, inr, ℕ, Bool, true, false, [], length, refl, sym, ◌∙◌, ap, subst, ◌+◌, Option, Some, None, ℤ, arith, length-append}
 use Rattle.std.specs.Prelude.{Result, Ok, Err, OnOk, OnErr, IfOk, IfErr, IsErrAnd}
 use Rattle.std.proofs.lemmas.Result.{IfOk-weaker, IfErr-weaker}
+use Rattle.rasn_types.specs.Alphabets.{char_width, visible}
 use Rattle.rasn_types.specs.Bits.{Bits}
 use Rattle.rasn_types.specs.Values.{Value, truth, nothing, whole}
-use Rattle.rasn_constraints.specs.Bounds.{Bounds}
+use Rattle.rasn_constraints.specs.Bounds.{Bounds, Size, above, any_size}
 use Rattle.rasn_schema.specs.Schemas
-use Rattle.rasn_schema.specs.Schemas.{Schema}
+use Rattle.rasn_schema.specs.Choices.{tags_of}
+use Rattle.rasn_schema.specs.Schemas.{Parts, Schema}
 use Rattle.rasn_traits.specs.Calls.{Answers, Behaves, Reads, Refuses, freely_read, takes_none}
 use Rattle.per_core.specs.Spellings.{Settings, Spelling}
 use Rattle.per_core.specs.Basic.{basic, basic_in, bit, IsNumberOf}
 use Rattle.per_core.specs.Took.{Took}
 use Rattle.per_core.proofs.Took.{took_map}
 use Rattle.rasn_constraints.specs.Counts.{count_of}
+use Rattle.per_core.specs.declared.items.Item.TheVariants.{Bit, Character, Octet}
+use Rattle.per_read.specs.InLists.{IsOfList}
 use Rattle.per_read.specs.Kinds.{Faulty, NoneIn}
-use Rattle.per_read.specs.Numbers.{IsOfNumber}
+use Rattle.per_read.specs.Numbers.{IsOfForm, IsOfNumber, IsOfOctets}
 use Rattle.per_read.specs.declared.error.DecodeError.{DecodeError}
 use Rattle.per_read.specs.declared.error.DecodeErrorKind.{DecodeErrorKind}
-use Rattle.per_read.specs.declared.error.DecodeErrorKind.TheVariants.{AlreadyFailed, ExceedsMaxParseDepth, Incomplete, OutOfMemory, RealNotSupported}
+use Rattle.per_read.specs.declared.error.DecodeErrorKind.TheVariants.{AlreadyFailed, ExceedsMaxLength, ExceedsMaxParseDepth, Incomplete, OutOfMemory, RealNotSupported}
 use Rattle.per_read.specs.State.{State as Taking}
 use Rattle.per_read.specs.Takes.{Reason, Takes}
+use Rattle.per_read.proofs.Calls.{of_short}
+use Rattle.per_read.proofs.OfFields.{constrained_tested, counted_items_tested, length_tested, marked_tested, unconstrained_tested}
+use Rattle.per_read.proofs.OfLists.{opening_tested}
 use Rattle.per_read.proofs.Refusals.{faulty_map}
+use Rattle.per_decoding.proofs.DatesRead.{year_tested}
+use Rattle.per_decoding.proofs.Enumerations.{places_tested}
+use Rattle.per_decoding.specs.Dates.{IsOfDayField}
 use Rattle.per_decoding.specs.Laws.Spelled.{spelled}
 use Rattle.per_decoding.specs.State.{State, Spells, reader_of, settings_of}
-use Rattle.per_decoding.specs.Faults.{Answered, Fault, IsAt, IsOf, at_once, refusal}
+use Rattle.per_decoding.specs.Faults.{Answered, Fault, IsAt, IsOf, IsOfHead, at_once, refusal}
 use Rattle.per_decoding.specs.Rules.{plain_rules}
 use Rattle.per_de.specs.Steps.{TakesBit}
-use Rattle.per_de.proofs.Spans.{none_left, with_rest}
+use Rattle.per_de.proofs.Spans.{bit_lacking, none_left, with_rest}
 
 -- no more bits are left behind what was taken than before
 pub no_more_left : {f : Spelling} {s t : Bits} → Took f s t → length t ≤ length s
 no_more_left {t = t} a = omega (arith, ap length a.joins, length-append a.front t)
 
+-- no kind that says something of bits says that the decoder had failed
+form_failed : (a : Settings) (l u : Option ℤ) (s : Bits) → IsOfForm a l u s AlreadyFailed → ⊥
+form_failed a None u s h = unconstrained_tested AlreadyFailed h
+form_failed a (Some l) None s h = unconstrained_tested AlreadyFailed h
+form_failed a (Some l) (Some u) s h = constrained_tested a (above l u + 1) s AlreadyFailed h
+
+day_failed : (a : Settings) (s : Bits) → IsOfDayField a s AlreadyFailed → ⊥
+day_failed a s (inl h) = year_tested a s AlreadyFailed h
+day_failed a s (inr (inl (y, (m, b, h)))) = constrained_tested a 12 m AlreadyFailed h
+day_failed a s (inr (inr (y, (m, b, (j, (n, c, h)))))) = constrained_tested a 31 n AlreadyFailed h
+
+list_failed : (a : Settings) (e : Schema) (size : Size) (mark : Bool) (s : Bits) → IsOfList a size mark (basic a e) s AlreadyFailed → ⊥
+list_failed a e size mark s (inl h) = opening_tested a size mark s AlreadyFailed h
+list_failed a e size mark s (inr (inl h)) = length_tested AlreadyFailed h.1.2
+list_failed a e size mark s (inr (inr h)) = let i : AlreadyFailed ≡ ExceedsMaxLength = h.0 in cc
+
+head_failed : (a : Settings) (ps : Parts) (marker : Bool) (s : Bits) → IsOfHead a ps marker s AlreadyFailed → ⊥
+head_failed a ps true s (inl h) = of_short AlreadyFailed h
+head_failed a ps false s (inl h) = h
+head_failed a ps marker s (inr h) = of_short AlreadyFailed h.1.2
+
 -- a refusal
 not_failed : (c : Schema) (a : Settings) (s : Bits) → IsAt a c s AlreadyFailed → ⊥
-not_failed Schema.boolean a s h = h
+not_failed Schema.boolean a s h = of_short AlreadyFailed h
 not_failed Schema.null a s h = h
-not_failed (Schema.number bounds mark range) a s h = h
-not_failed (Schema.items r e ext) a s h = h
-not_failed (Schema.choice ps adds ext) a s h = h
-not_failed (Schema.octet_string size mark) a s h = h
-not_failed (Schema.bit_string size mark named) a s h = h
-not_failed (Schema.char_string alphabet size mark) a s h = h
-not_failed (Schema.text kind) a s h = h
-not_failed Schema.identifier a s h = h
-not_failed (Schema.time kind) a s h = h
-not_failed Schema.date a s h = h
+not_failed (Schema.number bounds mark range) a s h =
+    marked_tested (IsOfForm a bounds.low bounds.high) (IsOfOctets a) mark s AlreadyFailed (λ t x. form_failed a bounds.low bounds.high t x) (λ t x. unconstrained_tested AlreadyFailed x) h
+not_failed (Schema.items r e ext) a s h = places_tested a r ext s AlreadyFailed h
+not_failed (Schema.choice ps adds ext) a s h = places_tested a (length (tags_of ps)) ext s AlreadyFailed h
+not_failed (Schema.octet_string size mark) a s h = counted_items_tested a size mark Octet s AlreadyFailed h
+not_failed (Schema.bit_string size mark named) a s h = counted_items_tested a size mark Bit s AlreadyFailed h
+not_failed (Schema.char_string alphabet size mark) a s h = counted_items_tested a size mark (Character (char_width a.variant alphabet)) s AlreadyFailed h
+not_failed (Schema.text kind) a s h = unconstrained_tested AlreadyFailed h
+not_failed Schema.identifier a s h = unconstrained_tested AlreadyFailed h
+not_failed (Schema.time kind) a s h = counted_items_tested a any_size false (Character (char_width a.variant visible)) s AlreadyFailed h
+not_failed Schema.date a s h = day_failed a s h
 not_failed Schema.real a s h = h
 not_failed (Schema.containing e) a s h = h
-not_failed (Schema.list e size mark) a s h = h
+not_failed (Schema.list e size mark) a s h = list_failed a e size mark s h
+not_failed (Schema.set_of e size mark) a s h = list_failed a e size mark s h
 not_failed Schema.cut a s h = h
-not_failed _ a s h = h
+not_failed (Schema.sequence o ps marker qs) a s h = head_failed a ps marker s h
+not_failed Schema.any a s h = unconstrained_tested AlreadyFailed h
 
 of_state : (k : DecodeErrorKind) (c : Schema) (s : State) → IsAt (settings_of s) c s.bits k → IsOf k c s
 of_state AlreadyFailed c s h = absurd (not_failed c (settings_of s) s.bits h)
@@ -82,7 +116,7 @@ bool_answers s (Ok b) t live h = record {
   behaves = record { again = λ f. absurd cc; fails = tt; kept = ap (λ z. z.codec) h.1 };
 }
 bool_answers s (Err e) t live h = record {
-  law = inr (refuses Schemas.boolean s (Incomplete (count_of 1)) e h.1 (omega arith) (no_truth (settings_of s) (none_left h.0)));
+  law = inr (refuses Schemas.boolean s (Incomplete (count_of 1)) e h.1 (bit_lacking h.0) (no_truth (settings_of s) (none_left h.0)));
   behaves = record { again = λ f. absurd cc; fails = ap (λ z. z.failed) h.2; kept = ap (λ z. z.codec) h.2 };
 }
 

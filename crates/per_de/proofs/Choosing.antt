@@ -14,7 +14,9 @@ use Rattle.per_core.specs.Spellings.{Settings}
 use Rattle.per_core.specs.Took.{Took}
 use Rattle.per_core.proofs.Took.{then_took}
 use Rattle.per_decoding.specs.ChoiceIndexes.{IsOfIndex, index_form}
-use Rattle.per_read.specs.Kinds.{NoneIn, Stopped}
+use Rattle.per_read.specs.Fields.{IsOfUnconstrained}
+use Rattle.per_read.specs.Kinds.{NoneIn}
+use Rattle.per_read.proofs.OfFields.{unconstrained_tested}
 use Rattle.per_read.specs.declared.error.DecodeError.{DecodeError}
 use Rattle.per_read.specs.declared.error.DecodeErrorKind.{DecodeErrorKind}
 use Rattle.per_read.specs.declared.error.DecodeErrorKind.TheVariants.{OutOfMemory}
@@ -26,7 +28,7 @@ use Rattle.per_decoding.specs.Laws.Tails.{tested_new}
 use Rattle.per_decoding.specs.Scopes.{Enters, OutsideRecord, no_record, with_outside_record, outside_record as in_state}
 use Rattle.per_decoding.specs.State.{State, Spells, settings_of, with_bits}
 use Rattle.per_de.specs.Outsides.{outside_choice_of, outside_contents_of, outside_record_of, source_behind}
-use Rattle.per_de.specs.Steps.{RefusedAs, TakesIndex}
+use Rattle.per_de.specs.Steps.{IsOfOctets, RefusedAs, TakesIndex}
 use Rattle.per_de.specs.declared.Addition.{Addition}
 use Rattle.per_de.specs.declared.Scope.{Scope}
 use Rattle.per_de.proofs.Calls.{refuses}
@@ -126,7 +128,7 @@ module _ (ps : Parts) (marker : Bool) (qs : Parts) (r e : ℕ) (few : r ≡ leng
     }
 
     -- where it would stand in an open type, none is read
-    pub refused_contents : (err : DecodeError) (i : State) → d ≡ added → RefusedAs (Stopped (NoneIn (Octets (settings_of u)) u.bits)) u err i
+    pub refused_contents : (err : DecodeError) (i : State) → d ≡ added → RefusedAs (IsOfOctets u) u err i
         → (err ≡ refusal OutOfMemory s) ⊎ Refuses (Spells (choice_schema ps marker qs)) (Fault (choice_schema ps marker qs)) err s
     refused_contents err i side h = go h.kind h.is h.because
       where
@@ -142,7 +144,7 @@ module _ (ps : Parts) (marker : Bool) (qs : Parts) (r e : ℕ) (few : r ≡ leng
         there : (c : Schema) × (alternative_at qs k ≡ Some c)
         there = there_at qs k (index_below (settings_of s) (length (tags_of ps)) (length (tags_of qs)) marker added k placed)
 
-        go : (z : DecodeErrorKind) → err ≡ refusal z u → Stopped (NoneIn (Octets (settings_of u)) u.bits) z → (err ≡ refusal OutOfMemory s) ⊎ Refuses (Spells (choice_schema ps marker qs)) (Fault (choice_schema ps marker qs)) err s
+        go : (z : DecodeErrorKind) → err ≡ refusal z u → IsOfOctets u z → (err ≡ refusal OutOfMemory s) ⊎ Refuses (Spells (choice_schema ps marker qs)) (Fault (choice_schema ps marker qs)) err s
         go z is (inl out) = inl (is ∙ ap (λ y. refusal y u) out ∙ at OutOfMemory)
         go z is (inr h) =
             let nothing : NoneIn (Octets (settings_of s)) u.bits = subst (λ y. NoneIn (Octets y) u.bits) same h.1 in
@@ -150,6 +152,7 @@ module _ (ps : Parts) (marker : Bool) (qs : Parts) (r e : ℕ) (few : r ≡ leng
               nothing = λ v y b. no_contents (settings_of s) ps marker qs k placed nothing v y.bits b.took;
               stands = subst (λ y. Fault (choice_schema ps marker qs) y s) (sym (is ∙ at z)) (record {
                 codec = refl;
-                stands = of_bits z (choice_schema ps marker qs) s (tested_new z h.0) (in_added_alternative placed there.1 (in_octets h.0 nothing));
+                stands = of_bits z (choice_schema ps marker qs) s (tested_new z (unconstrained_tested z h.0))
+                    (in_added_alternative placed there.1 (in_octets (subst (λ y. IsOfUnconstrained y 8 u.bits z) same h.0) nothing));
               });
             })

@@ -5,7 +5,8 @@ use Rattle.rasn_schema.specs.Schemas.{Schema}
 use Rattle.rasn_traits.specs.Calls.{Refuses}
 use Rattle.rasn_traits.specs.Contents.{OpenedContentsToRead}
 use Rattle.per_core.specs.Basic.{Fills, Octets, basic}
-use Rattle.per_read.specs.Kinds.{NoneIn, Stopped}
+use Rattle.per_read.specs.Kinds.{NoneIn}
+use Rattle.per_read.proofs.OfFields.{unconstrained_tested}
 use Rattle.per_read.specs.declared.error.DecodeError.{DecodeError}
 use Rattle.per_read.specs.declared.error.DecodeErrorKind.{DecodeErrorKind}
 use Rattle.per_read.specs.declared.error.DecodeErrorKind.TheVariants.{OutOfMemory}
@@ -17,22 +18,22 @@ use Rattle.per_decoding.specs.Laws.Tails.{tested_new}
 use Rattle.per_decoding.specs.Rules.{plain_rules}
 use Rattle.per_decoding.specs.State.{State, Spells, settings_of}
 use Rattle.per_de.specs.InTurn.{Owes, are_open}
-use Rattle.per_de.specs.Steps.{EntersOpen, RefusedAs}
+use Rattle.per_de.specs.Steps.{EntersOpen, IsOfOctets, RefusedAs}
 use Rattle.per_de.specs.declared.Addition.{Addition}
 
 -- no octets stand at the front
-pub no_octets : (s : State) (e : DecodeError) (t : State) → RefusedAs (Stopped (NoneIn (Octets (settings_of s)) s.bits)) s e t
+pub no_octets : (s : State) (e : DecodeError) (t : State) → RefusedAs (IsOfOctets s) s e t
     → (e ≡ refusal OutOfMemory s) ⊎ ((c : Schema) → Refuses (Spells (Schema.containing c)) (Fault (Schema.containing c)) e s)
 no_octets s e t h = go h.kind h.is h.because
   where
-    go : (d : DecodeErrorKind) → e ≡ refusal d s → Stopped (NoneIn (Octets (settings_of s)) s.bits) d
+    go : (d : DecodeErrorKind) → e ≡ refusal d s → IsOfOctets s d
         → (e ≡ refusal OutOfMemory s) ⊎ ((c : Schema) → Refuses (Spells (Schema.containing c)) (Fault (Schema.containing c)) e s)
     go d i (inl o) = inl (i ∙ ap (λ z. refusal z s) o)
     go d i (inr o) = inr (λ c. record {
       nothing = λ v y b. no_open (settings_of s) (Fills (settings_of s) (basic (settings_of s) c v)) o.1 y.bits (took_containing (settings_of s) c v b.took);
       stands = subst (λ z. Fault (Schema.containing c) z s) (sym i) (record {
         codec = refl;
-        stands = of_bits d (Schema.containing c) s (tested_new d o.0) (in_containing (in_octets o.0 o.1));
+        stands = of_bits d (Schema.containing c) s (tested_new d (unconstrained_tested d o.0)) (in_containing (in_octets o.0 o.1));
       });
     })
 

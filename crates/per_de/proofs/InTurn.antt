@@ -33,7 +33,7 @@ use Rattle.per_decoding.specs.Rules.{Amidst, Awaits, decoder_rules, plain_rules}
 use Rattle.per_decoding.specs.Scopes.{Closes, Opens, OutsideRecord}
 use Rattle.per_decoding.specs.Laws.Spelled.{spelled}
 use Rattle.per_decoding.specs.State.{Marks, State, Spells, noting, noting_bit, settings_of, with_turn}
-use Rattle.per_decoding.specs.Turns.{CountsAs, Turn, awaiting, is_complete, misplaced, next, uncounted, within_list}
+use Rattle.per_decoding.specs.Turns.{CountsAs, Turn, awaiting, in_list, is_complete, misplaced, next, uncounted, within_list}
 use Rattle.per_de.specs.InTurn.{LeavesChoice, LeavesOpen, LeavesRecord, are_in_turn, are_open, is_addition_in_turn, is_addition_open, is_choice_in_turn, is_choice_open, is_open_in_turn}
 use Rattle.per_de.specs.Outsides.{outside_addition_of, outside_choice_of}
 use Rattle.per_de.specs.Lending.{AreLent, ComeAlone, TakesOctets}
@@ -44,6 +44,7 @@ use Rattle.per_de.specs.Turns.{IsComplete, turn_of}
 use Rattle.per_de.specs.declared.Addition.{Addition}
 use Rattle.per_de.specs.declared.Alternative.{Alternative}
 use Rattle.per_de.specs.declared.ListScope.{ListScope}
+use Rattle.per_de.specs.declared.OpenedList.{OpenedList}
 use Rattle.per_de.specs.declared.Scope.{Scope}
 use Rattle.per_de.specs.declared.turns.Around.{Around}
 use Rattle.per_de.specs.declared.turns.Turn as Kept
@@ -342,8 +343,8 @@ pub lent_noted : {T : Type 0} (size : Size) (mark : Bool) (s m : State) (last : 
 lent_noted size mark s m last borrowed many (Err d) e h = h
 lent_noted size mark s m last borrowed many (Ok x) e h =
     let k = subst (λ z. borrowed x ↔ AreLent size mark z last (many x)) e h in (
-      (λ b. let l = k.0 b in record { some = l.some; alone = l.alone; lends = l.lends; on_octets = l.on_octets }),
-      (λ l. k.1 (record { some = l.some; alone = l.alone; lends = l.lends; on_octets = l.on_octets })),
+      (λ b. let l = k.0 b in record { alone = l.alone; lent = record { some = l.lent.some; lends = l.lent.lends; on_octets = l.lent.on_octets } }),
+      (λ l. k.1 (record { alone = l.alone; lent = record { some = l.lent.some; lends = l.lent.lends; on_octets = l.lent.on_octets } })),
     )
 
 pub taken_noted : {size : Size} {mark : Bool} {s m t : State} (r : Result TakenOctets DecodeError) → m ≡ noting s → TakesOctets plain_rules size mark m r t → TakesOctets decoder_rules size mark s r t
@@ -364,36 +365,37 @@ taken_noted {size} {mark} (Ok x) e h =
 taken_noted (Err k) e h = record { ok = tt; err = begun (Err k) e h.err }
 
 -- A list is opened, and gone on in.
-list_turned : (x : Turn) {e : Schema} {size : Size} {mark : Bool} {s : State} {vs : List Value} {l : ListScope} {i : State} → IsOpenList e size mark s vs l i
+pub list_turned : (x : Turn) {e : Schema} {size : Size} {mark : Bool} {s : State} {vs : List Value} {l : ListScope} {i : State} → IsOpenList e size mark s vs l i
     → IsOpenList e size mark (with_turn x s) vs l (with_turn x i)
 list_turned x h = record { live = h.live; deeper = h.deeper; outside = h.outside; same = ap (λ z. with_turn x z) h.same; few = h.few; items = h.items }
 
 next_within : (x : Turn) → next (within_list x) ≡ within_list x
 next_within uncounted = refl
 next_within (awaiting n) = refl
+next_within (in_list n) = refl
 next_within misplaced = refl
 
 pub list_opened : (size : Size) (mark : Bool) (s m t i : State) (o : ListScope) (turn : Kept.Turn) (x : Turn) → m ≡ noting s → turn_of turn ≡ m.turn → x ≡ within_list (turn_of turn) → i ≡ with_turn x t
-    → ListOpenedToRead plain_rules IsOpenList size mark m (Ok o) t → ListOpenedToRead decoder_rules IsListInTurn size mark s (Ok (record { scope = o; turn = turn })) i
+    → ListOpenedToRead plain_rules IsOpenList size mark m (Ok o) t → ListOpenedToRead decoder_rules IsListInTurn size mark s (Ok (record { scope = record { list = o; outer = None }; turn = turn })) i
 list_opened size mark s m t i o turn x e w f g h =
     let k = subst (λ z. ListOpenedToRead plain_rules IsOpenList size mark z (Ok o) t) e h in
     let a : turn_of turn ≡ next s.turn = w ∙ ap (λ z. z.turn) e in
-    subst (λ z. ListOpenedToRead decoder_rules IsListInTurn size mark s (Ok (record { scope = o; turn = turn })) z) (sym g) (
+    subst (λ z. ListOpenedToRead decoder_rules IsListInTurn size mark s (Ok (record { scope = record { list = o; outer = None }; turn = turn })) z) (sym g) (
       k.0,
       λ c. record { list = list_turned uncounted (k.1 c); waiting = a; within = f ∙ ap within_list a },
     )
 
 pub list_unopened : (size : Size) (mark : Bool) (s m t i : State) (d : DecodeError) → m ≡ noting s → ListOpenedToRead {L = ListScope} plain_rules IsOpenList size mark m (Err d) t
-    → ListOpenedToRead {L = Around ListScope} decoder_rules IsListInTurn size mark s (Err d) i
+    → ListOpenedToRead {L = Around OpenedList} decoder_rules IsListInTurn size mark s (Err d) i
 list_unopened size mark s m t i d e h element = unread s (subst (λ z. (element : ℕ → Schema) → ListUnread plain_rules (list_at element size mark z.levels) d z) e h element)
 
 -- a list that was opened in a decoder hasn't failed
 pub list_live : (size : Size) (mark : Bool) (m t : State) (o : ListScope) → ListOpenedToRead plain_rules IsOpenList size mark m (Ok o) t → t.failed ≡ false
 list_live size mark m t o h = let k = h.1 Schema.boolean in ap (λ z. z.failed) k.same ∙ k.live
 
-pub element_follows : {e : Schema} {size : Size} {mark : Bool} {s : State} {vs : List Value} {m : ListScope} {turn : Kept.Turn} (x : Turn) (j : State) → turn_of turn ≡ next s.turn → x ≡ within_list (next s.turn)
-    → HasElement plain_rules IsOpenList e size mark (with_turn x s) vs m j → HasElement decoder_rules IsListInTurn e size mark s vs (record { scope = m; turn = turn }) j
-element_follows {e} {size} {mark} {s} {vs} {m} {turn} x j w f h = record {
+pub element_follows : {e : Schema} {size : Size} {mark : Bool} {s : State} {vs : List Value} {m : ListScope} {r : Option Scope} {turn : Kept.Turn} (x : Turn) (j : State) → turn_of turn ≡ next s.turn → x ≡ within_list (next s.turn)
+    → HasElement plain_rules IsOpenList e size mark (with_turn x s) vs m j → HasElement decoder_rules IsListInTurn e size mark s vs (record { scope = record { list = m; outer = r }; turn = turn }) j
+element_follows {e} {size} {mark} {s} {vs} {m} {r} {turn} x j w f h = record {
   deeper = h.deeper;
   element_read = λ v k b.
       let r = h.element_read v (with_turn j.turn k) (spells_at j.turn b) in
@@ -419,8 +421,8 @@ list_refused s x d (inl o) = inl o
 list_refused s x d (inr n) = inr (record { nothing = λ v t b. n.nothing v (with_turn x t) (spells_at x b); stands = fault_at (next s.turn) d (with_turn x s) n.stands })
 
 -- what stands in an open list here
-pub still_open : {e : Schema} {size : Size} {mark : Bool} {s : State} {vs : List Value} {l : Around ListScope} (i : State) → IsListInTurn e size mark s vs l i
-    → IsOpenList e size mark (with_turn i.turn s) vs l.scope i
+pub still_open : {e : Schema} {size : Size} {mark : Bool} {s : State} {vs : List Value} {l : Around OpenedList} (i : State) → IsListInTurn e size mark s vs l i
+    → IsOpenList e size mark (with_turn i.turn s) vs l.scope.list i
 still_open i a = list_turned i.turn a.list
 
 -- any choice of alternatives that are counted

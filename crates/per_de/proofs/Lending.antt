@@ -226,11 +226,11 @@ module _ (s : State) (size : Size) (mark : Bool) (left : ℕ) (t : State) (live 
       let rest : length t.bits ≡ left = ap (λ z. length z.bits) h ∙ length-drop (length s.bits - left) s.bits ∙ omega (arith, enough alone) in (
         (λ b.
             let w = e.0 b in
-            let a : AreLent size mark s left n = record { some = w.some; alone = alone; lends = w.lends; on_octets = w.on_octets } in
+            let a : AreLent size mark s left n = record { alone = alone; lent = w } in
             subst (λ (k : ℕ). AreLent size mark s k (length (cow_slice_items v))) (sym rest) (subst (λ (k : ℕ). AreLent size mark s left k) (sym many) a)),
         λ a.
             let w : AreLent size mark s left n = subst (λ (k : ℕ). AreLent size mark s left k) many (subst (λ (k : ℕ). AreLent size mark s k (length (cow_slice_items v))) rest a) in
-            e.1 (record { some = w.some; lends = w.lends; on_octets = w.on_octets }),
+            e.1 w.lent,
       )
 
   -- what is copied isn't lent

@@ -13,3 +13,4 @@ pub mod MomentCalls
 pub mod Lending
 pub mod AtPlaces
 pub mod InTurn
+pub mod CountedLists

@@ -1,5 +1,5 @@
 -- What opening a list and going on in it take, and why they refuse (ITU-T X.691, 20).
-use Rattle.std.proofs.Common.{◌≡◌, inr, refl, sym, ◌∙◌, ap, subst, ℕ, suc, Bool, true, false, List, length, drop, ◌-◌, arith}
+use Rattle.std.proofs.Common.{◌≡◌, inl, inr, refl, sym, ◌∙◌, ap, subst, ℕ, suc, Bool, true, false, List, length, drop, ◌-◌, arith}
 use Rattle.std.specs.Prelude.{Result, Ok, Err}
 use Rattle.rasn_types.specs.Bits.{Bits}
 use Rattle.rasn_types.specs.Values.{Value}
@@ -9,19 +9,18 @@ use Rattle.rasn_schema.specs.Schemas
 use Rattle.rasn_schema.specs.Schemas.{Schema}
 use Rattle.rasn_traits.specs.Lists.{HasElement, ListOpenedToRead, ListUnread}
 use Rattle.per_core.specs.Basic.{basic, basic_in}
-use Rattle.per_core.specs.Counts.{list_items}
 use Rattle.per_core.specs.Spellings.{Settings}
 use Rattle.per_core.specs.Took.{Took}
 use Rattle.per_core.proofs.Took.{took_map}
 use Rattle.per_read.specs.Kinds.{NoneIn}
 use Rattle.per_read.specs.Lists.{AreOpenItems, AwaitsItem, Leaves, NextRead, OpensList, ReadsNext, RefusesList, list_form, list_rule}
-use Rattle.per_read.specs.Sizes.{IsOfSize}
+use Rattle.per_read.specs.InLists.{IsOfList}
 use Rattle.per_read.specs.State.{State as Taking}
 use Rattle.per_read.specs.declared.error.DecodeError.{DecodeError}
 use Rattle.per_read.specs.declared.error.DecodeErrorKind.{DecodeErrorKind}
 use Rattle.per_read.specs.declared.error.DecodeErrorKind.TheVariants.{AlreadyFailed, OutOfMemory}
 use Rattle.per_read.specs.declared.lists.UnreadElements.{UnreadElements}
-use Rattle.per_read.proofs.Miscounts.{tested_size}
+use Rattle.per_read.proofs.OfLists.{of_list, opening_tested}
 use Rattle.per_decoding.specs.Laws.Contents.{moved}
 use Rattle.per_decoding.specs.Faults.{Answered, IsOf, in_element, refusal}
 use Rattle.per_de.specs.Lists.{IsOpenList}
@@ -45,7 +44,7 @@ module _ (a : Settings) (e : Schema) (size : Size) (mark : Bool) where
 
 -- a list that isn't read
 unread : (e : Schema) (size : Size) (mark : Bool) (s : State) (k : DecodeErrorKind) (d : DecodeError) → d ≡ refusal k s
-    → IsOfSize (settings_of s) size mark list_items (basic (settings_of s) e) s.bits k → NoneIn (list_form (list_rule (settings_of s) size mark e)) s.bits → ListUnread plain_rules (Schemas.list e size mark) d s
+    → IsOfList (settings_of s) size mark (basic (settings_of s) e) s.bits k → NoneIn (list_form (list_rule (settings_of s) size mark e)) s.bits → ListUnread plain_rules (Schemas.list e size mark) d s
 unread e size mark s k d i says none = inr (refuses (Schemas.list e size mark) s k d i says (no_list (settings_of s) e size mark none))
 
 module _ (size : Size) (mark : Bool) (s : State) (x y : Taking) (left m : ℕ) (taken : Result UnreadElements DecodeErrorKind) (deeper : s.levels ≡ suc m) (is : x ≡ reader_of s) (g : OpensList size mark x taken y) where
@@ -79,7 +78,7 @@ module _ (size : Size) (mark : Bool) (s : State) (x y : Taking) (left m : ℕ) (
       let k = rw r.1 at begun.err in
       subst (λ l. ListUnread plain_rules (list_at element size mark l) d s) (sym deeper)
       (unread (element m) size mark s r.0 d r.2
-      (tested_size (settings_of s) size mark list_items (basic (settings_of s) (element m)) s.bits r.0 k.0) (k.1 (element m)))
+      (of_list (settings_of s) size mark (basic (settings_of s) (element m)) s.bits r.0 (opening_tested (settings_of s) size mark s.bits r.0 k.0) (inl k.0)) (k.1 (element m)))
 
 -- inside a list, which began at s
 module _ {e : Schema} {size : Size} {mark : Bool} {s : State} {vs : List Value} {l m : UnreadElements} {o : ℕ} (i : State) {x y : Taking} (left : ℕ) {taken : Result Bool DecodeErrorKind}

@@ -1,5 +1,5 @@
 -- What opening a record takes, and why it refuses.
-use Rattle.std.proofs.Common.{◌≡◌, ◌⊎◌, inr, refl, sym, ◌∙◌, ap, subst, ℕ, suc, ◌-◌, Bool, false, ◌++◌, length, arith, length-append}
+use Rattle.std.proofs.Common.{◌≡◌, ◌⊎◌, inl, inr, refl, sym, ◌∙◌, ap, subst, ℕ, suc, ◌-◌, Bool, false, ◌++◌, length, arith, length-append}
 use Rattle.std.specs.Prelude.{Result, Ok, Err}
 use Rattle.rasn_schema.specs.Lawful.{presence_bits}
 use Rattle.rasn_schema.specs.Normal.{additions_of, root_of}
@@ -68,7 +68,7 @@ module _ (flag : Bool) (count : ℕ) (s t u : State) (m : ℕ) (b : Bool) (deepe
   no_front parts additions marker e v f i h =
       let c = extended (parts m) marker (additions m) in
       inr (subst (λ l. Refuses (Spells (record_at listed parts marker additions l)) (Fault (record_at listed parts marker additions l)) e s) (sym deeper)
-      (refuses c s (Incomplete (count_of (count - length u.bits))) e (h.1 ∙ ap (λ z. refusal (Incomplete (count_of (count - length u.bits))) z) behind_bit) (omega (arith, h.0))
+      (refuses c s (Incomplete (count_of (count - length u.bits))) e (h.1 ∙ ap (λ z. refusal (Incomplete (count_of (count - length u.bits))) z) behind_bit) (inr (b, (u.bits, subst (λ (z : Bool). Took (ExtensionBit z b) s.bits u.bits) f bit_took, record { short = omega (arith, h.0, i); missing = ap (λ (n : ℕ). Incomplete (count_of (n - length u.bits))) i })))
       (λ w y d. let q = took_record (settings_of s) (parts m) marker (additions m) w s.bits y d in
       let g = took_agree (bit_agree marker b q.extends) (subst (λ (z : Bool). Took (ExtensionBit z b) s.bits u.bits) f bit_took) q.bit in
       let r = then_took (record { front = q.root.front; joins = q.root.joins; spelled = q.root.spelled.spelled }) in
@@ -82,4 +82,4 @@ no_bit parts additions marker flag s t m e u deeper start f h =
     let k : TakesExtensionBit marker s (Err e) u = subst (λ (z : Bool). TakesExtensionBit z s (Err e) u) f (subst (λ z. TakesExtensionBit flag z (Err e) u) start h) in
     let c = extended (parts m) marker (additions m) in
     inr (subst (λ l. Refuses (Spells (record_at listed parts marker additions l)) (Fault (record_at listed parts marker additions l)) e s) (sym deeper)
-    (refuses c s k.kind e k.is k.because.0 (λ v y d. let q = took_record (settings_of s) (parts m) marker (additions m) v s.bits y d in k.because.1 q.extends q.middle q.bit)))
+    (refuses c s k.kind e k.is (inl k.because.0) (λ v y d. let q = took_record (settings_of s) (parts m) marker (additions m) v s.bits y d in k.because.1 q.extends q.middle q.bit)))

@@ -4,7 +4,10 @@ use Rattle.std.specs.Prelude.{min}
 use Rattle.std.proofs.lemmas.List.{take_all, take_min, drop_min, drop-take}
 use Rattle.rasn_types.specs.Bits.{Bits, number_of}
 use Rattle.per_core.specs.Basic.{bit}
+use Rattle.rasn_constraints.specs.Counts.{count_of}
+use Rattle.per_read.specs.Fields.{IsOfField}
 use Rattle.per_read.specs.Kinds.{NoneIn}
+use Rattle.per_read.specs.declared.error.DecodeErrorKind.TheVariants.{Incomplete}
 use Rattle.per_read.proofs.Turns.{one_bit}
 use Rattle.per_de.specs.Sources.{span_of, IsWithin}
 use Rattle.per_decoding.specs.State.{State, with_bits, with_last}
@@ -104,3 +107,6 @@ some_left span source (b ∷ bits) e some = omega (arith, ap length e, length-ta
 -- no bit stands where none is left
 pub none_left : {s : Bits} → s ≡ [] → NoneIn bit s
 none_left n b t h = let i : b ∷ t ≡ [] = ap (λ z. z ++ t) (sym h.spelled) ∙ sym h.joins ∙ n in absurd cc
+
+pub bit_lacking : {s : Bits} → s ≡ [] → IsOfField 1 s (Incomplete (count_of 1))
+bit_lacking {s} e = let none : length s ≡ 0 = ap length e in record { short = omega arith; missing = ap (λ (n : ℕ). Incomplete (count_of n)) {x = 1} {y = 1 - length s} (omega arith) }

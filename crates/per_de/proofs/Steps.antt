@@ -9,14 +9,16 @@ use Rattle.per_core.specs.Spellings.{Settings, Spelling}
 use Rattle.per_core.specs.Took.{Took}
 use Rattle.rasn_constraints.specs.Counts.{count_of}
 use Rattle.per_decoding.specs.ChoiceIndexes.{IsOfIndex, index_form, index_of}
-use Rattle.per_read.specs.Kinds.{IsTested, NoneIn, Stopped}
+use Rattle.per_read.specs.Fields.{IsOfField, IsOfUnconstrained, Says}
+use Rattle.per_read.specs.Kinds.{Faulty, NoneIn}
 use Rattle.per_read.specs.Lists.{Leaves}
 use Rattle.per_read.specs.State.{State as Taking}
-use Rattle.per_read.specs.Takes.{Reason, Takes, itself, telling, tested}
+use Rattle.per_read.specs.Takes.{Reason, Takes, itself, telling}
 use Rattle.per_read.specs.declared.error.DecodeError.{DecodeError}
 use Rattle.per_read.specs.declared.error.DecodeErrorKind.{DecodeErrorKind}
 use Rattle.per_read.specs.declared.error.DecodeErrorKind.TheVariants.{Incomplete, OutOfMemory}
-use Rattle.per_read.specs.Bitmaps.{large_fragments_of, skipped_unknown}
+use Rattle.per_read.specs.Bitmaps
+use Rattle.per_read.specs.Bitmaps.{IsOfUnknown, large_fragments_of, skipped_unknown}
 use Rattle.per_read.specs.Flags.{HasFlags}
 use Rattle.per_read.specs.OpenTypes.{HasOctets, fragments_of}
 use Rattle.per_read.specs.Reasons.{gathering}
@@ -29,13 +31,15 @@ use Rattle.per_decoding.specs.Laws.Additions.{of_next}
 use Rattle.per_decoding.specs.Additions.{EntersContents, OpensContents, Shown, OutsideAddition}
 use Rattle.per_decoding.specs.Faults.{Answered, IsOfNext, at_bitmap, refusal}
 use Rattle.per_decoding.specs.State.{Extension, State, ahead, reader_of, refused, settings_of, shown, with_bits}
+use Rattle.per_decoding.specs.Enumerations.{IsOfExtension}
 use Rattle.per_decoding.specs.Laws.Tails.{tested_new}
+use Rattle.per_read.proofs.OfBitmaps.{bitmap_tested}
 use Rattle.per_de.specs.Sources.{flags_in, span_of, IsWithin}
-use Rattle.per_de.specs.Steps.{AsksNext, IsOfBitmap, RefusedAs, SkipsUnknown, TakesBit, TakesBitmap, TakesExtensionBit, TakesFlags, TakesIndex, Unasked}
+use Rattle.per_de.specs.Steps.{AsksNext, IsOfBitmap, IsOfOctets, RefusedAs, SkipsUnknown, TakesBit, TakesBitmap, TakesExtensionBit, TakesFlags, TakesIndex, Unasked}
 use Rattle.per_de.specs.declared.source.Flags.{Flags}
 use Rattle.per_de.specs.declared.source.Span.{Span}
 use Rattle.per_de.proofs.Opening.{answered_ok, answered_err}
-use Rattle.per_de.proofs.Spans.{in_front_of, none_left, span_length, with_rest}
+use Rattle.per_de.proofs.Spans.{in_front_of, bit_lacking, none_left, span_length, with_rest}
 
 answered_failed : {T : Type 0} (taken : Result T DecodeErrorKind) (left : ℕ) (s : State) (e : DecodeError) (t : State) → Answered taken left s (Err e) t → t ≡ refused s
 answered_failed (Ok w) left s e t a = let i = a.0 in absurd cc
@@ -68,16 +72,16 @@ module _ {T X : Type 0} {why : Reason} {form : Settings → X → Spelling} {of 
 because_of : {P Q : DecodeErrorKind → Type 0} {s : State} {e : DecodeError} {t : State} → ((k : DecodeErrorKind) → P k → Q k) → RefusedAs P s e t → RefusedAs Q s e t
 because_of f r = record { kind = r.kind; is = r.is; because = f r.kind r.because; failed = r.failed; codec = r.codec }
 
-gathered_stops : (form : Settings → ℕ → Spelling) (a : Settings) (s : Bits) {A : Type 0} (k : DecodeErrorKind) → gathering form a s A k → Stopped A k
-gathered_stops form a s k (inl h) = inl h.0
-gathered_stops form a s k (inr h) = inr h
+gathered_stops : (form : Settings → ℕ → Spelling) (says : Settings → Says) (a : Settings) (s : Bits) {A : Type 0} (k : DecodeErrorKind) → gathering form says a s A k → Faulty (says a s) A k
+gathered_stops form says a s k (inl h) = inl h.0
+gathered_stops form says a s k (inr h) = inr h
 
 -- the extension bit of a type with a marker
 pub extension_taken : (marker : Bool) (s t : State) (result : Result Bool DecodeError) → marker ≡ true → TakesBit s result t → TakesExtensionBit marker s result t
 extension_taken marker s t (Ok b) m a = (subst (λ (z : Bool). Took (ExtensionBit z b) s.bits t.bits) (sym m) a.0, a.1)
 extension_taken marker s t (Err e) m a =
-    subst (λ (z : Bool). RefusedAs (λ k. IsTested k × NoneIn (ExtensionBit z) s.bits) s e t) (sym m)
-    (record { kind = Incomplete (count_of 1); is = a.1; because = (omega arith, none_left a.0); failed = ap (λ z. z.failed) a.2; codec = ap (λ z. z.codec) a.2 })
+    subst (λ (z : Bool). RefusedAs (λ k. IsOfExtension z s.bits k × NoneIn (ExtensionBit z) s.bits) s e t) (sym m)
+    (record { kind = Incomplete (count_of 1); is = a.1; because = (bit_lacking a.0, none_left a.0); failed = ap (λ z. z.failed) a.2; codec = ap (λ z. z.codec) a.2 })
 
 -- the index of a choice
 pub index_taken : (r e e' : ℕ) (ext ext' : Bool) (s : State) {x y : Taking} {left : ℕ} (t : State) {taken : Result Place DecodeErrorKind} (result : Result Place DecodeError) → e ≡ e' → ext ≡ ext' → x ≡ reader_of s
@@ -93,14 +97,14 @@ index_taken r e e' ext ext' s t (Err err) m n i g l a =
     subst (λ (q : ℕ). TakesIndex r q ext' s (Err err) t) m (subst (λ (q : Bool). TakesIndex r e q s (Err err) t) n (because_of (λ k h. h) (went_err s _ err i g a)))
 
 -- a bitmap
-module _ (s : State) {x y : Taking} (left : ℕ) (t : State) {taken : Result PresenceBits DecodeErrorKind} (i : x ≡ reader_of s) (g : Takes (gathering large_fragments_of) IsBitmap (HasFlags x.bits y.bits) x taken y) where
+module _ (s : State) {x y : Taking} (left : ℕ) (t : State) {taken : Result PresenceBits DecodeErrorKind} (i : x ≡ reader_of s) (g : Takes (gathering large_fragments_of Bitmaps.IsOfBitmap) IsBitmap (HasFlags x.bits y.bits) x taken y) where
   pub no_bitmap_taken : (e : DecodeError) → Answered taken left s (Err e) t → TakesBitmap s (Err e) t
-  no_bitmap_taken e a = because_of (gathered_stops large_fragments_of (settings_of s) s.bits) (went_err s _ e i g a)
+  no_bitmap_taken e a = because_of (gathered_stops large_fragments_of Bitmaps.IsOfBitmap (settings_of s) s.bits) (went_err s _ e i g a)
 
   bitmap_taken : (v : PresenceBits) → left ≡ length y.bits → Answered taken left s (Ok v) t
       → HasFlags s.bits y.bits (λ w. Took (IsBitmap (settings_of s) w) s.bits y.bits) v × (t ≡ with_bits s y.bits)
   bitmap_taken v l a =
-      let h = subst (λ z. Takes (gathering large_fragments_of) IsBitmap (HasFlags z y.bits) x taken y) (ap (λ z. z.bits) i) g in
+      let h = subst (λ z. Takes (gathering large_fragments_of Bitmaps.IsOfBitmap) IsBitmap (HasFlags z y.bits) x taken y) (ap (λ z. z.bits) i) g in
       went_ok s left v i h l a (λ k. leaves k.held)
 
   pub flags_in_place : (source : Bits) (span front : Span) (count : ℕ) → source ≡ s.source.bits → IsWithin span source → span_of span source ≡ s.bits → left ≡ length y.bits
@@ -142,28 +146,28 @@ no_flags s m t e i h =
         inr (record {
           none = λ flag m a. o.1 a.flags m.bits (subst (λ (z : Extension). Took (Shown (settings_of s) z a.flags) s.bits m.bits) k.0 a.taken);
           codec = ap (λ z. z.codec) f;
-          stands = λ c. subst (λ (z : DecodeError). IsOfNext z.kind c s) (sym f) (of_next d c s (tested_new d o.0) (at_bitmap k.0 o.0 o.1));
+          stands = λ c. subst (λ (z : DecodeError). IsOfNext z.kind c s) (sym f) (of_next d c s (tested_new d (bitmap_tested (settings_of s) s.bits d o.0)) (at_bitmap k.0 o.0 o.1));
         })
 
 -- additions that the schema doesn't know
 pub unknown_skipped : (flags bitmap : List Bool) (s : State) {x y : Taking} {left : ℕ} (t : State) {taken : Result (Unit {0}) DecodeErrorKind} (result : Result (Unit {0}) DecodeError) → bitmap ≡ flags → x ≡ reader_of s
-    → Takes tested (skipped_unknown bitmap) itself x taken y → left ≡ length y.bits → Answered taken left s result t → SkipsUnknown flags s result t
+    → Takes (telling (IsOfUnknown bitmap)) (skipped_unknown bitmap) itself x taken y → left ≡ length y.bits → Answered taken left s result t → SkipsUnknown flags s result t
 unknown_skipped flags bitmap s {y = y} t (Ok u) b i g l a =
     let w = went_ok s _ u i g l a leaves in
     let n : y.bits ≡ t.bits = ap (λ z. z.bits) (sym w.1) in
     (subst (λ z. Took (Unknown (settings_of s) flags) s.bits z) n (subst (λ z. Took (Unknown (settings_of s) z) s.bits y.bits) b w.0), w.1 ∙ ap (λ z. with_bits s z) n)
 unknown_skipped flags bitmap s t (Err e) b i g l a =
-    subst (λ z. RefusedAs (λ k. IsTested k × NoneIn (skipped_unknown z (settings_of s)) s.bits) s e t) b (went_err s _ e i g a)
+    subst (λ z. RefusedAs (λ k. IsOfUnknown z (settings_of s) s.bits k × NoneIn (skipped_unknown z (settings_of s)) s.bits) s e t) b (went_err s _ e i g a)
 
 -- the contents of an open type
-module _ (s : State) {x y : Taking} (left : ℕ) (t : State) {taken : Result Contents DecodeErrorKind} (i : x ≡ reader_of s) (g : Takes (gathering fragments_of) Octets (HasOctets x.bits y.bits) x taken y) where
-  pub no_open_taken : (e : DecodeError) → Answered taken left s (Err e) t → RefusedAs (Stopped (NoneIn (Octets (settings_of s)) s.bits)) s e t
-  no_open_taken e a = because_of (gathered_stops fragments_of (settings_of s) s.bits) (went_err s _ e i g a)
+module _ (s : State) {x y : Taking} (left : ℕ) (t : State) {taken : Result Contents DecodeErrorKind} (i : x ≡ reader_of s) (g : Takes (gathering fragments_of (λ a. IsOfUnconstrained a 8)) Octets (HasOctets x.bits y.bits) x taken y) where
+  pub no_open_taken : (e : DecodeError) → Answered taken left s (Err e) t → RefusedAs (IsOfOctets s) s e t
+  no_open_taken e a = because_of (gathered_stops fragments_of (λ a. IsOfUnconstrained a 8) (settings_of s) s.bits) (went_err s _ e i g a)
 
   pub open_taken : (v : Contents) → left ≡ length y.bits → Answered taken left s (Ok v) t
       → HasOctets s.bits y.bits (λ w. Took (Octets (settings_of s) w) s.bits y.bits) v × (t ≡ with_bits s y.bits)
   open_taken v l a =
-      let h = subst (λ z. Takes (gathering fragments_of) Octets (HasOctets z y.bits) x taken y) (ap (λ z. z.bits) i) g in
+      let h = subst (λ z. Takes (gathering fragments_of (λ a. IsOfUnconstrained a 8)) Octets (HasOctets z y.bits) x taken y) (ap (λ z. z.bits) i) g in
       went_ok s left v i h l a (λ k. leaves k.held)
 
   -- contents in place: what they are, how many, and where they stand

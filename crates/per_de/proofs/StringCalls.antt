@@ -10,13 +10,14 @@ use Rattle.per_core.specs.Counts.{octet_items, bit_items}
 use Rattle.per_core.specs.Spellings.{Settings}
 use Rattle.per_core.specs.Took.{Took}
 use Rattle.per_core.proofs.Took.{took_map}
-use Rattle.per_read.specs.Kinds.{Faulty, NoneIn, Stopped}
+use Rattle.per_read.specs.Fields.{IsOfUnconstrained}
+use Rattle.per_read.specs.Kinds.{Faulty, NoneIn}
 use Rattle.per_read.specs.Sizes.{IsOfItems}
 use Rattle.per_read.specs.Strings.{IsOfString, IsOfText}
 use Rattle.per_core.specs.declared.items.Item.TheVariants.{Octet, Bit}
 use Rattle.per_read.specs.declared.error.DecodeErrorKind.{DecodeErrorKind}
 use Rattle.per_read.proofs.Refusals.{faulty_map}
-use Rattle.per_read.proofs.Texts.{tested_text}
+use Rattle.per_read.proofs.Texts.{octets_text}
 use Rattle.per_decoding.specs.Faults.{IsAt}
 
 module _ (a : Settings) where
@@ -25,7 +26,7 @@ module _ (a : Settings) where
   unfolding basic_in
   reads_any os b = took_map (λ p c i. record { of = os; is = refl; spelled = i }) b
 
-  pub faulty_any : (s : Bits) (k : DecodeErrorKind) → Stopped (NoneIn (Octets a) s) k → Faulty (IsAt a Schemas.any s) (NoneIn (basic a Schemas.any) s) k
+  pub faulty_any : (s : Bits) (k : DecodeErrorKind) → Faulty (IsOfUnconstrained a 8 s) (NoneIn (Octets a) s) k → Faulty (IsAt a Schemas.any s) (NoneIn (basic a Schemas.any) s) k
   unfolding basic_in
   faulty_any s k = faulty_map k (λ h. h) (λ none v t b. none b.spelled.of t (record { front = b.front; joins = b.joins; spelled = b.spelled.spelled }))
 
@@ -34,9 +35,9 @@ module _ (a : Settings) where
   unfolding basic_in is_text
   reads_other os b = took_map (λ p c i. record { of = os; is = refl; spelled = (refl, i) }) b
 
-  pub faulty_other : (s : Bits) (k : DecodeErrorKind) → Stopped (NoneIn (Octets a) s) k → Faulty (IsAt a (Schemas.text other) s) (NoneIn (basic a (Schemas.text other)) s) k
+  pub faulty_other : (s : Bits) (k : DecodeErrorKind) → Faulty (IsOfUnconstrained a 8 s) (NoneIn (Octets a) s) k → Faulty (IsAt a (Schemas.text other) s) (NoneIn (basic a (Schemas.text other)) s) k
   unfolding basic_in
-  faulty_other s k = faulty_map k (tested_text a other s k) (λ none v t b. none b.spelled.of t (record { front = b.front; joins = b.joins; spelled = b.spelled.spelled.1 }))
+  faulty_other s k = faulty_map k (octets_text a other s k) (λ none v t b. none b.spelled.of t (record { front = b.front; joins = b.joins; spelled = b.spelled.spelled.1 }))
 
   -- UTF8String
   pub reads_utf8 : (os : List ℕ) {s t : Bits} → Took (Proper (is_text utf8) (Octets a) os) s t → Took (basic a (Schemas.text utf8) (octets os)) s t

@@ -105,6 +105,7 @@ pub record GoesOn (l : ListScope) (i : State) (result : Result Bool DecodeError)
       → ElementFound plain_rules IsOpenList e size mark s vs result m j
   pub falls : IfOk result (λ follows. follows ≡ true → most m.list < most l.list)
   pub live : OnOk result (j.failed ≡ false)
+  pub beside : OnOk result ((j.presences ≡ i.presences) × (j.expected ≡ i.expected) × (j.source ≡ i.source))
   pub behaves : Behaves plain_rules.already plain_rules.failed plain_rules.codec i result j
 
 -- A step that enters any record of components and additions that are so counted.

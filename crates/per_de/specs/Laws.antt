@@ -1,10 +1,23 @@
--- The law of the decoder's lists: one that is open is still open.
+-- The laws of the decoder's lists: one that is open is still open.
 use Rattle.std.proofs.Common.{ap, ◌∙◌}
 use Rattle.rasn_traits.specs.Lists.{ListsWell}
+use Rattle.per_decoding.specs.Laws.InTurn.{not_within}
 use Rattle.per_decoding.specs.Rules.{decoder_rules}
-use Rattle.per_de.specs.Lists.{IsListInTurn}
+use Rattle.per_decoding.specs.Turns.{is_complete, next}
+use Rattle.per_de.specs.Lists.{IsCountedList, IsListInTurn}
 
-pub lists_well : ListsWell decoder_rules IsListInTurn
+pub elements_well : ListsWell decoder_rules IsListInTurn
+elements_well = record {
+  still = λ e size mark s vs l i a. record {
+    live = ap (λ z. z.failed) a.list.same ∙ a.list.live;
+    within = λ c. ap is_complete a.within ∙ not_within (next s.turn) c;
+  };
+}
+
+pub lists_well : ListsWell decoder_rules IsCountedList
 lists_well = record {
-  still = λ e size mark s vs l i a. record { live = ap (λ z. z.failed) a.list.same ∙ a.list.live; within = a.within };
+  still = λ e size mark s vs l i a. record {
+    live = ap (λ z. z.failed) a.list.same ∙ a.list.live;
+    within = λ c. ap is_complete a.within;
+  };
 }

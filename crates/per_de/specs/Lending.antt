@@ -47,10 +47,8 @@ pub record CanBeLent (s : State) (left n : ℕ) : Type 0 where
 -- Of the bits that are left, n octets under a size were taken that stand in front of the last `left` bits: at least
 -- one, with one count alone or with none, on octets of the input. So the input's octets end where these bits do.
 pub record AreLent (size : Size) (mark : Bool) (s : State) (left n : ℕ) : Type 0 where
-  pub some : 0 < n
   pub alone : ComeAlone size mark s.bits n
-  pub lends : s.source.lends ≡ true
-  pub on_octets : (s.source.place + (length s.source.bits - (s.source.behind + left))) % 8 ≡ 0
+  pub lent : CanBeLent s left n
 
 -- n octets of an OCTET STRING under a size are read, and `left` bits are left behind them (X.691 17)
 pub record AreRead (size : Size) (mark : Bool) (s : State) (n left : ℕ) : Type 0 where

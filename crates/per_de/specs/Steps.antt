@@ -10,13 +10,16 @@ use Rattle.per_core.specs.Spellings.{Then}
 use Rattle.per_core.specs.Took.{Took}
 use Rattle.rasn_constraints.specs.Counts.{count_of}
 use Rattle.per_decoding.specs.ChoiceIndexes.{IsOfIndex, index_form, index_of}
-use Rattle.per_read.specs.Kinds.{IsTested, NoneIn, Stopped}
+use Rattle.per_decoding.specs.Enumerations.{IsOfExtension}
+use Rattle.per_read.specs.Fields.{IsOfUnconstrained}
+use Rattle.per_read.specs.Kinds.{Faulty, NoneIn}
 use Rattle.per_read.specs.Takes.{Front}
 use Rattle.per_read.specs.declared.error.DecodeError.{DecodeError}
 use Rattle.per_read.specs.declared.error.DecodeErrorKind.{DecodeErrorKind}
 use Rattle.per_read.specs.declared.error.DecodeErrorKind.TheVariants.{ExceedsMaxParseDepth, Incomplete, MissingTag}
 use Rattle.per_read.specs.declared.error.DecodeErrorKind.TheVariants.{OutOfMemory}
-use Rattle.per_read.specs.Bitmaps.{skipped_unknown}
+use Rattle.per_read.specs.Bitmaps
+use Rattle.per_read.specs.Bitmaps.{IsOfUnknown, skipped_unknown}
 use Rattle.per_read.specs.Ends.{EndsAs, IsOfEnd}
 use Rattle.per_decoding.specs.Additions.{Asks, OpensContents, Shown, OutsideAddition, with_outside_addition}
 use Rattle.per_decoding.specs.Choices.{StandsFrom}
@@ -56,11 +59,16 @@ TakesBit s (Err e) t = (s.bits ≡ []) × (e ≡ refusal (Incomplete (count_of 1
 -- The extension bit is taken off the bits left, where there is a marker (X.691 19.1).
 abbrev pub TakesExtensionBit : Bool → State → Result Bool DecodeError → State → Type 0
 TakesExtensionBit marker s (Ok b) t = Took (ExtensionBit marker b) s.bits t.bits × (t ≡ with_bits s t.bits)
-TakesExtensionBit marker s (Err e) t = RefusedAs (λ k. IsTested k × NoneIn (ExtensionBit marker) s.bits) s e t
+TakesExtensionBit marker s (Err e) t = RefusedAs (λ k. IsOfExtension marker s.bits k
+    × NoneIn (ExtensionBit marker) s.bits) s e t
 
--- want of memory, or a kind that tests show, where no bitmap stands at the front (X.691 19.7)
+-- want of memory, or what a kind says of a bitmap, where none stands at the front (X.691 19.7)
 abbrev pub IsOfBitmap : State → DecodeErrorKind → Type 0
-IsOfBitmap s = Stopped (NoneIn (IsBitmap (settings_of s)) s.bits)
+IsOfBitmap s = Faulty (Bitmaps.IsOfBitmap (settings_of s) s.bits) (NoneIn (IsBitmap (settings_of s)) s.bits)
+
+-- want of memory, or what a kind says of octets behind their length, where none stand at the front (X.691 11.2)
+abbrev pub IsOfOctets : State → DecodeErrorKind → Type 0
+IsOfOctets s = Faulty (IsOfUnconstrained (settings_of s) 8 s.bits) (NoneIn (Octets (settings_of s)) s.bits)
 
 -- A bitmap is taken off the bits left (X.691 19.7, 19.8).
 abbrev pub TakesBitmap : State → Result Flags DecodeError → State → Type 0
@@ -89,13 +97,13 @@ AsksNext s (Err e) t = ((e ≡ refusal OutOfMemory s) ⊎ Unasked e s) × (t.fai
 -- Ok is inside an open type, and Err comes only where none stands at the front, or for want of memory.
 abbrev pub EntersOpen : State → Result Addition DecodeError → State → Type 0
 EntersOpen s (Ok o) i = OpensContents s (outside_addition_of i.source o) i
-EntersOpen s (Err e) i = RefusedAs (Stopped (NoneIn (Octets (settings_of s)) s.bits)) s e i
+EntersOpen s (Err e) i = RefusedAs (IsOfOctets s) s e i
 
 -- The additions that the schema doesn't know are taken off the bits left (X.691 19.9).
 abbrev pub SkipsUnknown : List Bool → State → Result (Unit {0}) DecodeError → State → Type 0
 SkipsUnknown flags s (Ok u) t = Took (Unknown (settings_of s) flags) s.bits t.bits × (t ≡ with_bits s t.bits)
-SkipsUnknown flags s (Err e) t = RefusedAs (λ k. IsTested k × NoneIn
-    (skipped_unknown flags (settings_of s)) s.bits) s e t
+SkipsUnknown flags s (Err e) t = RefusedAs (λ k. IsOfUnknown flags (settings_of s) s.bits k
+    × NoneIn (skipped_unknown flags (settings_of s)) s.bits) s e t
 
 -- Presence bits of additions are left, or a bitmap with them is taken off the bits left, and an addition that they show
 -- isn't there behind it, which the schema doesn't know (X.691 19.9).
@@ -103,7 +111,7 @@ pub record IsUnskipped (s : State) (k : DecodeErrorKind) : Type 0 where
   pub flags : List Bool
   pub left : Bits
   pub shows : Took (Shown (settings_of s) s.extension flags) s.bits left
-  pub tested : IsTested k
+  pub says : IsOfUnknown flags (settings_of s) left k
   pub none : NoneIn (skipped_unknown flags (settings_of s)) left
 
 -- What is left of the additions is taken off the bits left: the bitmap where it is still ahead, and the additions that
@@ -137,7 +145,7 @@ TakesIndex r e ext s (Err err) t =
 -- the front, or for want of memory (X.691 23.7, 23.8).
 abbrev pub EntersAlternative : Side → State → Result (Option Addition) DecodeError → State → Type 0
 EntersAlternative d s (Ok o) i = StandsFrom d s (outside_contents_of i.source o) i
-EntersAlternative d s (Err e) i = (d ≡ added) × RefusedAs (Stopped (NoneIn (Octets (settings_of s)) s.bits)) s e i
+EntersAlternative d s (Err e) i = (d ≡ added) × RefusedAs (IsOfOctets s) s e i
 
 -- What is left of an open type doesn't end it, and why, where no more is left than it had (X.691 11.1).
 pub record Unended (w : OutsideAddition) (s : State) (k : DecodeErrorKind) : Type 0 where

@@ -5,16 +5,17 @@ use Rattle.per_read.specs.declared.error.DecodeErrorKind.TheVariants.{AlreadyFai
 use Rattle.per_decoding.specs.Faults.{refusal}
 use Rattle.per_decoding.specs.State.{State, refused}
 use Rattle.per_decoding.specs.Turns as Counting
-use Rattle.per_decoding.specs.Turns.{is_complete}
+use Rattle.per_decoding.specs.Turns.{is_between, is_complete}
 use Rattle.per_de.specs.declared.turns.Mode.{Mode}
 use Rattle.per_de.specs.declared.turns.Mode.TheVariants.{Live, Failed}
 use Rattle.per_de.specs.declared.turns.Turn.{Turn}
-use Rattle.per_de.specs.declared.turns.Turn.TheVariants.{Uncounted, Awaiting, Misplaced}
+use Rattle.per_de.specs.declared.turns.Turn.TheVariants.{Uncounted, Awaiting, InList, Misplaced}
 
 -- how many components are still to come
 abbrev pub turn_of : Turn → Counting.Turn
 turn_of Uncounted = Counting.uncounted
 turn_of (Awaiting n) = Counting.awaiting n
+turn_of (InList n) = Counting.in_list n
 turn_of Misplaced = Counting.misplaced
 
 -- whether a call has refused
@@ -33,3 +34,10 @@ abbrev pub IsComplete : State → Result (Unit {0}) DecodeError → State → Ty
 IsComplete s (Ok u) t = (s.failed ≡ false) × (is_complete s.turn ≡ true) × (t ≡ s)
 IsComplete s (Err e) t = ((s.failed ≡ true) × (e ≡ refusal AlreadyFailed s) × (t ≡ s))
     ⊎ ((s.failed ≡ false) × (is_complete s.turn ≡ false) × (e ≡ refusal MissingTag s) × (t ≡ refused s))
+
+-- Ok says that no call has refused and that in the open list no value is still to come before it is gone on in; else it
+-- is refused.
+abbrev pub IsBetween : State → Result (Unit {0}) DecodeError → State → Type 0
+IsBetween s (Ok u) t = (s.failed ≡ false) × (is_between s.turn ≡ true) × (t ≡ s)
+IsBetween s (Err e) t = ((s.failed ≡ true) × (e ≡ refusal AlreadyFailed s) × (t ≡ s))
+    ⊎ ((s.failed ≡ false) × (is_between s.turn ≡ false) × (e ≡ refusal MissingTag s) × (t ≡ refused s))

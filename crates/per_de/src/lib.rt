@@ -22,15 +22,15 @@ ghost use Rattle.per_decoding.specs.Additions.{ClosesAddition, EntersContents};
 ghost use Rattle.per_decoding.specs.Additions.{with_outside_addition};
 ghost use Rattle.per_decoding.specs.Choices.{ClosesChoice, UnendedChoice};
 ghost use Rattle.per_decoding.specs.Faults.{refusal, Answered, Unended, UnendedAddition};
-ghost use Rattle.per_decoding.specs.Rules.{decoder_rules, plain_rules};
+ghost use Rattle.per_decoding.specs.Rules.{AwaitsValues, decoder_rules, plain_rules};
 ghost use Rattle.per_decoding.specs.InTurn.{AddsInTurn, ChoosesInTurn, ContainsInTurn, Leaves, OpensInTurn, Unfinished};
 ghost use Rattle.per_decoding.specs.Laws.InTurn.{additions_well, bags_well, choices_well, contents_well, decodes_well};
 ghost use Rattle.per_decoding.specs.Laws.InTurn.{errors_well, scopes_well, sets_well};
 ghost use Rattle.per_decoding.specs.Scopes.{Closes, Enters, LevelInside, no_record, with_outside_record};
 ghost use Rattle.per_decoding.specs.State.{State, Options, fresh, fresh_of, from_octet, reader_of, refused, shown};
 ghost use Rattle.per_decoding.specs.State.{with_last};
-ghost use Rattle.per_de.specs.Lists.{IsListInTurn};
-ghost use Rattle.per_de.specs.Laws.{lists_well};
+ghost use Rattle.per_de.specs.Lists.{IsCountedList, IsListInTurn};
+ghost use Rattle.per_de.specs.Laws.{elements_well, lists_well};
 ghost use Rattle.per_de.specs.Openings.{OpensRecord};
 ghost use Rattle.per_de.specs.Outsides.{outside_choice_of, outside_record_of, outside_addition_of};
 ghost use Rattle.per_de.specs.Lending.{AreCountedOnce, AreLent, CanBeLent, ComeAlone, SkipsOctets};
@@ -921,6 +921,14 @@ pub struct ListScope {
     levels: u32,
 }
 
+/// What is left of an open list, and where its values are counted what waits outside: what is still to be read of the
+/// SEQUENCE there, of which nothing is read meanwhile.
+#[derive(Drop)]
+pub struct OpenedList {
+    list: ListScope,
+    outer: Option<Scope>,
+}
+
 impl<'input> decoder::Decoder for Decoder<'input> {
     type Error = DecodeError;
 
@@ -928,7 +936,7 @@ impl<'input> decoder::Decoder for Decoder<'input> {
 
     type Scope = Around<Scope>;
 
-    type List = Around<ListScope>;
+    type List = Around<OpenedList>;
 
     type Addition = Around<Addition<'input>>;
 
@@ -967,9 +975,13 @@ impl<'input> decoder::Decoder for Decoder<'input> {
 
     ghost unended_contents = { λ o e s. Unfinished (UnendedAddition (outside_addition_of s.source o.scope)) e s };
 
-    ghost amid = { IsListInTurn };
+    ghost amid = { IsCountedList };
 
-    ghost most = { λ l. most l.scope.list };
+    ghost amid_elements = { IsListInTurn };
+
+    ghost most = { λ l. most l.scope.list.list };
+
+    ghost awaits_values = { AwaitsValues };
 
     ghost lends = { λ size mark s t n. AreLent size mark s (length t.bits) n };
 
@@ -1256,16 +1268,52 @@ impl<'input> decoder::Decoder for Decoder<'input> {
         &mut self,
         _tag: Tag,
         constraints: &Constraints,
-    ) -> Result<Around<ListScope>, DecodeError> {
+    ) -> Result<Around<OpenedList>, DecodeError> {
         self.begin_value()?;
         let turn = self.turn();
-        let scope = self.enter_list(constraints)?;
-        self.set_turn(turn.within_list());
-        Ok(Around { scope, turn })
+        let outer = self.enter(Scope::without_record(self.levels));
+        let list = self.enter_list(constraints)?;
+        self.set_turn(Turn::InList(0));
+        Ok(Around {
+            scope: OpenedList {
+                list,
+                outer: Some(outer),
+            },
+            turn,
+        })
     }
 
-    fn next_element(&mut self, outside: &mut Around<ListScope>) -> Result<bool, DecodeError> {
-        let follows = self.next_item(&mut outside.scope)?;
+    fn next_element(&mut self, outside: &mut Around<OpenedList>) -> Result<bool, DecodeError> {
+        self.check_between()?;
+        let follows = self.next_item(&mut outside.scope.list)?;
+        if follows {
+            self.set_turn(Turn::InList(1));
+        } else {
+            self.end_list(outside);
+        }
+        Ok(follows)
+    }
+
+    fn open_elements(
+        &mut self,
+        _tag: Tag,
+        constraints: &Constraints,
+    ) -> Result<Around<OpenedList>, DecodeError> {
+        self.begin_value()?;
+        let turn = self.turn();
+        let list = self.enter_list(constraints)?;
+        self.set_turn(turn.within_list());
+        Ok(Around {
+            scope: OpenedList { list, outer: None },
+            turn,
+        })
+    }
+
+    fn next_element_in_turn(
+        &mut self,
+        outside: &mut Around<OpenedList>,
+    ) -> Result<bool, DecodeError> {
+        let follows = self.next_item(&mut outside.scope.list)?;
         if !follows {
             self.set_turn(outside.turn);
         }
@@ -1298,6 +1346,8 @@ impl<'input> decoder::Decoder for Decoder<'input> {
     ghost choices = { choices_well (λ b o. outside_choice_of b o.scope) (λ o. turn_of o.turn) };
 
     ghost lists = { lists_well };
+
+    ghost elements = { elements_well };
 
     ghost sets = { sets_well };
 

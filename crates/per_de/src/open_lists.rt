@@ -10,7 +10,7 @@ ghost use Rattle.per_read.specs.Lists.{most};
 ghost use Rattle.per_decoding.specs.Rules.{decoder_rules};
 ghost use Rattle.per_decoding.specs.State.{State};
 ghost use Rattle.per_de.specs.Lists.{IsListInTurn};
-ghost use Rattle.per_de.specs.declared.ListScope.{ListScope};
+ghost use Rattle.per_de.specs.declared.OpenedList.{OpenedList};
 ghost use Rattle.per_de.specs.declared.turns.Around.{Around};
 ghost use Rattle.per_core.specs.FewItems.{most_items};
 
@@ -19,12 +19,13 @@ ghost use Rattle.per_core.specs.FewItems.{most_items};
 /// with the element that is read where `next_element` answers that one follows (X.691, 11.9, 20).
 pub fn elements_of_an_open_list_are_few()
     ensures now { (e : Schema) (size : Size) (mark : Bool) (s i : State) (vs : List Value)
-        (l : Around ListScope) →
+        (l : Around OpenedList) →
         is_lawful_size size.least size.most ≡ true → IsListInTurn e size mark s vs l i →
         length vs ≤ most_items (length s.bits - length i.bits) }
     ensures with_another { (e : Schema) (size : Size) (mark : Bool) (s i j k : State) (vs : List Value)
-        (l m : Around ListScope) (v : Value) → is_lawful_size size.least size.most ≡ true
+        (l m : Around OpenedList) (v : Value) → is_lawful_size size.least size.most ≡ true
         → IsListInTurn e size mark s vs l i →
-        ReadsNext decoder_rules IsListInTurn (λ l. most l.scope.list) l i (Ok true) m j → decoder_rules.spells e j v k →
+        ReadsNext decoder_rules IsListInTurn (λ l. most l.scope.list.list) l i (Ok true) m j →
+        decoder_rules.spells e j v k →
         length (vs ++ v ∷ []) ≤ most_items (length s.bits - length k.bits) }
 {}

@@ -10,15 +10,18 @@ ghost use Rattle.rasn_traits.specs.Lists.{ListOpenedToRead};
 ghost use Rattle.rasn_traits.specs.Optionals.{ReadsBit};
 ghost use Rattle.rasn_traits.specs.Scopes.{ClosesRead};
 ghost use Rattle.per_decoding.specs.Rules.{decoder_rules, plain_rules};
+ghost use Rattle.per_decoding.specs.Scopes.{with_outside_record};
+ghost use Rattle.per_decoding.specs.State.{with_turn};
 ghost use Rattle.per_de.specs.InTurn.{GoesOn, LeavesChoice, LeavesOpen, LeavesRecord, OpensCounted, Owes, are_open};
 ghost use Rattle.per_de.specs.InTurn.{closes_in_turn, is_addition_open, is_choice_open, unended_in_turn};
-ghost use Rattle.per_de.specs.Lists.{IsOpenList};
+ghost use Rattle.per_de.specs.Lists.{IsOpenList, outer_of};
 ghost use Rattle.per_de.specs.Sources.{flags_in};
 ghost use Rattle.per_de.specs.Steps.{SkipsRest, SkipsUnknown};
+ghost use Rattle.per_de.specs.Turns.{turn_of};
 
 use crate::source::Flags;
 use crate::turns::{Around, Turn};
-use crate::{Addition, Alternative, Decoder, ListScope, Scope, tag_at};
+use crate::{Addition, Alternative, Decoder, ListScope, OpenedList, Scope, tag_at};
 use per_read::bitmaps::skip_unknown;
 use per_read::error::{DecodeError, DecodeErrorKind};
 use rasn_schema::choices::Choice;
@@ -171,6 +174,17 @@ impl<'input> Decoder<'input> {
             self.levels = scope.levels;
         }
         Ok(follows)
+    }
+
+    /// Ends a list whose values were counted: what waited outside is back.
+    pub(crate) fn end_list(&mut self, list: &mut Around<OpenedList>)
+        requires { self.old.failed ≡ false }
+        ensures { self.new ≡ with_turn (turn_of list.old.turn)
+            (with_outside_record self.old (outer_of self.old.source list.old.scope.outer)) }
+    {
+        let outer = list.scope.outer.take().unwrap_or(Scope::without_record(0));
+        self.leave(outer);
+        self.set_turn(list.turn);
     }
 
     /// Skips the additions that the open SEQUENCE's type doesn't know, of which these are the presence bits (X.691

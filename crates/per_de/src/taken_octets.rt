@@ -46,6 +46,7 @@ impl<'input> Decoder<'input> {
         ensures { TakesOctets plain_rules (size_of constraints.now) (is_size_marked constraints.now)
             self.old result self.new }
     {
+        // The proof names what is read before anything is taken.
         let _ = &self.source;
         let (count, left) = self.skip_octets(constraints)?;
         if self.ends_octet(left) && self.come_alone(constraints, count) {

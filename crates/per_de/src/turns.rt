@@ -4,8 +4,8 @@ ghost use Rattle.std.specs.Prelude.{◌≡◌, false, true, IfErr, OnErr, OnOk};
 ghost use Rattle.per_read.specs.declared.error.DecodeErrorKind.TheVariants.{AlreadyFailed};
 ghost use Rattle.per_decoding.specs.Faults.{refusal};
 ghost use Rattle.per_decoding.specs.State.{noting, with_turn};
-ghost use Rattle.per_decoding.specs.Turns.{is_complete, next, within_list};
-ghost use Rattle.per_de.specs.Turns.{IsComplete, turn_of};
+ghost use Rattle.per_decoding.specs.Turns.{is_between, is_complete, next, within_list};
+ghost use Rattle.per_de.specs.Turns.{IsBetween, IsComplete, turn_of};
 
 use crate::Decoder;
 use per_read::error::{DecodeError, DecodeErrorKind};
@@ -17,7 +17,9 @@ pub enum Turn {
     Uncounted,
     /// So many.
     Awaiting(usize),
-    /// None is in turn: one too many came, or a list is open.
+    /// Of an open list so many values, before it is gone on in.
+    InList(usize),
+    /// None is in turn: one too many came, or a list is open in which nothing is counted.
     Misplaced,
 }
 
@@ -32,6 +34,10 @@ impl Turn {
                 Some(others) => Turn::Awaiting(others),
                 None => Turn::Misplaced,
             },
+            Turn::InList(left) => match left.checked_sub(1) {
+                Some(others) => Turn::InList(others),
+                None => Turn::Misplaced,
+            },
             Turn::Misplaced => Turn::Misplaced,
         }
     }
@@ -43,11 +49,22 @@ impl Turn {
         match self {
             Turn::Uncounted => true,
             Turn::Awaiting(left) => left == 0,
-            Turn::Misplaced => false,
+            Turn::InList(_) | Turn::Misplaced => false,
         }
     }
 
-    /// What is counted in a list: where something is counted around it, nothing is in turn before its end.
+    /// Whether a list is open in which no value is still to come before it is gone on in.
+    pub(crate) fn is_between(self) -> bool
+        ensures { result ≡ is_between (turn_of self) }
+    {
+        match self {
+            Turn::InList(left) => left == 0,
+            _ => false,
+        }
+    }
+
+    /// What is counted in a list whose values aren't: where something is counted around it, nothing is in turn before
+    /// its end.
     #[inline(always)]
     pub(crate) fn within_list(self) -> Turn
         ensures { turn_of result ≡ within_list (turn_of self) }
@@ -85,10 +102,14 @@ impl<'input> Decoder<'input> {
         ensures failed { OnErr result (self.old.failed ≡ true) }
         ensures stays { OnErr result (self.new ≡ self.old) }
     {
-        if let Mode::Live(Turn::Uncounted) = self.mode {
-            return Ok(());
+        match self.mode {
+            Mode::Live(Turn::Uncounted) => Ok(()),
+            Mode::Live(Turn::Awaiting(1)) => {
+                self.mode = Mode::Live(Turn::Awaiting(0));
+                Ok(())
+            }
+            _ => self.begin_counted(),
         }
-        self.begin_counted()
     }
 
     /// What `begin_value` does, also where something is counted.
@@ -138,15 +159,26 @@ impl<'input> Decoder<'input> {
         self.mode = Mode::Live(turn);
     }
 
+    /// Refuses where a call has refused before, and where an open list can't be gone on in.
+    pub(crate) fn check_between(&mut self) -> Result<(), DecodeError>
+        ensures { IsBetween self.old result self.new }
+    {
+        self.check_unfailed()?;
+        if !self.turn().is_between() {
+            return Err(self.refuse(DecodeErrorKind::MissingTag));
+        }
+        Ok(())
+    }
+
     /// Refuses where a call has refused before, and where not as much came in the open scope as is due.
     #[inline(always)]
     pub(crate) fn check_complete(&mut self) -> Result<(), DecodeError>
         ensures { IsComplete self.old result self.new }
     {
-        if let Mode::Live(Turn::Uncounted) = self.mode {
-            return Ok(());
+        match self.mode {
+            Mode::Live(Turn::Uncounted | Turn::Awaiting(0)) => Ok(()),
+            _ => self.check_counted(),
         }
-        self.check_counted()
     }
 
     /// What `check_complete` does, also where something is counted.

@@ -17,13 +17,16 @@ use Rattle.per_core.proofs.Agree.{Agree, field_agree, never_agree, then_agree, w
 use Rattle.per_core.proofs.LengthForms.{and_left, and_right, bounded_agree}
 use Rattle.per_core.proofs.Took.{then_took, took_agree, took_map, took_then}
 use Rattle.per_core.proofs.Unique.{in_whole_agree}
+use Rattle.per_read.specs.Fields.{IsOfField}
 use Rattle.per_read.specs.Kinds.{Faulty, IsTested, NoneIn}
-use Rattle.per_read.specs.Numbers.{IsEmpty, IsOfNumber, IsOutside, IsUnheld, under_bounds, within_bounds}
+use Rattle.per_read.specs.Numbers.{IsEmpty, IsOfConstrained, IsOfNumber, IsOutside, IsUnheld, under_bounds, within_bounds}
 use Rattle.per_read.specs.declared.error.DecodeErrorKind.{DecodeErrorKind}
 use Rattle.per_read.specs.declared.error.DecodeErrorKind.TheVariants.{IntegerOverflow, InvalidDate, UnexpectedEmptyInput, ValueConstraintNotSatisfied}
+use Rattle.per_read.proofs.Calls.{of_short}
 use Rattle.per_read.proofs.Fields.{field_below, when_took}
+use Rattle.per_read.proofs.OfFields.{constrained_tested, unconstrained_tested}
 use Rattle.per_read.proofs.Refusals.{faulty_map}
-use Rattle.per_decoding.specs.Dates.{IsOfDate, no_day_in_month, no_month, numbers_form}
+use Rattle.per_decoding.specs.Dates.{IsOfDate, IsOfYearField, IsOfYearIn, no_day_in_month, no_month, numbers_form}
 use Rattle.per_decoding.specs.Years
 use Rattle.per_decoding.specs.Years.{IsOfYear}
 use Rattle.per_core.proofs.Fits.{fits_small}
@@ -124,6 +127,14 @@ year_agree a y z = record {
       let r = w.agree p b c s t u.spelled v.spelled e in (r.0.1, r.1);
 }
 
+-- what a kind says of a year, which tests show too
+pub year_tested : (a : Settings) (s : Bits) (k : DecodeErrorKind) → IsOfYearField a s k → IsTested k
+year_tested a s k (inl h) = of_short k h
+year_tested a s k (inr (zero, (m, b, h))) = constrained_tested a 16 m k h
+year_tested a s k (inr (suc zero, (m, b, h))) = constrained_tested a 256 m k h
+year_tested a s k (inr (suc (suc zero), (m, b, h))) = constrained_tested a 256 m k h
+year_tested a s k (inr (suc (suc (suc n)), (m, b, h))) = unconstrained_tested k h
+
 -- a year by the index of its range
 module _ (a : Settings) where
   year_of_range : (i : ℕ) (z : ℤ) {s m t : Bits} → Took (Field 2 i) s m → Took (year_form a i z) m t → Took (Year a z) s t
@@ -134,10 +145,10 @@ module _ (a : Settings) where
       let c : Took (Then (Field 2 b.spelled.range) (year_form a b.spelled.range z)) s t = record { front = b.front; joins = b.joins; spelled = b.spelled.spelled } in
       let q = then_took c in (b.spelled.range, q.0, q.1, q.2)
 
-  -- too few bits for an index
-  pub short_year : (s : Bits) (k : DecodeErrorKind) → IsTested k → IsOfYear a s k
-  short_year s UnexpectedEmptyInput h = absurd h
-  short_year s _ h = h
+  -- too few bits for an index, and what a kind says behind it
+  pub short_year : (s : Bits) (k : DecodeErrorKind) → IsOfField 2 s k → IsOfYear a s k
+  short_year s UnexpectedEmptyInput h = absurd (let i : IsTested UnexpectedEmptyInput = of_short UnexpectedEmptyInput h in i)
+  short_year s _ h = inl h
 
   pub no_index : {s : Bits} → NoneIn (Field 2) s → NoneIn (Year a) s
   no_index none z t b = let q = range_of_year z b in none q.0 q.1 q.2
@@ -156,11 +167,11 @@ module _ (a : Settings) where
     no_year_in : {m : Bits} → NoneIn (IsNumberOf a (between (pos l) (pos u)) false unbounded) m → NoneIn (YearIn a l n) m
     no_year_in none z t b = none_of a l u n unbounded e o few (λ k h. refl) none b.spelled.past t (record { front = b.front; joins = b.joins; spelled = b.spelled.spelled })
 
-    year_kind : (s m : Bits) → ((p : ℕ) (t : Bits) → Took (constrained_form a n p) m t → p < n) → (k : DecodeErrorKind) → IsOfNumber a (between (pos l) (pos u)) false unbounded m k → IsOfYear a s k
-    year_kind s m full UnexpectedEmptyInput h = absurd (not_empty a (pos l) (pos u) m h)
-    year_kind s m full (ValueConstraintNotSatisfied told) h = absurd (not_outside a l u n (value_of told) (lower_of told) (upper_of told) m e o full h)
-    year_kind s m full (IntegerOverflow width) h = absurd (not_unheld a l u unbounded m few (λ v i. refl) h)
-    year_kind s m full _ h = h
+    year_kind : (i : ℕ) (s m : Bits) → Took (Field 2 i) s m → ((k : DecodeErrorKind) → IsOfConstrained a n m k → IsOfYearIn a i m k) → ((p : ℕ) (t : Bits) → Took (constrained_form a n p) m t → p < n) → (k : DecodeErrorKind) → IsOfNumber a (between (pos l) (pos u)) false unbounded m k → IsOfYear a s k
+    year_kind i s m b says full UnexpectedEmptyInput h = absurd (not_empty a (pos l) (pos u) m h)
+    year_kind i s m b says full (ValueConstraintNotSatisfied told) h = absurd (not_outside a l u n (value_of told) (lower_of told) (upper_of told) m e o full h)
+    year_kind i s m b says full (IntegerOverflow width) h = absurd (not_unheld a l u unbounded m few (λ v i. refl) h)
+    year_kind i s m b says full k h = inr (i, (m, b, says k (subst (λ (c : ℕ). IsOfConstrained a c m k) e h)))
 
   -- no year between two others stands there, for a reason
   abbrev NoYear : ℕ → ℕ → Bits → DecodeErrorKind → Type 0
@@ -180,22 +191,22 @@ module _ (a : Settings) where
 
   pub no_first_year : {s m : Bits} (k : DecodeErrorKind) → Took (Field 2 0) s m → NoYear 2005 2020 m k → Faulty (IsOfYear a s) (NoneIn (Year a) s) k
   no_first_year {s} {m} k b =
-      faulty_map k (year_kind 2005 2020 16 refl (omega arith) (omega arith) s m (λ p t c. full16 a.variant a p c) k) (λ none. no_year 0 b (no_year_in 2005 2020 16 refl (omega arith) (omega arith) none))
+      faulty_map k (year_kind 2005 2020 16 refl (omega arith) (omega arith) 0 s m b (λ k h. h) (λ p t c. full16 a.variant a p c) k) (λ none. no_year 0 b (no_year_in 2005 2020 16 refl (omega arith) (omega arith) none))
 
   pub no_later_year : {s m : Bits} (k : DecodeErrorKind) → Took (Field 2 1) s m → NoYear 2021 2276 m k → Faulty (IsOfYear a s) (NoneIn (Year a) s) k
   no_later_year {s} {m} k b =
-      faulty_map k (year_kind 2021 2276 256 refl (omega arith) (omega arith) s m (λ p t c. full256 a.variant a p c) k) (λ none. no_year 1 b (no_year_in 2021 2276 256 refl (omega arith) (omega arith) none))
+      faulty_map k (year_kind 2021 2276 256 refl (omega arith) (omega arith) 1 s m b (λ k h. h) (λ p t c. full256 a.variant a p c) k) (λ none. no_year 1 b (no_year_in 2021 2276 256 refl (omega arith) (omega arith) none))
 
   pub no_earlier_year : {s m : Bits} (k : DecodeErrorKind) → Took (Field 2 2) s m → NoYear 1749 2004 m k → Faulty (IsOfYear a s) (NoneIn (Year a) s) k
   no_earlier_year {s} {m} k b =
-      faulty_map k (year_kind 1749 2004 256 refl (omega arith) (omega arith) s m (λ p t c. full256 a.variant a p c) k) (λ none. no_year 2 b (no_year_in 1749 2004 256 refl (omega arith) (omega arith) none))
+      faulty_map k (year_kind 1749 2004 256 refl (omega arith) (omega arith) 2 s m b (λ k h. h) (λ p t c. full256 a.variant a p c) k) (λ none. no_year 2 b (no_year_in 1749 2004 256 refl (omega arith) (omega arith) none))
 
   any_kind : {s m : Bits} (k : DecodeErrorKind) → Took (Field 2 3) s m → IsOfNumber a unbounded false unbounded m k → IsOfYear a s k
   any_kind UnexpectedEmptyInput b h = record { rest = h.rest; took = took_then b h.took }
   any_kind (ValueConstraintNotSatisfied told) b h = absurd (let i : true ≡ false = h.outside in cc)
   any_kind (IntegerOverflow width) b h =
       absurd (h.none (took_map (λ p c x. record { in_range = refl; spelled = record { within = refl; spelled = x.1 } }) h.took))
-  any_kind _ b h = h
+  any_kind {m = m} _ b h = inr (3, (m, b, h))
 
   pub no_number_year : {s m : Bits} (k : DecodeErrorKind) → Took (Field 2 3) s m → Faulty (IsOfNumber a unbounded false unbounded m) (NoneIn (IsNumberOf a unbounded false unbounded) m) k
       → Faulty (IsOfYear a s) (NoneIn (Year a) s) k
@@ -236,24 +247,24 @@ module _ (a : Settings) where
   no_years none v t b = let q = numbers_of v b in let r = then_took q.3 in none q.0.0 r.0 r.1
 
   pub year_fault : (s : Bits) (k : DecodeErrorKind) → IsOfYear a s k → IsOfDate a s k
-  year_fault s InvalidDate h = absurd h
-  year_fault s (ValueConstraintNotSatisfied told) h = absurd h
+  year_fault s InvalidDate h = absurd (year_tested a s InvalidDate h)
+  year_fault s (ValueConstraintNotSatisfied told) h = absurd (year_tested a s (ValueConstraintNotSatisfied told) h)
   year_fault s UnexpectedEmptyInput h = h
-  year_fault s _ h = h
+  year_fault s _ h = inl h
 
   month_kind : (y : ℤ) {s m : Bits} (k : DecodeErrorKind) → Took (Year a y) s m → IsOfNumber a (between (pos 1) (pos 12)) false (unsigned_range 8) m k → IsOfDate a s k
   month_kind y {m = m} UnexpectedEmptyInput by h = absurd (not_empty a (pos 1) (pos 12) m h)
   month_kind y (ValueConstraintNotSatisfied told) by h = no_month y by h
   month_kind y {m = m} (IntegerOverflow width) by h = absurd (not_unheld a 1 12 (unsigned_range 8) m (omega arith) (in_byte 12 (omega arith)) h)
-  month_kind y InvalidDate by h = absurd h
-  month_kind y _ by h = h
+  month_kind y {m = m} InvalidDate by h = absurd (constrained_tested a 12 m InvalidDate h)
+  month_kind y {m = m} _ by h = inr (inl (y, (m, by, h)))
 
   day_kind : (y : ℤ) (j : ℕ) {s m n : Bits} (k : DecodeErrorKind) → Took (Year a y) s m → Took (IsConstrainedWhole a 12 j) m n → IsOfNumber a (between (pos 1) (pos 31)) false (unsigned_range 8) n k → IsOfDate a s k
   day_kind y j {n = n} UnexpectedEmptyInput by bm h = absurd (not_empty a (pos 1) (pos 31) n h)
   day_kind y j (ValueConstraintNotSatisfied told) by bm h = no_day_in_month y j by bm h
   day_kind y j {n = n} (IntegerOverflow width) by bm h = absurd (not_unheld a 1 31 (unsigned_range 8) n (omega arith) (in_byte 31 (omega arith)) h)
-  day_kind y j InvalidDate by bm h = absurd h
-  day_kind y j _ by bm h = h
+  day_kind y j {n = n} InvalidDate by bm h = absurd (constrained_tested a 31 n InvalidDate h)
+  day_kind y j {m = m} {n = n} _ by bm h = inr (inr (y, (m, by, (j, (n, bm, h)))))
 
   -- no month stands behind a year
   no_months : (y : ℤ) {s m : Bits} → Took (Year a y) s m → NoneIn (IsConstrainedWhole a 12) m → NoneIn (basic a Schema.date) s

@@ -1,5 +1,5 @@
 -- Items of an ENUMERATED, seen from the bits that are left (X.691 14).
-use Rattle.std.proofs.Common.{◌≡◌, ◌∙◌, refl, sym, ap, subst, ℕ, zero, suc, ◌+◌, ◌-◌, ◌^◌, ◌<◌, ◌≤◌, Bool, true, false, ◌∷◌, Option, Some, None, arith}
+use Rattle.std.proofs.Common.{◌≡◌, ◌∙◌, refl, sym, ap, subst, ℕ, zero, suc, ◌+◌, ◌-◌, ◌^◌, ◌<◌, ◌≤◌, Bool, true, false, ◌∷◌, Option, Some, None, arith, inl, inr}
 use Rattle.std.specs.Prelude.{Ok, IfSome}
 use Rattle.rasn_types.specs.Bits.{Bits, width, width_from}
 use Rattle.rasn_types.specs.Values.{Value, item, Side, root, added}
@@ -11,23 +11,46 @@ use Rattle.per_core.proofs.Agree.{Agree, field_agree}
 use Rattle.per_core.proofs.LengthForms.{bounded_form_agree}
 use Rattle.per_core.proofs.Took.{took_then, then_took, took_map, took_agree, nothing_took}
 use Rattle.per_core.proofs.Unique.{in_natural_agree, marked_agree}
-use Rattle.per_decoding.specs.Enumerations.{IsMissing, IsOfItem, IsOfPlace, IsPlace, IsThere, count_of, item_form, place_form, root_in_field, side_of}
+use Rattle.per_decoding.specs.Enumerations.{IsMissing, IsOfExtension, IsOfItem, IsOfPlace, IsOfPlaces, IsPlace, IsThere, count_of, item_form, place_form, root_in_field, side_of}
+use Rattle.per_read.specs.Fields.{IsOfField, IsOfMarked, IsOfUnconstrained}
 use Rattle.per_read.specs.Kinds.{IsTested, NoneIn}
-use Rattle.per_read.specs.Numbers.{in_one_field}
+use Rattle.per_read.specs.Numbers.{IsOfConstrained, IsOfConstrainedBy, in_one_field}
 use Rattle.per_read.specs.SmallNumbers.{OfIndex, small_form}
 use Rattle.per_read.specs.State.{State, settings_of}
 use Rattle.per_read.specs.Takes.{Takes, tested}
 use Rattle.per_read.specs.declared.error.DecodeErrorKind.{DecodeErrorKind}
 use Rattle.per_read.specs.declared.error.DecodeErrorKind.TheVariants.{EnumerationIndexNotFound, IntegerOverflow, UnexpectedEmptyInput}
+use Rattle.per_read.proofs.Calls.{of_short}
 use Rattle.per_read.proofs.Fields.{exactly_took, when_took}
+use Rattle.per_read.proofs.OfFields.{constrained_tested, marked_tested, unconstrained_tested}
 use Rattle.per_read.proofs.SmallForms.{small_took, took_small}
 
--- a kind that tests show may come with an item
-pub tested_item : (a : Settings) (r e : ℕ) (ext : Bool) (s : Bits) (k : DecodeErrorKind) → IsTested k → IsOfItem a r e ext s k
-tested_item a r e ext s UnexpectedEmptyInput h = absurd h
-tested_item a r e ext s (EnumerationIndexNotFound i b) h = absurd h
-tested_item a r e ext s (IntegerOverflow w) h = absurd h
-tested_item a r e ext s _ h = h
+-- what a kind says of an extension bit and a place, which tests show too
+pub small_tested : (a : Settings) (s : Bits) (k : DecodeErrorKind) → IsOfMarked true (IsOfField 6) (IsOfUnconstrained a 8) s k → IsTested k
+small_tested a s k h = marked_tested (IsOfField 6) (IsOfUnconstrained a 8) true s k (λ t x. of_short k x) (λ t x. unconstrained_tested k x) h
+
+pub places_tested : (a : Settings) (r : ℕ) (ext : Bool) (s : Bits) (k : DecodeErrorKind) → IsOfPlaces a r ext s k → IsTested k
+places_tested a r ext s k h =
+    marked_tested (IsOfConstrained a r) (IsOfMarked true (IsOfField 6) (IsOfUnconstrained a 8)) ext s k (λ t x. constrained_tested a r t k x) (λ t x. small_tested a t k x) h
+
+pub of_extension : (a : Settings) (r : ℕ) (ext : Bool) (s : Bits) (k : DecodeErrorKind) → IsOfExtension ext s k → IsOfPlaces a r ext s k
+of_extension a r true s k h = inl h
+of_extension a r false s k h = absurd h
+
+pub of_root : (a : Settings) (r : ℕ) (ext : Bool) {s m : Bits} (k : DecodeErrorKind) → Took (ExtensionBit ext false) s m → IsOfConstrained a r m k → IsOfPlaces a r ext s k
+of_root a r true {m = m} k bit h = inr (inl (m, bit, h))
+of_root a r false {s} {m} k bit h = subst (λ z. IsOfConstrained a r z k) (sym (nothing_took bit)) h
+
+pub of_added : (a : Settings) (r : ℕ) (ext : Bool) {s m : Bits} (k : DecodeErrorKind) → Took (ExtensionBit ext true) s m → IsOfMarked true (IsOfField 6) (IsOfUnconstrained a 8) m k → IsOfPlaces a r ext s k
+of_added a r true {m = m} k bit h = inr (inr (m, bit, h))
+of_added a r false k bit h = absurd bit.spelled
+
+-- and so of an item
+pub of_places : (a : Settings) (r e : ℕ) (ext : Bool) (s : Bits) (k : DecodeErrorKind) → IsOfPlaces a r ext s k → IsOfItem a r e ext s k
+of_places a r e ext s UnexpectedEmptyInput h = absurd (places_tested a r ext s UnexpectedEmptyInput h)
+of_places a r e ext s (EnumerationIndexNotFound i b) h = absurd (places_tested a r ext s (EnumerationIndexNotFound i b) h)
+of_places a r e ext s (IntegerOverflow w) h = absurd (places_tested a r ext s (IntegerOverflow w) h)
+of_places a r e ext s _ h = h
 
 -- one of no numbers is written as one of one
 no_numbers : (v : Variant) (a : Settings) (o : ℕ) → constrained_by v a 1 o ≡ constrained_by v a 0 o
@@ -38,6 +61,17 @@ no_numbers aligned a o = refl
 pub root_form : (a : Settings) (n g o : ℕ) → g ≡ n - 1 → constrained_form a (g + 1) o ≡ constrained_form a n o
 root_form a zero g o e = ap (λ (k : ℕ). constrained_form a (k + 1) o) {x = g} {y = 0} (omega arith) ∙ no_numbers a.variant a o
 root_form a (suc n) g o e = ap (λ (k : ℕ). constrained_form a k o) (omega arith)
+
+no_numbers_said : (v : Variant) (a : Settings) (s : Bits) (k : DecodeErrorKind) → IsOfConstrainedBy v a 1 s k ≡ IsOfConstrainedBy v a 0 s k
+unfolding width width_from
+no_numbers_said unaligned a s k = refl
+no_numbers_said aligned a s k = refl
+
+pub root_said : (a : Settings) (n g : ℕ) (s : Bits) (k : DecodeErrorKind) → g ≡ n - 1 → IsOfConstrained a (g + 1) s k → IsOfConstrained a n s k
+root_said a zero g s k e h =
+    let i : g + 1 ≡ 1 = omega (arith, e) in
+    subst (λ z. z) (no_numbers_said a.variant a s k) (subst (λ (n : ℕ). IsOfConstrained a n s k) i h)
+root_said a (suc n) g s k e h = let i : g + 1 ≡ suc n = omega (arith, e) in subst (λ (n : ℕ). IsOfConstrained a n s k) i h
 
 -- a place is read in one way
 place_agree : (a : Settings) (n : ℕ) (b : Bool) (i j : ℕ) → Agree (i ≡ j) (place_form a n b i) (place_form a n b j)
@@ -103,15 +137,15 @@ module _ (a : Settings) (r e : ℕ) (ext b : Bool) {s m : Bits} (bit : Took (Ext
       let same : p.index ≡ i = (took_agree (place_agree a (count_of r e b) b p.index i) p.took k).0 in
       omega (arith, p.below, same, l)
 
-  pub place_faulty : (k : DecodeErrorKind) → IsOfPlace a b m k × NoneIn (place_form a (count_of r e b) b) m → IsOfItem a r e ext s k × NoneIn (item_form a r e ext) s
+  pub place_faulty : (k : DecodeErrorKind) → IsOfPlace a (count_of r e b) b m k × NoneIn (place_form a (count_of r e b) b) m → IsOfItem a r e ext s k × NoneIn (item_form a r e ext) s
   place_faulty k h = (go b bit k h.0, no_place h.1)
     where
-      go : (b : Bool) → Took (ExtensionBit ext b) s m → (k : DecodeErrorKind) → IsOfPlace a b m k → IsOfItem a r e ext s k
-      go false bit k h = tested_item a r e ext s k h
+      go : (b : Bool) → Took (ExtensionBit ext b) s m → (k : DecodeErrorKind) → IsOfPlace a (count_of r e b) b m k → IsOfItem a r e ext s k
+      go false bit k h = of_places a r e ext s k (of_root a r ext k bit h)
       go true bit UnexpectedEmptyInput h = (h.0, took_then bit h.1)
-      go true bit (EnumerationIndexNotFound i x) h = absurd h
-      go true bit (IntegerOverflow w) h = absurd h
-      go true bit _ h = h
+      go true bit (EnumerationIndexNotFound i x) h = absurd (small_tested a m (EnumerationIndexNotFound i x) h)
+      go true bit (IntegerOverflow w) h = absurd (small_tested a m (IntegerOverflow w) h)
+      go true bit k h = of_added a r ext k bit h
 
   -- a place that is read, and the item that stands there
   pub item_there : {E : Type 0} (value : E → Value) (place : Option ℕ) (x : E) {t : Bits} → count_of r e b < 2 ^ 64 → OfIndex (λ i. Took (place_form a (count_of r e b) b i) m t) place → IsThere value (count_of r e b) b place x

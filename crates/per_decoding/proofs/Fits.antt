@@ -1,5 +1,5 @@
 -- A number that was read under bounds, and what was made of it.
-use Rattle.std.proofs.Common.{◌≡◌, ◌∙◌, refl, sym, subst, inr, false, ℕ, Option, Some, None, ℤ, pos, negsuc}
+use Rattle.std.proofs.Common.{◌≡◌, ◌∙◌, refl, sym, subst, inr, false, ℕ, ◌+◌, Option, Some, None, ℤ, pos, negsuc}
 use Rattle.std.specs.Prelude.{option_map}
 use Rattle.rasn_types.specs.Bits.{Bits}
 use Rattle.rasn_constraints.specs.Bounds.{Bounds}
@@ -16,7 +16,8 @@ use Rattle.per_read.specs.declared.error.DecodeErrorKind.{DecodeErrorKind}
 use Rattle.per_read.specs.declared.error.DecodeErrorKind.TheVariants.{ValueConstraintNotSatisfied, IntegerOverflow, UnexpectedEmptyInput}
 use Rattle.per_read.specs.declared.numbers.ReadNumber.{ReadNumber}
 use Rattle.per_read.specs.declared.numbers.ReadNumber.TheVariants.{Held, Below, Above}
-use Rattle.per_read.proofs.Refusals.{tested_number}
+use Rattle.rasn_constraints.specs.Bounds.{above}
+use Rattle.per_read.proofs.OfFields.{constrained_tested, unconstrained_tested}
 use Rattle.per_decoding.proofs.Within.{number_within, within_under, no_other}
 
 -- the bounds that a constraint states
@@ -80,11 +81,14 @@ form_number a bounds range s {u = u} el eu k h = go bounds.low bounds.high k (su
   where
     go : (l u : Option ℤ) (k : DecodeErrorKind) → IsOfForm a l u s k → IsOfNumber a (record { low = l; high = u }) false range s k
     go None u UnexpectedEmptyInput h = record { rest = h.0; took = h.1 }
-    go None u (ValueConstraintNotSatisfied told) h = absurd h
-    go None u (IntegerOverflow width) h = absurd h
+    go None u (ValueConstraintNotSatisfied told) h = absurd (unconstrained_tested (ValueConstraintNotSatisfied told) h)
+    go None u (IntegerOverflow width) h = absurd (unconstrained_tested (IntegerOverflow width) h)
     go None u _ h = h
     go (Some l) None UnexpectedEmptyInput h = record { rest = h.0; took = h.1 }
-    go (Some l) None (ValueConstraintNotSatisfied told) h = absurd h
-    go (Some l) None (IntegerOverflow width) h = absurd h
+    go (Some l) None (ValueConstraintNotSatisfied told) h = absurd (unconstrained_tested (ValueConstraintNotSatisfied told) h)
+    go (Some l) None (IntegerOverflow width) h = absurd (unconstrained_tested (IntegerOverflow width) h)
     go (Some l) None _ h = h
-    go (Some l) (Some u) k h = tested_number a (record { low = Some l; high = Some u }) false range s k h
+    go (Some l) (Some u) UnexpectedEmptyInput h = absurd (constrained_tested a (above l u + 1) s UnexpectedEmptyInput h)
+    go (Some l) (Some u) (ValueConstraintNotSatisfied told) h = absurd (constrained_tested a (above l u + 1) s (ValueConstraintNotSatisfied told) h)
+    go (Some l) (Some u) (IntegerOverflow width) h = absurd (constrained_tested a (above l u + 1) s (IntegerOverflow width) h)
+    go (Some l) (Some u) _ h = h

@@ -7,19 +7,19 @@ use Rattle.per_core.specs.Spellings.{Settings}
 use Rattle.per_core.specs.Took.{Took}
 use Rattle.per_core.proofs.Took.{took_then, took_map}
 use Rattle.per_decoding.specs.ChoiceIndexes.{IsKnown, IsOfIndex, IsUnknown, index_form}
-use Rattle.per_decoding.specs.Enumerations.{IsOfPlace, count_of, item_form, place_form, side_of}
-use Rattle.per_read.specs.Kinds.{IsTested, NoneIn}
+use Rattle.per_decoding.specs.Enumerations.{IsOfPlace, IsOfPlaces, count_of, item_form, place_form, side_of}
+use Rattle.per_read.specs.Kinds.{NoneIn}
 use Rattle.per_read.specs.SmallNumbers.{OfIndex}
 use Rattle.per_read.specs.declared.error.DecodeErrorKind.{DecodeErrorKind}
 use Rattle.per_read.specs.declared.error.DecodeErrorKind.TheVariants.{ChoiceIndexExceedsPlatformWidth, ChoiceIndexNotFound, UnexpectedEmptyInput}
-use Rattle.per_decoding.proofs.Enumerations.{item_on, no_extension as no_item_bit, no_item, no_place as no_item_place}
+use Rattle.per_decoding.proofs.Enumerations.{item_on, no_extension as no_item_bit, no_item, no_place as no_item_place, of_added, of_root, places_tested, small_tested}
 
--- a kind that tests show may come with an index
-pub tested_index : (a : Settings) (r e : ℕ) (ext : Bool) (s : Bits) (k : DecodeErrorKind) → IsTested k → IsOfIndex a r e ext s k
-tested_index a r e ext s (ChoiceIndexNotFound i) h = absurd h
-tested_index a r e ext s ChoiceIndexExceedsPlatformWidth h = absurd h
-tested_index a r e ext s UnexpectedEmptyInput h = absurd h
-tested_index a r e ext s _ h = h
+-- what a kind says of an extension bit and a place, it says of an index
+pub places_index : (a : Settings) (r e : ℕ) (ext : Bool) (s : Bits) (k : DecodeErrorKind) → IsOfPlaces a r ext s k → IsOfIndex a r e ext s k
+places_index a r e ext s (ChoiceIndexNotFound i) h = absurd (places_tested a r ext s (ChoiceIndexNotFound i) h)
+places_index a r e ext s ChoiceIndexExceedsPlatformWidth h = absurd (places_tested a r ext s ChoiceIndexExceedsPlatformWidth h)
+places_index a r e ext s UnexpectedEmptyInput h = absurd (places_tested a r ext s UnexpectedEmptyInput h)
+places_index a r e ext s _ h = h
 
 -- an index is an item of as many
 as_item : (a : Settings) (r e : ℕ) (ext : Bool) (d : Side) (i : ℕ) {s t : Bits} → Took (Item a r e ext d i) s t → Took (item_form a r e ext (item d i)) s t
@@ -40,15 +40,15 @@ no_extension a r e ext none = none_of a r e ext (no_item_bit a r e ext none)
 
 module _ (a : Settings) (r e : ℕ) (ext b : Bool) {s m : Bits} (bit : Took (ExtensionBit ext b) s m) where
   -- none without a place
-  pub place_faulty : (k : DecodeErrorKind) → IsOfPlace a b m k × NoneIn (place_form a (count_of r e b) b) m → IsOfIndex a r e ext s k × NoneIn (index_form a r e ext) s
+  pub place_faulty : (k : DecodeErrorKind) → IsOfPlace a (count_of r e b) b m k × NoneIn (place_form a (count_of r e b) b) m → IsOfIndex a r e ext s k × NoneIn (index_form a r e ext) s
   place_faulty k h = (go b bit k h.0, none_of a r e ext (no_item_place a r e ext b bit h.1))
     where
-      go : (b : Bool) → Took (ExtensionBit ext b) s m → (k : DecodeErrorKind) → IsOfPlace a b m k → IsOfIndex a r e ext s k
-      go false bit k h = tested_index a r e ext s k h
+      go : (b : Bool) → Took (ExtensionBit ext b) s m → (k : DecodeErrorKind) → IsOfPlace a (count_of r e b) b m k → IsOfIndex a r e ext s k
+      go false bit k h = places_index a r e ext s k (of_root a r ext k bit h)
       go true bit UnexpectedEmptyInput h = (h.0, took_then bit h.1)
-      go true bit (ChoiceIndexNotFound i) h = absurd h
-      go true bit ChoiceIndexExceedsPlatformWidth h = absurd h
-      go true bit _ h = h
+      go true bit (ChoiceIndexNotFound i) h = absurd (small_tested a m (ChoiceIndexNotFound i) h)
+      go true bit ChoiceIndexExceedsPlatformWidth h = absurd (small_tested a m ChoiceIndexExceedsPlatformWidth h)
+      go true bit k h = of_added a r ext k bit h
 
   -- a place that is read, and the alternative that stands there
   pub index_there : (place : Option ℕ) (x : Side × ℕ) {t : Bits} → count_of r e b < 2 ^ 64 → OfIndex (λ i. Took (place_form a (count_of r e b) b i) m t) place → IsKnown (count_of r e b) b place x

@@ -1,16 +1,19 @@
 -- An extensible constraint's bit, and the number behind it (X.691 13.1).
-use Rattle.std.proofs.Common.{◌≡◌, ◌∷◌, true, false, [], inr, ℤ}
+use Rattle.std.proofs.Common.{◌≡◌, ◌∷◌, true, false, [], inl, inr, ℤ}
 use Rattle.rasn_types.specs.Bits.{Bits}
 use Rattle.rasn_constraints.specs.Bounds.{Bounds, unbounded}
 use Rattle.per_core.specs.Spellings.{Settings, never}
 use Rattle.per_core.specs.Basic.{IsNumber, IsNumberOf, IsUnconstrainedWhole}
 use Rattle.per_core.specs.Took.{Took}
 use Rattle.per_core.proofs.Took.{took_map}
-use Rattle.per_read.specs.Kinds.{Faulty, NoneIn, Refused}
-use Rattle.per_read.specs.Numbers.{IsOfNumber, no_octets, under_bounds, within_bounds}
+use Rattle.per_read.specs.Fields.{IsOfField, IsOfUnconstrained}
+use Rattle.per_read.specs.Kinds.{Faulty, IsTested, NoneIn}
+use Rattle.per_read.specs.Numbers.{IsOfForm, IsOfNumber, IsOfOctets, no_octets, under_bounds, within_bounds}
 use Rattle.per_read.specs.declared.error.DecodeErrorKind.{DecodeErrorKind}
 use Rattle.per_read.specs.declared.error.DecodeErrorKind.TheVariants.{IntegerOverflow, UnexpectedEmptyInput, ValueConstraintNotSatisfied}
-use Rattle.per_read.proofs.Refusals.{tested_number, faulty_map}
+use Rattle.per_read.proofs.Calls.{of_short}
+use Rattle.per_read.proofs.OfFields.{in_marked, past_marked, unconstrained_tested}
+use Rattle.per_read.proofs.Refusals.{faulty_map}
 use Rattle.per_read.proofs.Marked.{mark_in, mark_past, in_mark, past_mark, no_mark}
 
 module _ (a : Settings) (bounds range : Bounds) {s m : Bits} where
@@ -54,7 +57,7 @@ module _ (a : Settings) (bounds range : Bounds) {s m : Bits} where
     took = mark_in (within_bounds a bounds) (IsUnconstrainedWhole a) e h.number h.rest h.took;
     none = λ b. h.none (root_back e h.number h.rest b);
   }
-  root_kind _ e h = h
+  root_kind k e h = in_marked (IsOfForm a bounds.low bounds.high) (IsOfOctets a) k e h
 
   past_kind : (k : DecodeErrorKind) → s ≡ true ∷ m → IsOfNumber a unbounded false range m k → IsOfNumber a bounds true range s k
   past_kind UnexpectedEmptyInput e h = record { rest = h.rest; took = mark_past (no_octets a) (λ b. no_octets a unbounded) e bounds h.rest h.took }
@@ -65,7 +68,7 @@ module _ (a : Settings) (bounds range : Bounds) {s m : Bits} where
     took = mark_past (within_bounds a bounds) (IsUnconstrainedWhole a) e h.number h.rest (took_map (λ p c x. x.1) h.took);
     none = λ b. h.none (past_back e h.number h.rest b);
   }
-  past_kind _ e h = h
+  past_kind k e h = past_marked (IsOfForm a bounds.low bounds.high) (IsOfOctets a) k e h
 
   pub faulty_root : (k : DecodeErrorKind) → s ≡ false ∷ m → Faulty (IsOfNumber a bounds false range m) (NoneIn (IsNumberOf a bounds false range) m) k
       → Faulty (IsOfNumber a bounds true range s) (NoneIn (IsNumberOf a bounds true range) s) k
@@ -75,9 +78,22 @@ module _ (a : Settings) (bounds range : Bounds) {s m : Bits} where
       → Faulty (IsOfNumber a bounds true range s) (NoneIn (IsNumberOf a bounds true range) s) k
   faulty_past k e = faulty_map k (past_kind k e) (λ none z t b. none z t (past_back e z t b))
 
+-- what a kind says of the octets of a number without bounds
+pub octets_number_said : (a : Settings) (range : Bounds) (s : Bits) (k : DecodeErrorKind) → IsOfUnconstrained a 8 s k → IsOfNumber a unbounded false range s k
+octets_number_said a range s UnexpectedEmptyInput h = absurd (let i : IsTested UnexpectedEmptyInput = unconstrained_tested UnexpectedEmptyInput h in i)
+octets_number_said a range s (ValueConstraintNotSatisfied told) h = absurd (let i : IsTested (ValueConstraintNotSatisfied told) = unconstrained_tested (ValueConstraintNotSatisfied told) h in i)
+octets_number_said a range s (IntegerOverflow width) h = absurd (let i : IsTested (IntegerOverflow width) = unconstrained_tested (IntegerOverflow width) h in i)
+octets_number_said a range s _ h = h
+
 -- and where there is no bit, there is no number
-pub no_bit : (a : Settings) (bounds range : Bounds) {s : Bits} (k : DecodeErrorKind) → Refused (s ≡ []) k → Faulty (IsOfNumber a bounds true range s) (NoneIn (IsNumberOf a bounds true range) s) k
+bit_number : (a : Settings) (bounds range : Bounds) (s : Bits) (k : DecodeErrorKind) → IsOfField 1 s k → IsOfNumber a bounds true range s k
+bit_number a bounds range s UnexpectedEmptyInput h = absurd (let i : IsTested UnexpectedEmptyInput = of_short UnexpectedEmptyInput h in i)
+bit_number a bounds range s (ValueConstraintNotSatisfied told) h = absurd (let i : IsTested (ValueConstraintNotSatisfied told) = of_short (ValueConstraintNotSatisfied told) h in i)
+bit_number a bounds range s (IntegerOverflow width) h = absurd (let i : IsTested (IntegerOverflow width) = of_short (IntegerOverflow width) h in i)
+bit_number a bounds range s _ h = inl h
+
+pub no_bit : (a : Settings) (bounds range : Bounds) {s : Bits} (k : DecodeErrorKind) → IsOfField 1 s k × (s ≡ []) → Faulty (IsOfNumber a bounds true range s) (NoneIn (IsNumberOf a bounds true range) s) k
 no_bit a bounds range {s} k h = inr (
-  tested_number a bounds true range s k h.0,
+  bit_number a bounds range s k h.0,
   λ z t b. no_mark (IsNumber a bounds) (IsNumber a unbounded) h.1 z t (record { front = b.front; joins = b.joins; spelled = b.spelled.spelled }),
 )

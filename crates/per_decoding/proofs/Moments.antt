@@ -1,6 +1,6 @@
 -- Identifiers and times (X.691 24 and 30).
 use Rattle.std.proofs.Common.{◌≡◌, ◌∙◌, ℕ, Bool, List, true, false, sym, ap, refl}
-use Rattle.rasn_types.specs.Alphabets.{visible}
+use Rattle.rasn_types.specs.Alphabets.{char_width, visible}
 use Rattle.rasn_types.specs.Bits.{Bits}
 use Rattle.rasn_types.specs.Contents.{TimeKind, is_identifier, is_time}
 use Rattle.rasn_types.specs.Values.{characters}
@@ -12,12 +12,15 @@ use Rattle.per_core.specs.Took.{Took}
 use Rattle.per_core.proofs.LengthForms.{same_octets}
 use Rattle.per_core.proofs.Readings.{one_reading}
 use Rattle.per_core.proofs.Took.{took_map, took_agree}
-use Rattle.per_read.specs.Kinds.{IsTested, NoneIn}
+use Rattle.per_read.specs.Fields.{IsOfUnconstrained}
+use Rattle.per_read.specs.Kinds.{NoneIn}
 use Rattle.per_decoding.specs.Times.{IsNoObject, IsNoTime, IsOfIdentifier, IsOfTime, identifier_form, time_form}
 use Rattle.per_read.specs.Strings.{IsOfString}
 use Rattle.per_read.specs.declared.error.DecodeErrorKind.{DecodeErrorKind}
 use Rattle.per_read.specs.declared.error.DecodeErrorKind.TheVariants.{Below}
 use Rattle.per_read.proofs.Fields.{when_took}
+use Rattle.per_read.proofs.OfFields.{counted_items_tested, unconstrained_tested}
+use Rattle.per_core.specs.declared.items.Item.TheVariants.{Character}
 
 -- a test fails where what it asks for isn't answered
 pub fails_unless : (b : Bool) → (b ≡ true → false ≡ true) → b ≡ false
@@ -25,10 +28,10 @@ fails_unless true h = sym (h refl)
 fails_unless false h = refl
 
 module _ (a : Settings) where
-  -- a kind that tests show may come with an identifier
-  pub tested_identifier : (s : Bits) (k : DecodeErrorKind) → IsTested k → IsOfIdentifier a s k
-  tested_identifier s Below h = absurd h
-  tested_identifier s _ h = h
+  -- what a kind says of the octets of an identifier
+  pub octets_identifier : (s : Bits) (k : DecodeErrorKind) → IsOfUnconstrained a 8 s k → IsOfIdentifier a s k
+  octets_identifier s Below h = absurd (unconstrained_tested Below h)
+  octets_identifier s _ h = h
 
   pub none_of_identifier : {s : Bits} → NoneIn (Octets a) s → NoneIn (identifier_form a) s
   none_of_identifier none os t b = none os t (when_took b).1
@@ -55,7 +58,7 @@ module _ (a : Settings) where
 
   module _ (kind : TimeKind) where
     pub time_kind : (s : Bits) (k : DecodeErrorKind) → IsOfString a visible any_size false s k → IsOfTime a kind s k
-    time_kind s Below h = absurd h
+    time_kind s Below h = absurd (counted_items_tested a any_size false (Character (char_width a.variant visible)) s Below h)
     time_kind s _ h = h
 
     pub none_of_time : {s : Bits} → NoneIn (String a visible any_size false) s → NoneIn (time_form a kind) s

@@ -7,8 +7,7 @@ use Rattle.rasn_schema.specs.declared.items.Place.TheVariants.{Root, Added}
 use Rattle.per_core.specs.Basic.{ExtensionBit, Item}
 use Rattle.per_core.specs.Spellings.{Settings, Spelling, Then}
 use Rattle.per_core.specs.Took.{Took}
-use Rattle.per_decoding.specs.Enumerations.{IsPlace, count_of, side_of}
-use Rattle.per_read.specs.Kinds.{IsTested}
+use Rattle.per_decoding.specs.Enumerations.{IsOfPlaces, IsPlace, count_of, side_of}
 use Rattle.per_read.specs.SmallNumbers.{empty_form}
 use Rattle.per_read.specs.declared.error.DecodeErrorKind.{DecodeErrorKind}
 use Rattle.per_read.specs.declared.error.DecodeErrorKind.TheVariants.{ChoiceIndexExceedsPlatformWidth}
@@ -32,7 +31,7 @@ IsOfIndex a r e ext s (ChoiceIndexNotFound i) =
 IsOfIndex a r e ext s ChoiceIndexExceedsPlatformWidth =
     (extended : Bool) × (i : ℕ) × (2 ^ 64 ≤ i) × IsPlace a (count_of r e extended) ext extended i s
 IsOfIndex a r e ext s UnexpectedEmptyInput = (t : Bits) × Took (Then (ExtensionBit ext true) (empty_form a)) s t
-IsOfIndex a r e ext s k = IsTested k
+IsOfIndex a r e ext s k = IsOfPlaces a r ext s k
 
 -- an alternative stands at a place that was read
 pub record IsKnown (count : ℕ) (extended : Bool) (place : Option ℕ) (x : Side × ℕ) : Type 0 where

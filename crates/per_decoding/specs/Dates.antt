@@ -1,5 +1,5 @@
 -- DATE as it is read (ITU-T X.691, 32): why a year, a month and a day are refused.
-use Rattle.std.specs.Prelude.{◌≡◌, ℕ, suc, false, [], Option, ℤ, pos}
+use Rattle.std.specs.Prelude.{◌≡◌, ◌⊎◌, ℕ, zero, suc, false, [], Option, ℤ, pos}
 use Rattle.rasn_types.specs.Bits.{Bits}
 use Rattle.rasn_types.specs.Contents.{is_date}
 use Rattle.rasn_constraints.specs.Bounds.{between}
@@ -7,8 +7,8 @@ use Rattle.per_core.specs.Basic.{IsConstrainedWhole, Octets, Year}
 use Rattle.per_core.specs.Spellings.{Settings, Spelling, Field, Then}
 use Rattle.per_core.specs.Took.{Took}
 use Rattle.rasn_constraints.specs.ToldBounds.{lower_of, upper_of, value_of}
-use Rattle.per_read.specs.Kinds.{IsTested}
-use Rattle.per_read.specs.Numbers.{IsOutside}
+use Rattle.per_read.specs.Fields.{Behind, IsOfField, IsOfUnconstrained, Says}
+use Rattle.per_read.specs.Numbers.{IsOfConstrained, IsOutside}
 use Rattle.per_read.specs.declared.error.DecodeErrorKind.{DecodeErrorKind}
 use Rattle.per_read.specs.declared.error.DecodeErrorKind.TheVariants.{InvalidDate}
 use Rattle.per_read.specs.declared.error.DecodeErrorKind.TheVariants.{UnexpectedEmptyInput, ValueConstraintNotSatisfied}
@@ -40,9 +40,29 @@ pub record IsEmptyYear (a : Settings) (s : Bits) : Type 0 where
   pub rest : Bits
   pub took : Took (Then (Field 2 3) (Octets a [])) s rest
 
+-- of the year in a range, by the index of this
+abbrev pub IsOfYearIn : Settings → ℕ → Says
+IsOfYearIn a zero = IsOfConstrained a 16
+IsOfYearIn a (suc zero) = IsOfConstrained a 256
+IsOfYearIn a (suc (suc zero)) = IsOfConstrained a 256
+IsOfYearIn a (suc (suc (suc n))) = IsOfUnconstrained a 8
+
+-- of a year: of the index of its range, or of the year in that
+abbrev pub IsOfYearField : Settings → Says
+IsOfYearField a s k = IsOfField 2 s k ⊎ ((range : ℕ) × Behind (Field 2 range) (IsOfYearIn a range) s k)
+
+-- of the day behind a year and a month
+abbrev pub IsOfLastField : Settings → Says
+IsOfLastField a m k = (month : ℕ) × Behind (IsConstrainedWhole a 12 month) (IsOfConstrained a 31) m k
+
+-- of a year, of the month behind it, or of the day behind both
+abbrev pub IsOfDayField : Settings → Says
+IsOfDayField a s k = IsOfYearField a s k ⊎ (((year : ℤ) × Behind (Year a year) (IsOfConstrained a 12) s k)
+    ⊎ ((year : ℤ) × Behind (Year a year) (IsOfLastField a) s k))
+
 -- what a kind says of a DATE
 abbrev pub IsOfDate : Settings → Bits → DecodeErrorKind → Type 0
 IsOfDate a s InvalidDate = IsNoDay a s
 IsOfDate a s (ValueConstraintNotSatisfied told) = IsNoPart a (value_of told) (lower_of told) (upper_of told) s
 IsOfDate a s UnexpectedEmptyInput = IsEmptyYear a s
-IsOfDate a s k = IsTested k
+IsOfDate a s k = IsOfDayField a s k

@@ -8,7 +8,8 @@ use Rattle.rasn_schema.specs.declared.items.Place.TheVariants.{Root, Added}
 use Rattle.per_core.specs.Basic.{As, ExtensionBit, Item, constrained_form}
 use Rattle.per_core.specs.Spellings.{Settings, Spelling, Then, When}
 use Rattle.per_core.specs.Took.{Took}
-use Rattle.per_read.specs.Kinds.{IsTested}
+use Rattle.per_read.specs.Fields.{IsOfField, IsOfMarked, IsOfUnconstrained, Says}
+use Rattle.per_read.specs.Numbers.{IsOfConstrained}
 use Rattle.per_read.specs.SmallNumbers.{IsOfSmall, empty_form, small_form}
 use Rattle.per_read.specs.declared.error.DecodeErrorKind.{DecodeErrorKind}
 use Rattle.per_read.specs.declared.error.DecodeErrorKind.TheVariants.{EnumerationIndexNotFound, IntegerOverflow}
@@ -38,10 +39,19 @@ pub record IsPlace (a : Settings) (count : ℕ) (extensible : Bool) (extended : 
   pub rest : Bits
   pub took : Took (Then (ExtensionBit extensible extended) (place_form a count extended i)) s rest
 
--- what a kind says of a place in a list
-abbrev pub IsOfPlace : Settings → Bool → Bits → DecodeErrorKind → Type 0
-IsOfPlace a false s k = IsTested k
-IsOfPlace a true s k = IsOfSmall a s k
+-- what a kind says of a place in a list of so many items
+abbrev pub IsOfPlace : Settings → (count : ℕ) → Bool → Bits → DecodeErrorKind → Type 0
+IsOfPlace a n false s k = IsOfConstrained a n s k
+IsOfPlace a n true s k = IsOfSmall a s k
+
+-- X.691 14.3, 19.1, 23.5: of an extension bit
+abbrev pub IsOfExtension : Bool → Says
+IsOfExtension true s k = IsOfField 1 s k
+IsOfExtension false s k = ⊥
+
+-- X.691 14, 23.5 to 23.8: of an extension bit, and of the place behind it in the list that it tells
+abbrev pub IsOfPlaces : Settings → (roots : ℕ) → (extensible : Bool) → Says
+IsOfPlaces a r ext = IsOfMarked ext (IsOfConstrained a r) (IsOfMarked true (IsOfField 6) (IsOfUnconstrained a 8))
 
 -- what a kind says of an item: at a place that is read no item stands, a place is past 64 bits, or a large form has no
 -- octets
@@ -51,7 +61,7 @@ IsOfItem a r e ext s (EnumerationIndexNotFound i extended) =
 IsOfItem a r e ext s (IntegerOverflow width) =
     (width ≡ 64) × ((extended : Bool) × (i : ℕ) × (2 ^ 64 ≤ i) × IsPlace a (count_of r e extended) ext extended i s)
 IsOfItem a r e ext s UnexpectedEmptyInput = (t : Bits) × Took (Then (ExtensionBit ext true) (empty_form a)) s t
-IsOfItem a r e ext s k = IsTested k
+IsOfItem a r e ext s k = IsOfPlaces a r ext s k
 
 -- the item at a place
 abbrev pub placed_item : Place → Value

@@ -8,19 +8,21 @@ use Rattle.rasn_types.specs.Values.{Value, root, added}
 use Rattle.rasn_schema.specs.Canonised.{canonised}
 use Rattle.rasn_schema.specs.Choices.{alternative_at, choice_schema, tags_of}
 use Rattle.rasn_schema.specs.Fields.{field_tag, tag_of}
+use Rattle.rasn_schema.specs.Lawful.{presence_bits}
 use Rattle.rasn_schema.specs.Schemas
 use Rattle.rasn_schema.specs.Schemas.{TagTree, Presence, by_tag, required, Schema, Parts, no_parts, part}
 use Rattle.rasn_traits.specs.Additions.{extended}
-use Rattle.per_core.specs.Counts.{list_items}
 use Rattle.per_core.specs.Spellings.{Settings}
 use Rattle.per_core.specs.Basic.{basic, rules, Body, ExtensionBit, Flags, IsBitmap, Octets, Root}
 use Rattle.per_core.specs.Took.{Took}
 use Rattle.per_decoding.specs.ChoiceIndexes.{IsOfIndex, index_form}
-use Rattle.per_decoding.specs.Enumerations.{IsOfItem}
-use Rattle.per_read.specs.Kinds.{IsShort, IsTested, NoneIn}
+use Rattle.per_decoding.specs.Enumerations.{IsOfExtension, IsOfItem}
+use Rattle.per_read.specs.Fields.{Behind, IsOfField, IsOfUnconstrained, Says}
+use Rattle.per_read.specs.InLists.{IsOfList}
+use Rattle.per_read.specs.Kinds.{NoneIn}
 use Rattle.per_decoding.specs.Times.{IsOfIdentifier, IsOfTime}
 use Rattle.per_read.specs.Numbers.{IsOfNumber}
-use Rattle.per_read.specs.Sizes.{IsOfItems, IsOfSize}
+use Rattle.per_read.specs.Sizes.{IsOfItems}
 use Rattle.per_read.specs.Strings.{IsOfString, IsOfText}
 use Rattle.per_read.specs.UpTo.{UpTo}
 use Rattle.per_core.specs.declared.items.Item.TheVariants.{Octet, Bit}
@@ -30,7 +32,7 @@ use Rattle.per_read.specs.declared.error.DecodeErrorKind.TheVariants.{ExceedsMax
 use Rattle.per_read.specs.declared.error.DecodeErrorKind.TheVariants.{RealNotSupported, RequiredExtensionNotPresent}
 use Rattle.per_read.specs.declared.error.DecodeErrorKind.TheVariants.{TypeNotExtensible}
 use Rattle.per_read.specs.Additions.{Addition, NextFlag, rule_of}
-use Rattle.per_read.specs.Bitmaps.{skipped_unknown}
+use Rattle.per_read.specs.Bitmaps.{IsOfBitmap, IsOfUnknown, skipped_unknown}
 use Rattle.per_read.specs.Ends.{IsOfEnd}
 use Rattle.per_decoding.specs.Additions.{Asks, Shown, OutsideAddition}
 use Rattle.per_decoding.specs.Dates.{IsOfDate}
@@ -46,9 +48,14 @@ abbrev pub IsOfReal : DecodeErrorKind → Type 0
 IsOfReal RealNotSupported = Unit {0}
 IsOfReal k = ⊥
 
+-- X.691 19.1, 19.2: of the extension bit of a record, or of the presence bits of its root components behind that
+abbrev pub IsOfHead : Settings → Parts → Bool → Says
+IsOfHead a ps marker s k = IsOfExtension marker s k
+    ⊎ ((extends : Bool) × Behind (ExtensionBit marker extends) (IsOfField (presence_bits ps)) s k)
+
 -- What a kind says of the first of bits, as a schema reads them. Kinds that no call answers yet say what never holds.
 abbrev pub IsAt : Settings → Schema → Bits → DecodeErrorKind → Type 0
-IsAt a Schema.boolean s k = IsShort k
+IsAt a Schema.boolean s k = IsOfField 1 s k
 IsAt a Schema.null s k = ⊥
 IsAt a (Schema.number bounds mark range) s k = IsOfNumber a bounds mark range s k
 IsAt a (Schema.items r e ext) s k = IsOfItem a r e ext s k
@@ -62,10 +69,11 @@ IsAt a (Schema.time kind) s k = IsOfTime a kind s k
 IsAt a Schema.date s k = IsOfDate a s k
 IsAt a Schema.real s k = IsOfReal k
 IsAt a (Schema.containing e) s k = ⊥
-IsAt a (Schema.list e size mark) s k = IsOfSize a size mark list_items (basic a e) s k
-IsAt a (Schema.set_of e size mark) s k = IsOfSize a size mark list_items (basic a e) s k
+IsAt a (Schema.list e size mark) s k = IsOfList a size mark (basic a e) s k
+IsAt a (Schema.set_of e size mark) s k = IsOfList a size mark (basic a e) s k
 IsAt a Schema.cut s k = IsOfCut k
-IsAt a c s k = IsTested k
+IsAt a (Schema.sequence o ps marker qs) s k = IsOfHead a ps marker s k
+IsAt a Schema.any s k = IsOfUnconstrained a 8 s k
 
 -- a required addition isn't there, of this tag (X.691 19.9)
 pub record IsOfLacking (t : Schemas.Tag) (k : DecodeErrorKind) : Type 0 where
@@ -112,7 +120,7 @@ mutual
 
   -- It stands in the bitmap of additions, where that is still ahead, or behind it, in an addition (X.691 19.7 to 19.9).
   pub data IsInTail (a : Settings) (k : DecodeErrorKind) : Parts → Extension → Bits → Type 0 where
-    in_bitmap : {qs : Parts} {s : Bits} → IsTested k → NoneIn (IsBitmap a) s → IsInTail a k qs ahead s
+    in_bitmap : {qs : Parts} {s : Bits} → IsOfBitmap a s k → NoneIn (IsBitmap a) s → IsInTail a k qs ahead s
     behind_bitmap : {qs : Parts} {x : Extension} {s m : Bits} (flags : List Bool) → Took (Shown a x flags) s m
         → IsInAdditions a k qs flags m
         → IsInTail a k qs x s
@@ -129,12 +137,12 @@ mutual
         (flag : Option Bool) (r : Option Value) → NextFlag flags flag rest
         → Took (Addition a (rule_of a p c) r flag) s m
         → IsInAdditions a k qs rest m → IsInAdditions a k (part t p c qs) flags s
-    in_unknown : {flags : List Bool} {s : Bits} → IsTested k → NoneIn (skipped_unknown flags a) s
+    in_unknown : {flags : List Bool} {s : Bits} → IsOfUnknown flags a s k → NoneIn (skipped_unknown flags a) s
         → IsInAdditions a k no_parts flags s
 
   -- It stands in an open type: in its length or its octets, in the value in them, or at their end (X.691 11.1, 11.2).
   pub data IsInOpen (a : Settings) (k : DecodeErrorKind) : Schema → Bits → Type 0 where
-    in_octets : {c : Schema} {s : Bits} → IsTested k → NoneIn (Octets a) s → IsInOpen a k c s
+    in_octets : {c : Schema} {s : Bits} → IsOfUnconstrained a 8 s k → NoneIn (Octets a) s → IsInOpen a k c s
     in_contents : {c : Schema} {s m : Bits} (octets : List ℕ) → Took (Octets a octets) s m
         → IsInBits a k c (unpack octets)
         → IsInOpen a k c s
@@ -170,7 +178,8 @@ IsUnmarked e s = ((e ≡ refusal MissingTag s) × (s.presences ≡ [])) ⊎ ((e 
 pub data IsInNext (k : DecodeErrorKind) (c : Schema) (s : State) : Type 0 where
   out_of_turn : k ≡ MissingTag → (s.presences ≡ [] → ⊥) → IsInNext k c s
   not_expected : k ≡ TypeNotExtensible → s.expected ≡ 0 → IsInNext k c s
-  at_bitmap : s.extension ≡ ahead → IsTested k → NoneIn (IsBitmap (settings_of s)) s.bits → IsInNext k c s
+  at_bitmap : s.extension ≡ ahead → IsOfBitmap (settings_of s) s.bits k → NoneIn (IsBitmap (settings_of s)) s.bits
+      → IsInNext k c s
   in_open : {m : State} → Asks s (Some true) m → IsInOpen (settings_of s) k c m.bits → IsInNext k c s
 
 -- What a kind says of the decoder, where an addition is asked for.

@@ -1,12 +1,12 @@
 -- The rules of a decoder that takes what spells a value off the front of the bits left.
-use Rattle.std.specs.Prelude.{◌≡◌, ℕ, false, length}
+use Rattle.std.specs.Prelude.{◌≡◌, ℕ, true, false, [], length}
 use Rattle.rasn_traits.specs.Amounts.{Amount}
 use Rattle.rasn_traits.specs.Calls.{DecoderRules}
 use Rattle.per_read.specs.declared.error.DecodeError.{DecodeError}
 use Rattle.per_read.specs.declared.error.DecodeErrorKind.TheVariants.{AlreadyFailed, MissingTag, OutOfMemory}
 use Rattle.per_decoding.specs.Additions.{Adds}
 use Rattle.per_decoding.specs.State.{State, Marks, Spells, noting, noting_bit}
-use Rattle.per_decoding.specs.Turns.{awaiting, next, within_list}
+use Rattle.per_decoding.specs.Turns.{awaiting, in_list, is_complete, is_counted, next}
 use Rattle.per_decoding.specs.Faults.{Fault, IsUnmarked, Lacks, Misadds, refusal}
 
 -- The rules of a decoder as though it counted nothing of what comes in a scope.
@@ -37,10 +37,17 @@ pub record Awaits (due : Amount) (s : State) : Type 0 where
   pub bits : length s.presences ≡ due.bits
   pub additions : s.expected ≡ due.additions
 
--- A list is still open here, which is a component of what is around it.
+-- A list is still open here, which is a component of what is around it: where that counts what comes, it can't end.
 pub record Amidst (s t : State) : Type 0 where
   pub live : t.failed ≡ false
-  pub within : t.turn ≡ within_list (next s.turn)
+  pub within : is_counted (next s.turn) ≡ true → is_complete t.turn ≡ false
+
+-- In an open list so many values are to come before it is gone on in, and nothing else is left to be read.
+pub record AwaitsValues (n : ℕ) (s : State) : Type 0 where
+  pub live : s.failed ≡ false
+  pub turn : s.turn ≡ in_list n
+  pub presences : s.presences ≡ []
+  pub expected : s.expected ≡ 0
 
 -- The rules of a decoder: each component is noted, where its value begins or where its presence bit is 0.
 abbrev pub decoder_rules : DecoderRules DecodeError State

@@ -7,7 +7,7 @@ use Rattle.rasn_constraints.specs.Bounds.{any_size}
 use Rattle.per_core.specs.Basic.{Octets, Proper, String}
 use Rattle.per_core.specs.Spellings.{Settings, Spelling}
 use Rattle.per_core.specs.Took.{Took}
-use Rattle.per_read.specs.Kinds.{IsTested}
+use Rattle.per_read.specs.Fields.{IsOfUnconstrained}
 use Rattle.per_read.specs.Strings.{IsOfString}
 use Rattle.per_read.specs.declared.error.DecodeErrorKind.{DecodeErrorKind}
 use Rattle.per_read.specs.declared.error.DecodeErrorKind.TheVariants.{Below}
@@ -26,7 +26,7 @@ pub record IsNoObject (a : Settings) (s : Bits) : Type 0 where
 -- what a kind says of an OBJECT IDENTIFIER
 abbrev pub IsOfIdentifier : Settings → Bits → DecodeErrorKind → Type 0
 IsOfIdentifier a s Below = IsNoObject a s
-IsOfIdentifier a s k = IsTested k
+IsOfIdentifier a s k = IsOfUnconstrained a 8 s k
 
 -- X.691 30: the text of a time, which is a VisibleString
 abbrev pub time_form : Settings → TimeKind → List ℕ → Spelling

@@ -3,16 +3,15 @@ use Rattle.std.specs.Prelude.{◌≡◌, ◌⊎◌, ℕ, false, ℤ}
 use Rattle.rasn_types.specs.Bits.{Bits}
 use Rattle.rasn_types.specs.Contents.{is_date}
 use Rattle.per_core.specs.Spellings.{Settings}
-use Rattle.per_read.specs.Kinds.{IsTested}
 use Rattle.per_read.specs.declared.error.DecodeErrorKind.{DecodeErrorKind}
 use Rattle.per_read.specs.declared.error.DecodeErrorKind.TheVariants.{InvalidDate, OutOfMemory}
 use Rattle.per_read.specs.declared.error.DecodeErrorKind.TheVariants.{UnexpectedEmptyInput}
-use Rattle.per_decoding.specs.Dates.{IsEmptyYear}
+use Rattle.per_decoding.specs.Dates.{IsEmptyYear, IsOfYearField}
 
 -- what a kind says of a year
 abbrev pub IsOfYear : Settings → Bits → DecodeErrorKind → Type 0
 IsOfYear a s UnexpectedEmptyInput = IsEmptyYear a s
-IsOfYear a s k = IsTested k
+IsOfYear a s k = IsOfYearField a s k
 
 -- no day of the calendar has this year, month and day of the month; or memory ran out
 abbrev pub IsNoDay : ℤ → ℕ → ℕ → DecodeErrorKind → Type 0

@@ -3,13 +3,14 @@
 ghost use Rattle.std.specs.Prelude.{◌≡◌, ◌<◌, ℕ, Ok, Some, None, IfErr, IfOk, IfSome};
 ghost use Rattle.per_core.specs.Basic.{ExtensionBit, constrained_form};
 ghost use Rattle.per_core.specs.Spellings.{Settings, When};
-ghost use Rattle.per_decoding.specs.Enumerations.{IsMissing, IsOfItem, IsOfPlace, IsThere, count_of, item_form};
+ghost use Rattle.per_decoding.specs.Enumerations.{IsMissing, IsOfExtension, IsOfItem, IsOfPlace, IsThere, count_of};
+ghost use Rattle.per_decoding.specs.Enumerations.{item_form};
 ghost use Rattle.per_decoding.specs.Enumerations.{place_form, root_in_field};
 ghost use Rattle.per_read.specs.Kinds.{NoneIn};
-ghost use Rattle.per_read.specs.Numbers.{in_one_field};
+ghost use Rattle.per_read.specs.Numbers.{IsOfConstrained, in_one_field};
 ghost use Rattle.per_read.specs.SmallNumbers.{OfIndex};
 ghost use Rattle.per_read.specs.State.{settings_of};
-ghost use Rattle.per_read.specs.Takes.{Takes, itself, short, telling, tested};
+ghost use Rattle.per_read.specs.Takes.{Takes, itself, telling, tested};
 
 use per_read::Reader;
 use per_read::error::DecodeErrorKind;
@@ -50,7 +51,8 @@ pub(crate) fn take_extension_bit(
     reader: &mut Reader<'_>,
     extensible: bool,
 ) -> Result<bool, DecodeErrorKind>
-    ensures { Takes short (λ a. ExtensionBit extensible) itself reader.old result reader.new }
+    ensures { let why = telling (λ (a : Settings). IsOfExtension extensible) in
+        Takes why (λ a. ExtensionBit extensible) itself reader.old result reader.new }
 {
     if !extensible {
         return Ok(false);
@@ -65,7 +67,7 @@ pub(crate) fn take_place(
     count: usize,
     extended: bool,
 ) -> Result<Option<usize>, DecodeErrorKind>
-    ensures { Takes (telling (λ a. IsOfPlace a extended)) (λ a. place_form a count extended) OfIndex
+    ensures { Takes (telling (λ a. IsOfPlace a count extended)) (λ a. place_form a count extended) OfIndex
         reader.old result reader.new }
 {
     if extended {
@@ -81,7 +83,8 @@ pub(crate) fn take_root_place(
     reader: &mut Reader<'_>,
     count: usize,
 ) -> Result<Option<usize>, DecodeErrorKind>
-    ensures { Takes tested (λ a. constrained_form a count) OfIndex reader.old result reader.new }
+    ensures { Takes (telling (λ a. IsOfConstrained a count)) (λ a. constrained_form a count) OfIndex
+        reader.old result reader.new }
 {
     let code = reader.take_constrained_whole(count.saturating_sub(1) as u128)?;
     Ok(usize::try_from(code).ok())

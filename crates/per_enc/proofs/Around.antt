@@ -26,7 +26,7 @@ use Rattle.per_pieces.specs.Turns.{awaits, counts, Enclosing, Turn, uncounted}
 use Rattle.per_enc.specs.AlternativeCounts.{OpensChoice as OpensChoiceIn}
 use Rattle.per_enc.specs.Records.{Opens as OpensIn}
 use Rattle.per_enc.specs.Rules.{encoding_rules, noting}
-use Rattle.per_enc.specs.Scopes.{IsOpenBag, IsOpenList, OpensChoice, OpensOpenType, OpensScope}
+use Rattle.per_enc.specs.Scopes.{IsOpenElements, IsOpenMembers, OpensChoice, OpensOpenType, OpensScope}
 use Rattle.per_enc.proofs.Inside.{fields_inside, fields_refused, value_inside}
 use Rattle.per_enc.proofs.Noting.{noting_codec, refuses_noted, written_noted}
 
@@ -68,46 +68,46 @@ choice_refused choice x e y z (inl m) = inl (memory_noted e x m)
 choice_refused choice x e y z (inr r) = inr (λ n v. refuses_noted e x _ _ (r n v))
 
 -- a list
-pub list_opened : (size : Size) (mark : Bool) (n : ℕ) (x y : Encoding) (l : UnwrittenElements) (set : Enclosing) → set ≡ (noting x).set → y.set ≡ counts uncounted
-    → ListOpened encoder_rules IsOpenListIn size mark n (noting x).writer (Ok l) y.writer → ListOpened encoding_rules IsOpenList size mark n x (Ok (l, set)) y
-list_opened size mark n x y l set w i h = λ e vs c. record { opened = h e vs c; waits = w; inside = i }
+pub list_opened : (size : Size) (mark : Bool) (n : ℕ) (x y : Encoding) (l : UnwrittenElements) (o : Option Scope) (set : Enclosing) → set ≡ (noting x).set → y.set ≡ counts uncounted
+    → ListOpened encoder_rules IsOpenListIn size mark n (noting x).writer (Ok l) y.writer → ListOpened encoding_rules IsOpenElements size mark n x (Ok ((l, o), set)) y
+list_opened size mark n x y l o set w i h = λ e vs c. record { opened = h e vs c; waits = w; inside = i }
 
-pub list_refused : (size : Size) (mark : Bool) (n : ℕ) (x : Encoding) (e : EncodeError) (y : State) (z : Encoding) → ListOpened encoder_rules IsOpenListIn size mark n (noting x).writer (Err e) y → ListOpened encoding_rules IsOpenList size mark n x (Err e) z
+pub list_refused : (size : Size) (mark : Bool) (n : ℕ) (x : Encoding) (e : EncodeError) (y : State) (z : Encoding) → ListOpened encoder_rules IsOpenListIn size mark n (noting x).writer (Err e) y → ListOpened encoding_rules IsOpenElements size mark n x (Err e) z
 list_refused size mark n x e y z (inl m) = inl (memory_noted e x m)
 list_refused size mark n x e y z (inr r) = inr (λ s vs c. refuses_noted e x _ _ (r s vs c))
 
-pub element_awaited : (f : ListForm) (x : Encoding) (v : Value) (vs : List Value) (l m : UnwrittenElements) (set : Enclosing) (y z : Encoding) (result : Result (Unit {0}) EncodeError) → z.set ≡ y.set → WritesNext encoder_rules IsOpenListIn l y.writer result m z.writer
-    → IsOpenList f x (v ∷ vs) (l, set) y → ElementAwaited encoding_rules IsOpenList f x v vs result (m, set) z
-element_awaited f x v vs l m set y z (Ok u) e w h = record {
+pub element_awaited : (f : ListForm) (x : Encoding) (v : Value) (vs : List Value) (l m : UnwrittenElements) (o : Option Scope) (set : Enclosing) (y z : Encoding) (result : Result (Unit {0}) EncodeError) → z.set ≡ y.set → WritesNext encoder_rules IsOpenListIn l y.writer result m z.writer
+    → IsOpenElements f x (v ∷ vs) ((l, o), set) y → ElementAwaited encoding_rules IsOpenElements f x v vs result ((m, o), set) z
+element_awaited f x v vs l m o set y z (Ok u) e w h = record {
   presented = λ t p. let q = value_inside z t f.element v (e ∙ h.inside) p in record { opened = (w.law f (noting x).writer v vs h.opened).presented t.writer q.0; waits = h.waits; inside = q.1 };
   refused = λ d r. refuses_noted d x _ _ ((w.law f (noting x).writer v vs h.opened).refused d r);
   room = λ d r. memory_noted d x ((w.law f (noting x).writer v vs h.opened).room d r);
 }
-element_awaited f x v vs l m set y z (Err d) e w h = refused (w.law f (noting x).writer v vs h.opened)
+element_awaited f x v vs l m o set y z (Err d) e w h = refused (w.law f (noting x).writer v vs h.opened)
   where
-    refused : ElementAwaited encoder_rules IsOpenListIn f (noting x).writer v vs (Err d) m z.writer → ElementAwaited encoding_rules IsOpenList f x v vs (Err d) (m, set) z
+    refused : ElementAwaited encoder_rules IsOpenListIn f (noting x).writer v vs (Err d) m z.writer → ElementAwaited encoding_rules IsOpenElements f x v vs (Err d) ((m, o), set) z
     refused (inl q) = inl (memory_noted d x q)
     refused (inr r) = inr (refuses_noted d x _ _ r)
 
 -- a bag
-pub bag_opened : (size : Size) (mark : Bool) (n : ℕ) (x y : Encoding) (b : OpenBag) (set : Enclosing) → set ≡ (noting x).set → y.set ≡ counts uncounted
-    → BagOpened encoder_rules IsOpenBagIn size mark n (noting x).writer (Ok b) y.writer → BagOpened encoding_rules IsOpenBag size mark n x (Ok (b, set)) y
-bag_opened size mark n x y b set w i h = λ e vs c. record { opened = h e vs c; waits = w; inside = i }
+pub bag_opened : (size : Size) (mark : Bool) (n : ℕ) (x y : Encoding) (b : OpenBag) (o : Option Scope) (set : Enclosing) → set ≡ (noting x).set → y.set ≡ counts uncounted
+    → BagOpened encoder_rules IsOpenBagIn size mark n (noting x).writer (Ok b) y.writer → BagOpened encoding_rules IsOpenMembers size mark n x (Ok ((b, o), set)) y
+bag_opened size mark n x y b o set w i h = λ e vs c. record { opened = h e vs c; waits = w; inside = i }
 
-pub bag_refused : (size : Size) (mark : Bool) (n : ℕ) (x : Encoding) (e : EncodeError) (y : State) (z : Encoding) → BagOpened encoder_rules IsOpenBagIn size mark n (noting x).writer (Err e) y → BagOpened encoding_rules IsOpenBag size mark n x (Err e) z
+pub bag_refused : (size : Size) (mark : Bool) (n : ℕ) (x : Encoding) (e : EncodeError) (y : State) (z : Encoding) → BagOpened encoder_rules IsOpenBagIn size mark n (noting x).writer (Err e) y → BagOpened encoding_rules IsOpenMembers size mark n x (Err e) z
 bag_refused size mark n x e y z (inl m) = inl (memory_noted e x m)
 bag_refused size mark n x e y z (inr r) = inr (λ s vs c. refuses_noted e x _ _ (r s vs c))
 
-pub member_awaited : (f : ListForm) (x : Encoding) (v : Value) (vs : List Value) (b c : OpenBag) (set : Enclosing) (y z : Encoding) (result : Result (Unit {0}) EncodeError) → z.set ≡ y.set → WritesMember encoder_rules IsOpenBagIn b y.writer result c z.writer
-    → IsOpenBag f x (v ∷ vs) (b, set) y → MemberAwaited encoding_rules IsOpenBag f x v vs result (c, set) z
-member_awaited f x v vs b c set y z (Ok u) e w h = record {
+pub member_awaited : (f : ListForm) (x : Encoding) (v : Value) (vs : List Value) (b c : OpenBag) (o : Option Scope) (set : Enclosing) (y z : Encoding) (result : Result (Unit {0}) EncodeError) → z.set ≡ y.set → WritesMember encoder_rules IsOpenBagIn b y.writer result c z.writer
+    → IsOpenMembers f x (v ∷ vs) ((b, o), set) y → MemberAwaited encoding_rules IsOpenMembers f x v vs result ((c, o), set) z
+member_awaited f x v vs b c o set y z (Ok u) e w h = record {
   presented = λ t p. let q = value_inside z t f.element v (e ∙ h.inside) p in record { opened = (w.law f (noting x).writer v vs h.opened).presented t.writer q.0; waits = h.waits; inside = q.1 };
   refused = λ d r. refuses_noted d x _ _ ((w.law f (noting x).writer v vs h.opened).refused d r);
   room = λ d r. memory_noted d x ((w.law f (noting x).writer v vs h.opened).room d r);
 }
-member_awaited f x v vs b c set y z (Err d) e w h = refused (w.law f (noting x).writer v vs h.opened)
+member_awaited f x v vs b c o set y z (Err d) e w h = refused (w.law f (noting x).writer v vs h.opened)
   where
-    refused : MemberAwaited encoder_rules IsOpenBagIn f (noting x).writer v vs (Err d) c z.writer → MemberAwaited encoding_rules IsOpenBag f x v vs (Err d) (c, set) z
+    refused : MemberAwaited encoder_rules IsOpenBagIn f (noting x).writer v vs (Err d) c z.writer → MemberAwaited encoding_rules IsOpenMembers f x v vs (Err d) ((c, o), set) z
     refused (inl q) = inl (memory_noted d x q)
     refused (inr r) = inr (refuses_noted d x _ _ r)
 

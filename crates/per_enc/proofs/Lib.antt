@@ -17,6 +17,7 @@ pub mod PlacedChoices
 pub mod Counting
 pub mod SetCalls
 pub mod Turns
+pub mod ListsInTurn
 pub mod Constrained
 pub mod Enumerations
 pub mod Moments

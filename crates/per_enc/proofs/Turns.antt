@@ -10,7 +10,7 @@ use Rattle.rasn_traits.specs.Additions.{extended}
 use Rattle.rasn_traits.specs.Calls.{Behaves}
 use Rattle.rasn_traits.specs.Lists.{Mistimed}
 use Rattle.rasn_traits.specs.Scopes.{PresentsFields}
-use Rattle.rasn_traits.specs.Amounts.{Amount, amount_of, one_value}
+use Rattle.rasn_traits.specs.Amounts.{Amount, amount_of, one_value, only_values}
 use Rattle.rasn_traits.specs.Turns.{Came, came_added, came_bit, came_nothing, came_skipped, came_value, RefusesOther}
 use Rattle.per_write.specs.Additions.{OutsideAddition, with_next}
 use Rattle.per_write.specs.Components.{Encoding}
@@ -18,13 +18,13 @@ use Rattle.per_write.specs.declared.error.EncodeError.{EncodeError}
 use Rattle.per_write.specs.Records.{AreGiven, ClosesOrNot, kept_additions, Opens as OpensRecord}
 use Rattle.per_write.specs.State.{Additions, Scope, State}
 use Rattle.per_write.specs.Unplaced.{OutsideUnplaced}
-use Rattle.per_pieces.specs.Turns.{awaits, counts, Enclosing, is_complete, marked, misplaced, next, past, Turn}
+use Rattle.per_pieces.specs.Turns.{awaits, counts, Enclosing, in_list, is_between, is_complete, marked, misplaced, next, past, Turn}
 use Rattle.per_enc.specs.Choices.{OpensChoiceOf, OutsideChoice}
 use Rattle.per_enc.specs.Placed.{EntersPlaced}
 use Rattle.per_enc.specs.PlacedChoices.{OpensPlaced, OpensPlacedIn}
 use Rattle.per_enc.specs.Records.{behind_marker, part_count}
 use Rattle.per_enc.specs.Rules.{encoding_rules, Marks, noting, Presents}
-use Rattle.per_enc.specs.Scopes.{IsUnclosed, OpensChoice, OpensContents, OpensOpenType, OpensScope}
+use Rattle.per_enc.specs.Scopes.{AwaitsValues, IsUnready, OpensChoice, OpensContents, OpensOpenType, OpensScope}
 use Rattle.per_enc.specs.Laws.Relations.{noting_same}
 use Rattle.per_enc.proofs.Counting.{counted}
 use Rattle.per_enc.proofs.Inside.{fields_inside, mark_inside, value_inside}
@@ -47,6 +47,13 @@ as_many zero zero e = refl
 as_many zero (suc n) e = absurd cc
 as_many (suc k) zero e = absurd (let d : false ≡ true = sym (ap (λ (t : Turn). is_complete (counts t)) (past_misplaced k)) ∙ e in cc)
 as_many (suc k) (suc n) e = ap suc (as_many k n e)
+
+-- as many values came in a list as were awaited
+as_many_in_list : (k n : ℕ) → is_between (counts (past k (in_list n))) ≡ true → k ≡ n
+as_many_in_list zero zero e = refl
+as_many_in_list zero (suc n) e = absurd cc
+as_many_in_list (suc k) zero e = absurd (let d : false ≡ true = sym (ap (λ (t : Turn). is_between (counts t)) (past_misplaced k)) ∙ e in cc)
+as_many_in_list (suc k) (suc n) e = ap suc (as_many_in_list k n e)
 
 -- additions of which so many more were given
 abbrev pub Further : Option Additions → ℕ → Option Additions → Type 0
@@ -171,20 +178,31 @@ one_untimely i j result e b n t = λ a k d.
     let additions : Further None a.additions j.writer.scope.additions = subst (λ (q : Option Additions). Further q a.additions j.writer.scope.additions) n w.additions in
     absurd (d (amount_is a one_value components bits additions.0))
 
+-- an open list or bag in which anything else came than the values that were awaited
+pub values_untimely : (n : ℕ) (i j : Encoding) (result : Result (Unit {0}) EncodeError) → AwaitsValues n i → is_between j.set ≡ true → RefusesOther encoding_rules (only_values n) i j result
+values_untimely n i j result w t = λ a k d.
+    let c = came_to a (in_list n) i j w.turn k in
+    let components : a.components ≡ n = as_many_in_list a.components n (ap is_between (sym c.set) ∙ t) in
+    let sum = c.bits in
+    let none = w.presences in
+    let bits : a.bits ≡ 0 = omega arith in
+    let additions : Further None a.additions j.writer.scope.additions = subst (λ (q : Option Additions). Further q a.additions j.writer.scope.additions) w.additions c.additions in
+    absurd (d (amount_is a (only_values n) components bits additions.0))
+
 -- what is inside a scope, and came in it, left nothing refused
 pub not_failed_since : (a : Amount) (t : Turn) (i j : Encoding) → i.set ≡ counts t → i.writer.failed ≡ false → Came encoding_rules a i j → j.writer.failed ≡ true → ⊥
 not_failed_since a t i j e f k g = let h = (came_to a t i j e k).left f in absurd cc
 
 -- what isn't closed wasn't complete, or a call was refused before
-pub not_unclosed : (e : EncodeError) (x : Encoding) → IsUnclosed e x → x.writer.failed ≡ false → is_complete x.set ≡ true → ⊥
+pub not_unclosed : {b : Bool} (e : EncodeError) (x : Encoding) → IsUnready b e x → x.writer.failed ≡ false → b ≡ true → ⊥
 not_unclosed e x (inl a) f t = let g = a.1 in absurd cc
 not_unclosed e x (inr u) f t = let g = u.2 in absurd cc
 
-pub unclosed_untimely : (e : EncodeError) (i j : Encoding) (t : Turn) (due : Amount) → i.set ≡ counts t → i.writer.failed ≡ false → IsUnclosed e j → RefusesOther encoding_rules due i j (Err e)
+pub unclosed_untimely : {r : Bool} (e : EncodeError) (i j : Encoding) (t : Turn) (due : Amount) → i.set ≡ counts t → i.writer.failed ≡ false → IsUnready r e j → RefusesOther encoding_rules due i j (Err e)
 unclosed_untimely e i j t due n f (inl a) = λ b k d. absurd (not_failed_since b t i j n f k a.1)
 unclosed_untimely e i j t due n f (inr u) = λ b k d. inr u.0
 
-pub behaves_unclosed : (e : EncodeError) (x y : Encoding) → IsUnclosed e x → y.writer.failed ≡ true → y.writer.codec ≡ x.writer.codec
+pub behaves_unclosed : {b : Bool} (e : EncodeError) (x y : Encoding) → IsUnready b e x → y.writer.failed ≡ true → y.writer.codec ≡ x.writer.codec
     → Behaves {T = Unit {0}} encoding_rules.already encoding_rules.failed encoding_rules.codec x (Err e) y
 behaves_unclosed e x y (inl a) f k = record { again = λ q. a.0; fails = f; kept = k }
 behaves_unclosed e x y (inr u) f k = record { again = λ q. let g = u.1 in absurd (let d : true ≡ false = sym q ∙ g in cc); fails = f; kept = k }

@@ -1,9 +1,11 @@
 -- An open SET OF, of which each member is written before its place is known (ITU-T X.691, 22).
-use Rattle.std.specs.Prelude.{◌≡◌, true, List, [], ◌∷◌, ◌++◌, map, length, Option, Some, None, Result, OnOk, OnErr}
-use Rattle.std.specs.Prelude.{IfErr}
+use Rattle.std.specs.Prelude.{ℕ, ◌≡◌, Bool, true, false, List, [], ◌∷◌, ◌++◌, map, length, Option, Some, None, Result}
+use Rattle.std.specs.Prelude.{OnOk, OnErr, IfOk, IfErr}
 use Rattle.rasn_types.specs.Codecs.{variant_of}
 use Rattle.rasn_types.specs.Values.{Value}
+use Rattle.rasn_constraints.specs.Bounds.{Size}
 use Rattle.rasn_schema.specs.Lists.{list_value}
+use Rattle.rasn_traits.specs.Bags.{OpensBag, WritesMember}
 use Rattle.rasn_traits.specs.Calls.{Written}
 use Rattle.rasn_traits.specs.Lists.{ListForm, schema_of}
 use Rattle.per_core.specs.Canon.{canon}
@@ -16,7 +18,7 @@ use Rattle.per_write.specs.Faults.{IsMemory}
 use Rattle.per_write.specs.Unplaced.{OutsideUnplaced}
 use Rattle.per_write.specs.Lists.{IsOpenList}
 use Rattle.per_write.specs.Rules.{encoder_rules}
-use Rattle.per_write.specs.State.{State}
+use Rattle.per_write.specs.State.{State, empty_scope}
 
 -- what is kept of an open SET OF: the list that its members are to stand in, those that were written, and what waits
 -- once one is begun
@@ -47,6 +49,19 @@ pub record IsOpenBag (f : ListForm) (x : State) (vs : List Value) (b : OpenBag) 
   pub members : writers_of (with_begun b.waiting y b.members) ≡ map (canon (variant_of x.codec) f.element) front
   pub amid : (ws : List Value) → length ws ≡ length f.all → IsOpenList (list_of f ws) x ws b.list (outside b.waiting y)
   pub is_open : y.scope.is_open ≡ true
+
+-- A call that opens a bag, of which no member is begun yet.
+pub record BeginsBag (size : Size) (mark : Bool) (count : ℕ) (x : State) (result : Result OpenBag EncodeError)
+    (y : State) : Type 0 where
+  pub opens : OpensBag encoder_rules IsOpenBag size mark count x result y
+  pub none : IfOk result (λ b. b.waiting ≡ None)
+
+-- A call before each member of a bag, which is written by itself: no presence bit and no addition is left to be given.
+pub record NextMember (b : OpenBag) (y : State) (result : Result (Unit {0}) EncodeError) (c : OpenBag)
+    (z : State) : Type 0 where
+  pub next : WritesMember encoder_rules IsOpenBag b y result c z
+  pub left : OnOk result (z.failed ≡ false)
+  pub alone : OnOk result (z.scope ≡ empty_scope true)
 
 -- A call that keeps the member that was begun, if one was: what waited is there again.
 pub record KeepsMember (b : OpenBag) (y : State) (result : Result (Unit {0}) EncodeError) (c : OpenBag)

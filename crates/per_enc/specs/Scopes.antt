@@ -1,6 +1,6 @@
 -- What is open in an encoder, and how many components are still to come in it. What encloses it waits outside (ITU-T
 -- X.691, 19, 21.1, 23).
-use Rattle.std.specs.Prelude.{ℕ, ◌≡◌, ◌⊎◌, true, false, List, Option}
+use Rattle.std.specs.Prelude.{ℕ, ◌≡◌, ◌⊎◌, Bool, true, false, List, Option, Some, None}
 use Rattle.rasn_types.specs.Values.{Value}
 use Rattle.rasn_schema.specs.Lawful.{presence_bits}
 use Rattle.rasn_schema.specs.Normal.{root_of}
@@ -15,8 +15,8 @@ use Rattle.per_write.specs.declared.lists.UnwrittenElements.{UnwrittenElements}
 use Rattle.per_write.specs.Faults.{IsAlready, IsError}
 use Rattle.per_write.specs.Lists.{IsOpenList as IsOpenListIn}
 use Rattle.per_write.specs.Records.{Opens as OpensRecord}
-use Rattle.per_write.specs.State.{Scope, State}
-use Rattle.per_pieces.specs.Turns.{awaits, counts, Enclosing, is_complete, Turn, uncounted}
+use Rattle.per_write.specs.State.{Scope, State, empty_scope}
+use Rattle.per_pieces.specs.Turns.{awaits, counts, Enclosing, in_list, is_between, is_complete, Turn, uncounted}
 use Rattle.per_write.specs.Unplaced.{BeginsUnplaced, OutsideUnplaced}
 use Rattle.per_enc.specs.Bags.{IsOpenBag as IsOpenBagIn, OpenBag}
 use Rattle.per_enc.specs.Choices.{OutsideChoice}
@@ -41,10 +41,18 @@ pub record OpensSet (parts : ℕ) (additions : Option ℕ) (x : Encoding) (o : S
   pub waits : o.1 ≡ (noting x).set
   pub inside : y ≡ going_on (opened parts front.pieces) front
 
+-- why a call of what is open is refused: one was refused before, or it isn't ready for this one
+abbrev pub IsUnready : Bool → EncodeError → Encoding → Type 0
+IsUnready is_ready e x = (IsAlready e x.writer × (x.writer.failed ≡ true))
+    ⊎ (IsError OutOfTurn e x.writer × (x.writer.failed ≡ false) × (is_ready ≡ false))
+
 -- why what is open isn't closed: a call was refused before, or not as many components came as were awaited
 abbrev pub IsUnclosed : EncodeError → Encoding → Type 0
-IsUnclosed e x = (IsAlready e x.writer × (x.writer.failed ≡ true))
-    ⊎ (IsError OutOfTurn e x.writer × (x.writer.failed ≡ false) × (is_complete x.set ≡ false))
+IsUnclosed e x = IsUnready (is_complete x.set) e x
+
+-- why an open list isn't gone on in: a call was refused before, or not as many values came as were awaited
+abbrev pub IsAmidElement : EncodeError → Encoding → Type 0
+IsAmidElement e x = IsUnready (is_between x.set) e x
 
 -- a record is opened, in which so many components are to come
 abbrev pub OpensScope : Turn → Schema → Encoding → (Scope × Enclosing) → Encoding → Type 0
@@ -73,10 +81,36 @@ pub record OpensOpenType (x : Encoding) (o : OutsideAddition × Enclosing) (y : 
   pub waits : o.1 ≡ x.set
   pub inside : y.set ≡ counts (awaits 1)
 
--- X.691 20: a list is open
-abbrev pub IsOpenList : ListForm → Encoding → List Value → (UnwrittenElements × Enclosing) → Encoding → Type 0
-IsOpenList f x vs = OpensWithin uncounted (λ z l y. IsOpenListIn f z vs l y) x
+-- X.691 20: a list is open in which nothing is counted
+abbrev pub IsOpenElements : ListForm → Encoding → List Value → ((UnwrittenElements × Option Scope) × Enclosing)
+    → Encoding → Type 0
+IsOpenElements f x vs = OpensWithin uncounted (λ z l y. IsOpenListIn f z vs l.0 y) x
 
--- X.691 22: a bag is open
-abbrev pub IsOpenBag : ListForm → Encoding → List Value → (OpenBag × Enclosing) → Encoding → Type 0
-IsOpenBag f x vs = OpensWithin uncounted (λ z b y. IsOpenBagIn f z vs b y) x
+-- X.691 22: a bag is open in which nothing is counted
+abbrev pub IsOpenMembers : ListForm → Encoding → List Value → ((OpenBag × Option Scope) × Enclosing) → Encoding
+    → Type 0
+IsOpenMembers f x vs = OpensWithin uncounted (λ z b y. IsOpenBagIn f z vs b.0 y) x
+
+-- a writer in which no presence bit and no addition is left to be given
+abbrev pub closed_off : State → State
+closed_off x = record x { scope = empty_scope true }
+
+-- what is open where a writer was closed off, and the scope that waits meanwhile
+abbrev pub ClosedOff : {O : Type 0} → (State → O → State → Type 0) → State → (O × Option Scope) → State → Type 0
+ClosedOff opens x o y = opens (closed_off x) o.0 y × (o.1 ≡ Some x.scope)
+
+-- X.691 20: a list is open in which each value is counted, and nothing else can come
+abbrev pub IsOpenList : ListForm → Encoding → List Value → ((UnwrittenElements × Option Scope) × Enclosing) → Encoding
+    → Type 0
+IsOpenList f x vs = OpensWithin (in_list 0) (ClosedOff (λ z l y. IsOpenListIn f z vs l y)) x
+
+-- X.691 22: a bag is open in which each value is counted, and nothing else can come
+abbrev pub IsOpenBag : ListForm → Encoding → List Value → ((OpenBag × Option Scope) × Enclosing) → Encoding → Type 0
+IsOpenBag f x vs = OpensWithin (in_list 0) (ClosedOff (λ z b y. IsOpenBagIn f z vs b y)) x
+
+-- in an open list or bag so many values are to come before it is gone on in, and nothing else can come
+pub record AwaitsValues (n : ℕ) (y : Encoding) : Type 0 where
+  pub unfailed : y.writer.failed ≡ false
+  pub turn : y.set ≡ counts (in_list n)
+  pub presences : y.writer.scope.presences.left ≡ 0
+  pub additions : y.writer.scope.additions ≡ None

@@ -3,9 +3,9 @@
 
 ghost use Rattle.std.specs.Prelude.{◌≡◌, ◌<◌, ◌≤◌, false, length, true};
 ghost use Rattle.rasn_schema.specs.Forms.{is_size_marked, size_of};
-ghost use Rattle.rasn_traits.specs.Bags.{ClosesBag, OpensBag, WritesMember};
+ghost use Rattle.rasn_traits.specs.Bags.{ClosesBag};
 ghost use Rattle.per_enc.specs.Members.{writers_of};
-ghost use Rattle.per_enc.specs.Bags.{IsOpenBag, KeepsMember, PutsMembers};
+ghost use Rattle.per_enc.specs.Bags.{BeginsBag, IsOpenBag, KeepsMember, NextMember, PutsMembers};
 ghost use Rattle.per_write.specs.Lists.{count_left};
 ghost use Rattle.per_write.specs.Rules.{encoder_rules};
 
@@ -44,7 +44,7 @@ impl<A: Allocator + Clone> OpenBag<A> {
         count: usize,
     ) -> Result<Self, EncodeError>
         requires { writer.old.failed ≡ false }
-        ensures { OpensBag encoder_rules IsOpenBag (size_of constraints.now) (is_size_marked constraints.now) count
+        ensures { BeginsBag (size_of constraints.now) (is_size_marked constraints.now) count
             writer.old result writer.new }
     {
         let alloc = writer.allocator()?;
@@ -59,7 +59,7 @@ impl<A: Allocator + Clone> OpenBag<A> {
     /// Goes on to the next member, which is written before its place is known. Where all were written it refuses.
     pub fn next_member(&mut self, writer: &mut Writer<A>) -> Result<(), EncodeError>
         requires { writer.old.failed ≡ false }
-        ensures { WritesMember encoder_rules IsOpenBag self.old writer.old result self.new writer.new }
+        ensures { NextMember self.old writer.old result self.new writer.new }
     {
         self.keep_member(writer)?;
         if self.has_all() {

@@ -132,8 +132,8 @@ impl<A: Allocator + Clone> Encoder<A> {
 impl<A: Allocator + Clone> encoder::Encoder for Encoder<A> {
     ghost use Rattle.per_enc.specs.Laws.Relations.{presents_well};
     ghost use Rattle.per_enc.specs.Laws.Sets.{sets_written};
-    ghost use Rattle.per_enc.specs.Scopes.{IsOpenBag, IsOpenList, Opens, OpensChoice, OpensContents, OpensFields};
-    ghost use Rattle.per_enc.specs.Scopes.{OpensOpenType};
+    ghost use Rattle.per_enc.specs.Scopes.{AwaitsValues, IsOpenBag, IsOpenElements, IsOpenList, IsOpenMembers, Opens};
+    ghost use Rattle.per_enc.specs.Scopes.{OpensChoice, OpensContents, OpensFields, OpensOpenType};
 
     type Error = EncodeError;
 
@@ -145,9 +145,9 @@ impl<A: Allocator + Clone> encoder::Encoder for Encoder<A> {
 
     type Contents = (OutsideUnplaced<A>, EnclosingSet<A>);
 
-    type List = (UnwrittenElements, EnclosingSet<A>);
+    type List = ((UnwrittenElements, Option<Scope<A>>), EnclosingSet<A>);
 
-    type Bag = (OpenBag<A>, EnclosingSet<A>);
+    type Bag = ((OpenBag<A>, Option<Scope<A>>), EnclosingSet<A>);
 
     ghost rules = { encoding_rules };
 
@@ -163,7 +163,13 @@ impl<A: Allocator + Clone> encoder::Encoder for Encoder<A> {
 
     ghost amid = { IsOpenList };
 
+    ghost amid_elements = { IsOpenElements };
+
     ghost amid_bag = { IsOpenBag };
+
+    ghost amid_members = { IsOpenMembers };
+
+    ghost awaits_values = { AwaitsValues };
 
     fn codec(&self) -> Codec {
         Encoder::codec(self)
@@ -561,26 +567,65 @@ impl<A: Allocator + Clone> encoder::Encoder for Encoder<A> {
         constraints: &Constraints,
         count: usize,
         _identifier: Identifier,
-    ) -> Result<(UnwrittenElements, EnclosingSet<A>), EncodeError> {
+    ) -> Result<((UnwrittenElements, Option<Scope<A>>), EnclosingSet<A>), EncodeError> {
         let set = self.begin_outer_value()?;
-        let list = open_list(&mut self.writer, constraints, count)?;
-        Ok((list, set))
+        let scope = self.writer.enter_alternative();
+        let rest = open_list(&mut self.writer, constraints, count)?;
+        self.set = EnclosingSet::in_list(0);
+        Ok(((rest, Some(scope)), set))
     }
 
     fn next_element(
         &mut self,
-        list: &mut (UnwrittenElements, EnclosingSet<A>),
+        list: &mut ((UnwrittenElements, Option<Scope<A>>), EnclosingSet<A>),
     ) -> Result<(), EncodeError> {
-        self.writer.check_unfailed()?;
-        next_element(&mut self.writer, &mut list.0)
+        self.check_between()?;
+        next_element(&mut self.writer, &mut list.0.0)?;
+        self.set = EnclosingSet::in_list(1);
+        Ok(())
     }
 
     fn close_list(
         &mut self,
-        list: (UnwrittenElements, EnclosingSet<A>),
+        list: ((UnwrittenElements, Option<Scope<A>>), EnclosingSet<A>),
+    ) -> Result<(), EncodeError> {
+        self.check_between()?;
+        let ((rest, scope), set) = list;
+        let closed = close_list(&mut self.writer, rest);
+        if let Some(scope) = scope {
+            self.writer.leave(scope);
+        }
+        self.set = set;
+        closed
+    }
+
+    fn open_elements(
+        &mut self,
+        _tag: Tag,
+        constraints: &Constraints,
+        count: usize,
+        _identifier: Identifier,
+    ) -> Result<((UnwrittenElements, Option<Scope<A>>), EnclosingSet<A>), EncodeError> {
+        let set = self.begin_outer_value()?;
+        let list = open_list(&mut self.writer, constraints, count)?;
+        Ok(((list, None), set))
+    }
+
+    fn next_element_in_turn(
+        &mut self,
+        list: &mut ((UnwrittenElements, Option<Scope<A>>), EnclosingSet<A>),
     ) -> Result<(), EncodeError> {
         self.writer.check_unfailed()?;
-        let (elements, set) = list;
+        let elements = &mut list.0.0;
+        next_element(&mut self.writer, elements)
+    }
+
+    fn close_elements(
+        &mut self,
+        list: ((UnwrittenElements, Option<Scope<A>>), EnclosingSet<A>),
+    ) -> Result<(), EncodeError> {
+        self.writer.check_unfailed()?;
+        let ((elements, _), set) = list;
         self.set = set;
         close_list(&mut self.writer, elements)
     }
@@ -591,20 +636,66 @@ impl<A: Allocator + Clone> encoder::Encoder for Encoder<A> {
         constraints: &Constraints,
         count: usize,
         _identifier: Identifier,
-    ) -> Result<(OpenBag<A>, EnclosingSet<A>), EncodeError> {
+    ) -> Result<((OpenBag<A>, Option<Scope<A>>), EnclosingSet<A>), EncodeError> {
+        let set = self.begin_outer_value()?;
+        let scope = self.writer.enter_alternative();
+        let kept = OpenBag::open(&mut self.writer, constraints, count)?;
+        self.set = EnclosingSet::in_list(0);
+        Ok(((kept, Some(scope)), set))
+    }
+
+    fn next_member(
+        &mut self,
+        bag: &mut ((OpenBag<A>, Option<Scope<A>>), EnclosingSet<A>),
+    ) -> Result<(), EncodeError> {
+        self.check_between()?;
+        bag.0.0.next_member(&mut self.writer)?;
+        self.set = EnclosingSet::in_list(1);
+        Ok(())
+    }
+
+    fn close_set_of(
+        &mut self,
+        bag: ((OpenBag<A>, Option<Scope<A>>), EnclosingSet<A>),
+    ) -> Result<(), EncodeError> {
+        self.check_between()?;
+        let ((kept, scope), set) = bag;
+        let closed = kept.close(&mut self.writer);
+        if let Some(scope) = scope {
+            self.writer.leave(scope);
+        }
+        self.set = set;
+        closed
+    }
+
+    fn open_members(
+        &mut self,
+        _tag: Tag,
+        constraints: &Constraints,
+        count: usize,
+        _identifier: Identifier,
+    ) -> Result<((OpenBag<A>, Option<Scope<A>>), EnclosingSet<A>), EncodeError> {
         let set = self.begin_outer_value()?;
         let bag = OpenBag::open(&mut self.writer, constraints, count)?;
-        Ok((bag, set))
+        Ok(((bag, None), set))
     }
 
-    fn next_member(&mut self, bag: &mut (OpenBag<A>, EnclosingSet<A>)) -> Result<(), EncodeError> {
+    fn next_member_in_turn(
+        &mut self,
+        bag: &mut ((OpenBag<A>, Option<Scope<A>>), EnclosingSet<A>),
+    ) -> Result<(), EncodeError> {
         self.writer.check_unfailed()?;
-        bag.0.next_member(&mut self.writer)
+        let open = &mut bag.0.0;
+        open.next_member(&mut self.writer)
     }
 
-    fn close_set_of(&mut self, bag: (OpenBag<A>, EnclosingSet<A>)) -> Result<(), EncodeError> {
+    fn close_members(
+        &mut self,
+        bag: ((OpenBag<A>, Option<Scope<A>>), EnclosingSet<A>),
+    ) -> Result<(), EncodeError> {
         self.writer.check_unfailed()?;
-        let (open, set) = bag;
+        let (opened, set) = bag;
+        let (open, _) = opened;
         self.set = set;
         open.close(&mut self.writer)
     }

@@ -6,8 +6,8 @@ ghost use Rattle.rasn_traits.specs.Optionals.{GivesBit};
 ghost use Rattle.per_enc.specs.AlternativeCounts.{counted_variants};
 ghost use Rattle.per_enc.specs.Records.{counted_behind};
 ghost use Rattle.per_enc.specs.Rules.{encoding_rules, noting};
-ghost use Rattle.per_enc.specs.Scopes.{IsUnclosed};
-ghost use Rattle.per_pieces.specs.Turns.{counts, is_complete, uncounted};
+ghost use Rattle.per_enc.specs.Scopes.{IsAmidElement, IsUnclosed};
+ghost use Rattle.per_pieces.specs.Turns.{counts, is_between, is_complete, uncounted};
 ghost use Rattle.per_write.specs.Faults.{IsAlready};
 
 use crate::Encoder;
@@ -67,6 +67,22 @@ impl<A: Allocator + Clone> Encoder<A> {
     {
         self.writer.check_unfailed()?;
         if self.set.is_complete() {
+            return Ok(());
+        }
+        Err(self.writer.refuse(EncodeErrorKind::OutOfTurn))
+    }
+
+    /// Refuses to go on in an open list where a call was refused before, or not as many values came as were awaited.
+    pub(crate) fn check_between(&mut self) -> Result<(), EncodeError>
+        ensures begun { OnOk result (self.old.writer.failed ≡ false) }
+        ensures between { OnOk result (is_between self.old.set ≡ true) }
+        ensures stays { OnOk result (self.new ≡ self.old) }
+        ensures err { IfErr result (λ e. IsAmidElement e self.old) }
+        ensures fails { OnErr result (self.new.writer.failed ≡ true) }
+        ensures kept { self.new.writer.codec ≡ self.old.writer.codec }
+    {
+        self.writer.check_unfailed()?;
+        if self.set.is_between() {
             return Ok(());
         }
         Err(self.writer.refuse(EncodeErrorKind::OutOfTurn))

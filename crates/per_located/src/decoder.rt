@@ -144,7 +144,11 @@ impl<D: Positioned> Decoder for Located<D> {
 
     ghost amid = { D.amid };
 
+    ghost amid_elements = { D.amid_elements };
+
     ghost most = { D.most };
+
+    ghost awaits_values = { D.awaits_values };
 
     ghost unended = { D.unended };
 
@@ -457,6 +461,27 @@ impl<D: Positioned> Decoder for Located<D> {
         self.seen(answer)
     }
 
+    fn open_elements(&mut self, tag: Tag, constraints: &Constraints) -> Result<D::List, D::Error> {
+        self.trail.begin();
+        let answer = self.inner.open_elements(tag, constraints);
+        if answer.is_ok() {
+            let left = self.inner.left();
+            self.trail.enter(Frame::List(Elements::new()), left);
+        }
+        self.seen(answer)
+    }
+
+    fn next_element_in_turn(&mut self, list: &mut D::List) -> Result<bool, D::Error> {
+        self.trail.pause();
+        let answer = self.inner.next_element_in_turn(list);
+        match &answer {
+            Ok(true) => self.trail.begin_element(),
+            Ok(false) => self.trail.leave(),
+            Err(_) => {}
+        }
+        self.seen(answer)
+    }
+
     ghost lawful = { D.lawful };
 
     ghost errors = { D.errors };
@@ -470,6 +495,8 @@ impl<D: Positioned> Decoder for Located<D> {
     ghost choices = { D.choices };
 
     ghost lists = { D.lists };
+
+    ghost elements = { D.elements };
 
     ghost sets = { D.sets };
 

@@ -132,7 +132,13 @@ impl<E: Encoder + Drop> Encoder for Located<E> {
 
     ghost amid = { E.amid };
 
+    ghost amid_elements = { E.amid_elements };
+
     ghost amid_bag = { E.amid_bag };
+
+    ghost amid_members = { E.amid_members };
+
+    ghost awaits_values = { E.awaits_values };
 
     fn codec(&self) -> Codec {
         self.inner.codec()
@@ -522,6 +528,32 @@ impl<E: Encoder + Drop> Encoder for Located<E> {
         self.left(answer)
     }
 
+    fn open_elements(
+        &mut self,
+        tag: Tag,
+        constraints: &Constraints,
+        count: usize,
+        identifier: Identifier,
+    ) -> Result<E::List, E::Error> {
+        self.trail.begin(tag);
+        let answer = self
+            .inner
+            .open_elements(tag, constraints, count, identifier);
+        self.entered(answer, Frame::List(Elements::new()))
+    }
+
+    fn next_element_in_turn(&mut self, list: &mut E::List) -> Result<(), E::Error> {
+        self.trail.pause();
+        let answer = self.inner.next_element_in_turn(list);
+        self.begun(answer)
+    }
+
+    fn close_elements(&mut self, list: E::List) -> Result<(), E::Error> {
+        self.trail.pause();
+        let answer = self.inner.close_elements(list);
+        self.left(answer)
+    }
+
     fn open_set_of(
         &mut self,
         tag: Tag,
@@ -543,6 +575,30 @@ impl<E: Encoder + Drop> Encoder for Located<E> {
     fn close_set_of(&mut self, bag: E::Bag) -> Result<(), E::Error> {
         self.trail.pause();
         let answer = self.inner.close_set_of(bag);
+        self.left(answer)
+    }
+
+    fn open_members(
+        &mut self,
+        tag: Tag,
+        constraints: &Constraints,
+        count: usize,
+        identifier: Identifier,
+    ) -> Result<E::Bag, E::Error> {
+        self.trail.begin(tag);
+        let answer = self.inner.open_members(tag, constraints, count, identifier);
+        self.entered(answer, Frame::List(Elements::new()))
+    }
+
+    fn next_member_in_turn(&mut self, bag: &mut E::Bag) -> Result<(), E::Error> {
+        self.trail.pause();
+        let answer = self.inner.next_member_in_turn(bag);
+        self.begun(answer)
+    }
+
+    fn close_members(&mut self, bag: E::Bag) -> Result<(), E::Error> {
+        self.trail.pause();
+        let answer = self.inner.close_members(bag);
         self.left(answer)
     }
 

@@ -1,14 +1,16 @@
--- How many components of an open scope are still to come, where what comes in it is counted, or gathered (ITU-T X.691,
--- 19, 21.1).
+-- How many components of an open scope, or values of an open list, are still to come, where what comes in it is
+-- counted, or gathered (ITU-T X.691, 19, 20, 21.1, 22).
 use Rattle.std.specs.Prelude.{ℕ, zero, suc, Bool, true, false, Option, Some, None}
 use Rattle.per_pieces.specs.OpenSets.{OpenSet}
 use Rattle.per_pieces.specs.declared.enclosing.Enclosed.{Enclosed}
-use Rattle.per_pieces.specs.declared.enclosing.Enclosed.TheVariants.{Awaiting, Gathered, Misplaced, Uncounted}
+use Rattle.per_pieces.specs.declared.enclosing.Enclosed.TheVariants.{Awaiting, Gathered, InList, Misplaced, Uncounted}
 
--- whose turn it is in an open scope: nothing is counted; so many components are still to come; or more came than it has
+-- whose turn it is in an open scope: nothing is counted; so many components are still to come; it is a list, and so
+-- many values are still to come before it is gone on in; or more came than were to come
 pub data Turn : Type 0 where
   uncounted : Turn
   awaits : ℕ → Turn
+  in_list : ℕ → Turn
   misplaced : Turn
 
 -- a component came
@@ -16,6 +18,8 @@ abbrev pub next : Turn → Turn
 next uncounted = uncounted
 next (awaits zero) = misplaced
 next (awaits (suc n)) = awaits n
+next (in_list zero) = misplaced
+next (in_list (suc n)) = in_list n
 next misplaced = misplaced
 
 -- so many components came
@@ -44,13 +48,24 @@ abbrev pub is_complete : Enclosing → Bool
 is_complete (counts uncounted) = false
 is_complete (counts (awaits zero)) = true
 is_complete (counts (awaits (suc n))) = false
+is_complete (counts (in_list n)) = false
 is_complete (counts misplaced) = false
 is_complete (gathers set) = false
+
+-- whether a list is open in which no value is still to come before it is gone on in
+abbrev pub is_between : Enclosing → Bool
+is_between (counts uncounted) = false
+is_between (counts (awaits n)) = false
+is_between (counts (in_list zero)) = true
+is_between (counts (in_list (suc n))) = false
+is_between (counts misplaced) = false
+is_between (gathers set) = false
 
 -- whether nothing is counted or gathered
 abbrev pub is_uncounted : Enclosing → Bool
 is_uncounted (counts uncounted) = true
 is_uncounted (counts (awaits n)) = false
+is_uncounted (counts (in_list n)) = false
 is_uncounted (counts misplaced) = false
 is_uncounted (gathers set) = false
 
@@ -68,5 +83,6 @@ gathered (gathers set) = Some set
 abbrev pub enclosing_of : {T : Type 0} → (T → OpenSet) → Enclosed T → Enclosing
 enclosing_of set_of Uncounted = counts uncounted
 enclosing_of set_of (Awaiting n) = counts (awaits n)
+enclosing_of set_of (InList n) = counts (in_list n)
 enclosing_of set_of Misplaced = counts misplaced
 enclosing_of set_of (Gathered t) = gathers (set_of t)

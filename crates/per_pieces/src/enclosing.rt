@@ -1,9 +1,9 @@
-//! What encloses what is written next: a scope of which the components are counted, or a SET of which they are gathered
-//! (X.691 19, 21.1).
+//! What encloses what is written next: a scope of which the components are counted, a list of which the values are, or
+//! a SET of which the components are gathered (X.691 19, 20, 21.1, 22).
 
 ghost use Rattle.std.specs.Prelude.{◌≡◌};
-ghost use Rattle.per_pieces.specs.Turns.{awaits, counted, counts, gathered, is_complete, is_gathered, is_uncounted};
-ghost use Rattle.per_pieces.specs.Turns.{uncounted};
+ghost use Rattle.per_pieces.specs.Turns.{awaits, counted, counts, gathered, in_list, is_between, is_complete};
+ghost use Rattle.per_pieces.specs.Turns.{is_gathered, is_uncounted, uncounted};
 
 use crate::open_sets::OpenSet;
 use std::alloc::Allocator;
@@ -17,7 +17,9 @@ pub enum Enclosed<T> {
     Uncounted,
     /// So many components are still to come.
     Awaiting(usize),
-    /// More components came than there are.
+    /// A list is open, and so many values are still to come before it is gone on in.
+    InList(usize),
+    /// More came than were to come.
     Misplaced,
     /// Components are gathered.
     Gathered(T),
@@ -59,6 +61,15 @@ impl<A: Allocator + Clone> EnclosingSet<A> {
         }
     }
 
+    /// In a list of which so many values are still to come before it is gone on in. Takes no memory.
+    pub fn in_list(count: usize) -> Self
+        ensures { result ≡ counts (in_list count) }
+    {
+        EnclosingSet {
+            inner: Enclosed::InList(count),
+        }
+    }
+
     /// Whether nothing is counted or gathered.
     #[inline(always)]
     pub fn is_uncounted(&self) -> bool
@@ -92,6 +103,16 @@ impl<A: Allocator + Clone> EnclosingSet<A> {
         }
     }
 
+    /// Whether a list is open in which no value is still to come before it is gone on in.
+    pub fn is_between(&self) -> bool
+        ensures { result ≡ is_between self.now }
+    {
+        match &self.inner {
+            Enclosed::InList(left) => *left == 0,
+            _ => false,
+        }
+    }
+
     /// Takes out what encloses: nothing is counted from now on.
     #[inline(always)]
     pub fn take(&mut self) -> Self
@@ -114,15 +135,20 @@ impl<A: Allocator + Clone> EnclosingSet<A> {
         }
     }
 
-    /// Counts a component, where components are counted.
+    /// Counts a component, or a value of a list, where they are counted.
     pub fn count(&mut self)
         ensures { self.new ≡ counted self.old }
     {
-        if let Enclosed::Awaiting(left) = &self.inner {
-            self.inner = match left.checked_sub(1) {
+        self.inner = match &self.inner {
+            Enclosed::Awaiting(left) => match left.checked_sub(1) {
                 Some(others) => Enclosed::Awaiting(others),
                 None => Enclosed::Misplaced,
-            };
-        }
+            },
+            Enclosed::InList(left) => match left.checked_sub(1) {
+                Some(others) => Enclosed::InList(others),
+                None => Enclosed::Misplaced,
+            },
+            _ => return,
+        };
     }
 }

@@ -1,21 +1,23 @@
 -- What a call takes, by what the calls that it is made of took.
-use Rattle.std.proofs.Common.{◌≡◌, ◌∙◌, ◌<◌, ◌≤◌, ◌⊎◌, inl, inr, sym, ap, subst, refl, ℕ, Bool, nat_eq, List, [], ◌∷◌, ◌++◌, length, take, drop, length-take, arith}
+use Rattle.std.proofs.Common.{◌≡◌, ◌∙◌, ◌<◌, ◌≤◌, ◌⊎◌, ◌-◌, inl, inr, sym, ap, subst, refl, ℕ, Bool, nat_eq, List, [], ◌∷◌, ◌++◌, length, take, drop, length-take, arith}
 use Rattle.std.specs.Prelude.{Option, Some, None, Result, Ok, Err, IsErrAnd, IfOk, IfErr, IfSome}
 use Rattle.std.specs.Result.{result_ok}
 use Rattle.std.proofs.lemmas.Bool.{cases_lt}
 use Rattle.std.proofs.lemmas.List.{take-append-drop}
 use Rattle.std.proofs.lemmas.Result.{IfOk-weaker, IfErr-weaker}
-use Rattle.rasn_types.specs.Bits.{Bits, number_of}
+use Rattle.rasn_types.specs.Bits.{Bits}
+use Rattle.rasn_types.specs.Bits as binary
+use Rattle.rasn_constraints.specs.Counts.{count_of, number_of}
 use Rattle.per_core.specs.Basic.{bit}
 use Rattle.per_core.specs.Spellings.{Settings, Spelling, Field}
 use Rattle.per_core.specs.Took.{Took}
 use Rattle.per_core.proofs.Took.{took_bit}
 use Rattle.per_read.specs.Items.{TookItems, TakesItems}
-use Rattle.per_read.specs.Kinds.{IsShort, IsTested, NoneIn}
+use Rattle.per_read.specs.Fields.{IsOfField}
+use Rattle.per_read.specs.Kinds.{IsTested, NoneIn}
 use Rattle.per_read.specs.State.{State, settings_of}
 use Rattle.per_read.specs.Takes.{Reason, Takes}
 use Rattle.per_read.specs.declared.error.DecodeErrorKind.{DecodeErrorKind}
-use Rattle.per_read.specs.declared.error.DecodeErrorKind.TheVariants.{Incomplete}
 use Rattle.per_read.proofs.Fields.{field_wide, field_one}
 
 module _ {T X : Type 0} {why : Reason} {form : Settings → X → Spelling} {of : (X → Type 0) → T → Type 0} {x y : State} where
@@ -79,9 +81,8 @@ errs (Ok v) k h = absurd h
 errs (Err e) k h = ap Err h
 
 -- too few bits, which tests show
-pub of_short : (k : DecodeErrorKind) → IsShort k → IsTested k
-of_short (Incomplete missing) h = h
-of_short _ h = absurd h
+pub of_short : {w : ℕ} {s : Bits} (k : DecodeErrorKind) → IsOfField w s k → IsTested k
+of_short {w} {s} k h = subst IsTested (sym h.missing) (let some : 0 < number_of (count_of (w - length s)) = omega (arith, h.short) in some)
 
 -- fields that aren't there
 pub no_field_in : {w : ℕ} {s : Bits} → length s < w → NoneIn (Field w) s
@@ -92,7 +93,7 @@ too_short {w} {s} none = go (cases_lt (length s) w)
   where
     go : (length s < w) ⊎ (w ≤ length s) → length s < w
     go (inl h) = h
-    go (inr h) = absurd (none (number_of (take w s)) (drop w s) (record {
+    go (inr h) = absurd (none (binary.number_of (take w s)) (drop w s) (record {
       front = take w s;
       joins = sym (take-append-drop w s);
       spelled = record { wide = length-take w s ∙ omega arith; means = refl };
@@ -103,7 +104,7 @@ pub field_bit : {n : ℕ} {s t : Bits} → Took (Field 1 n) s t → Took (bit (n
 field_bit {n} {s} {t} a = subst (λ z. Took (bit (nat_eq n 1)) z t) (sym (field_one a)) (took_bit (nat_eq n 1) t)
 
 pub no_bit_in : {s : Bits} → NoneIn (Field 1) s → NoneIn bit s
-no_bit_in none b t h = none (number_of h.front) t (record { front = h.front; joins = h.joins; spelled = record { wide = ap length h.spelled; means = refl } })
+no_bit_in none b t h = none (binary.number_of h.front) t (record { front = h.front; joins = h.joins; spelled = record { wide = ap length h.spelled; means = refl } })
 
 pub ended : {s : Bits} → NoneIn bit s → s ≡ []
 ended {s} = go s

@@ -24,6 +24,7 @@ use Rattle.per_core.specs.declared.items.Item.{Item}
 use Rattle.per_core.specs.declared.items.Item.TheVariants.{Character}
 use Rattle.per_read.specs.declared.error.DecodeErrorKind.{DecodeErrorKind}
 use Rattle.per_read.specs.declared.error.DecodeErrorKind.TheVariants.{PermittedAlphabet}
+use Rattle.per_read.proofs.OfFields.{counted_items_tested}
 use Rattle.per_read.proofs.Coded.{lengthy_as, zip_to, zip_equal}
 
 -- before a code was read no character is known
@@ -114,7 +115,7 @@ module _ (a : Settings) (alphabet : List ℕ) (size : Size) (mark : Bool) where
       (map code_of cs) p c (zip_to code_of cs) h) b)
 
   pub string_kind : (s : Bits) (k : DecodeErrorKind) → IsOfItems a size mark CharacterItem s k → IsOfString a alphabet size mark s k
-  string_kind s PermittedAlphabet h = absurd h
+  string_kind s PermittedAlphabet h = absurd (counted_items_tested a size mark CharacterItem s PermittedAlphabet h)
   string_kind s _ h = h
 
   -- a code that no character has leaves no string

@@ -1,5 +1,5 @@
 -- Lengths, seen from the first of their bits (X.691 11.9.3.6 to 11.9.3.8).
-use Rattle.std.proofs.Common.{◌≡◌, ◌<◌, ◌≤◌, ◌⊎◌, inl, inr, ℕ, ◌+◌, ◌*◌, Bool, true, false, [], ◌∷◌, length, refl, sym, ◌∙◌, ap, subst, arith}
+use Rattle.std.proofs.Common.{◌≡◌, ◌<◌, ◌≤◌, ◌⊎◌, inl, inr, ℕ, ◌+◌, ◌*◌, Bool, true, false, [], ◌∷◌, ◌++◌, length, refl, sym, ◌∙◌, ap, subst, arith}
 use Rattle.rasn_types.specs.Bits.{Bits}
 use Rattle.per_core.specs.Spellings.{Settings, exactly, Then, When, Field, AnyPadding}
 use Rattle.per_core.specs.Basic.{LastCount}
@@ -7,8 +7,12 @@ use Rattle.per_core.specs.Basic
 use Rattle.per_core.specs.Took.{Took}
 use Rattle.per_core.proofs.Took.{took_then, then_took, took_agree}
 use Rattle.per_core.proofs.Agree.{field_agree, padding_agree}
+use Rattle.per_read.specs.declared.error.DecodeErrorKind.{DecodeErrorKind}
+use Rattle.per_read.specs.declared.error.DecodeErrorKind.TheVariants.{ParserFail}
+use Rattle.per_read.specs.declared.error.ParserFailCause.TheVariants.{FragmentCode}
 use Rattle.per_read.specs.declared.lengths.Length.{Length}
 use Rattle.per_read.specs.declared.lengths.Length.TheVariants.{Last, Fragment}
+use Rattle.per_read.specs.Fields.{IsOfCount, IsOfField, count_field}
 use Rattle.per_read.specs.Lengths.{CountOf, LengthOf}
 use Rattle.per_read.proofs.Fields.{either_took, when_took, exactly_took, took_exactly, field_wide, field_below, took_more, more_took}
 
@@ -115,6 +119,15 @@ one_count l m s t u a b = go (count_begins l s t a)
         let q = fragment_back m r u (subst (λ z. Took (CountOf m) z u) e b) in
         let h = took_agree (field_agree 6 k q.0) f q.4 in
         (i ∙ ap (λ (z : ℕ). Fragment (16384 * z)) h.0 ∙ sym q.1, h.1)
+
+-- what a kind says of a length: of the field behind its first bits, or of a fragment's octet
+pub of_bits : (front : Bits) {s t : Bits} (k : DecodeErrorKind) → s ≡ front ++ t → IsOfField (count_field front) t k → IsOfCount s k
+of_bits front {s} {t} k e h = inl (front, (t, record { front = front; joins = e; spelled = refl }, h))
+
+pub miscoded : (n : ℕ) {s m u : Bits} → s ≡ true ∷ true ∷ m → Took (Field 6 n) m u → (n < 1) ⊎ (4 < n) → IsOfCount s (ParserFail FragmentCode)
+miscoded n {s} {m} {u} e b h =
+    let c : Took (Field 8 (192 + n)) (true ∷ true ∷ m) u = subst (λ z. Took (Field 8 z) (true ∷ true ∷ m) u) (omega arith) (took_more true (took_more true b)) in
+    inr (refl, record { times = n; rest = u; other = h; took = subst (λ z. Took (Field 8 (192 + n)) z u) (sym e) c })
 
 -- why bits begin no length
 abbrev pub NoCount : Bits → Type 0

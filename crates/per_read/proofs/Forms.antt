@@ -48,7 +48,7 @@ module _ (a : Settings) (n : ℕ) {s m : Bits} where
       (subst (λ (w : ℕ). Took (Then (AnyPadding a) (Field w o)) q.0 t) (omega arith) q.2))
 
 -- what the ALIGNED variant writes, by how many numbers there are
-differs : (m n : ℕ) → (m ≡ n → ⊥) → eqb m n ≡ false
+pub differs : (m n : ℕ) → (m ≡ n → ⊥) → eqb m n ≡ false
 differs m n d = go (eqb m n) refl
   where
     go : (b : Bool) → eqb m n ≡ b → eqb m n ≡ false

@@ -9,7 +9,7 @@ use Rattle.per_core.specs.Basic.{IsSemiConstrainedWhole, Octets}
 use Rattle.per_core.specs.Spellings.{Settings}
 use Rattle.per_core.specs.Took.{Took}
 use Rattle.per_read.specs.Items.{Adds}
-use Rattle.per_read.specs.Kinds.{Refused}
+use Rattle.per_read.specs.Fields.{IsOfField}
 use Rattle.per_read.specs.State.{State}
 use Rattle.per_read.specs.declared.error.DecodeErrorKind.{DecodeErrorKind}
 use Rattle.per_read.specs.SmallNumbers.{AppendsOctets, Means, MeansSince, OfIndex}
@@ -61,6 +61,6 @@ of_index P Q None f h = (h.0, h.1, f h.0 h.2)
 
 -- a call that appends nothing
 pub none_appended : {n : ℕ} {before after : Option ℕ} {x y : State} (r : Result (Unit {0}) DecodeErrorKind) (k : DecodeErrorKind) → IsErrAnd r (λ e. e ≡ k) → y.options ≡ x.options →
-    Refused (length x.bits < 8 * n) k → AppendsOctets n before x r after y
+    IsOfField (8 * n) x.bits k × (length x.bits < 8 * n) → AppendsOctets n before x r after y
 none_appended (Ok v) k h e i = absurd h
-none_appended {n} {x = x} (Err f) k h e i = record { ok = tt; err = subst (Refused (length x.bits < 8 * n)) (sym h) i; kept = e }
+none_appended {n} {x = x} (Err f) k h e i = record { ok = tt; err = subst (λ z. IsOfField (8 * n) x.bits z × (length x.bits < 8 * n)) (sym h) i; kept = e }

@@ -4,6 +4,9 @@ pub mod Counts
 pub mod Fields
 pub mod Forms
 pub mod Naturals
+pub mod OfBitmaps
+pub mod OfFields
+pub mod OfLists
 pub mod OctetsInWords
 pub mod OneByOne
 pub mod Parts
@@ -16,6 +19,7 @@ pub mod Unbounded
 pub mod Marked
 pub mod SizeForms
 pub mod ShortOctets
+pub mod EndsEarly
 pub mod Miscounts
 pub mod Coded
 pub mod CharacterCodes

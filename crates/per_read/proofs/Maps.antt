@@ -8,7 +8,8 @@ use Rattle.per_core.specs.Spellings.{Settings, Then, Field, exactly}
 use Rattle.per_core.specs.Took.{Took}
 use Rattle.per_core.proofs.Agree.{field_agree}
 use Rattle.per_core.proofs.Took.{then_took, took_agree, took_map, took_then}
-use Rattle.per_read.specs.Kinds.{IsTested, NoneIn}
+use Rattle.per_read.specs.Fields.{IsOfUnconstrained}
+use Rattle.per_read.specs.Kinds.{NoneIn}
 use Rattle.per_read.specs.Sizes.{IsOfItems}
 use Rattle.per_read.specs.declared.error.DecodeErrorKind.TheVariants.{SizeConstraintNotSatisfied}
 use Rattle.per_core.specs.declared.items.Item.TheVariants.{Bit}
@@ -20,8 +21,9 @@ use Rattle.per_read.specs.declared.lengths.Length.TheVariants.{Last, Fragment}
 use Rattle.per_read.proofs.Coded.{none_of_bits}
 use Rattle.per_read.proofs.Fields.{either_took, when_took}
 use Rattle.per_read.proofs.Marked.{in_mark, mark_in, mark_past, no_mark, past_mark, behind_bit}
+use Rattle.per_read.proofs.OfFields.{past_marked}
 use Rattle.per_read.proofs.Parts.{Tail, first_part, items_begin, no_items_length, no_items_short, one_length}
-use Rattle.per_read.specs.Bitmaps.{large_bitmap, small_bitmap, large_fragments_of}
+use Rattle.per_read.specs.Bitmaps.{IsOfBitmap, IsOfLargeBitmap, IsOfSmallBitmap, large_bitmap, small_bitmap, large_fragments_of}
 use Rattle.per_read.specs.Flags.{AreFlags}
 use Rattle.per_read.specs.OpenTypes.{fragments_of}
 use Rattle.per_read.specs.Reasons.{gathering}
@@ -74,9 +76,9 @@ module _ (a : Settings) {s m : Bits} where
   pub no_large : s ≡ true ∷ m → NoneIn (large_bitmap a) m → NoneIn (IsBitmap a) s
   no_large e none flags t b = none flags t (past_mark small_bitmap (large_bitmap a) e flags t (took_bitmap a flags b))
 
-  pub large_gathers : s ≡ true ∷ m → {A B : Type 0} (k : DecodeErrorKind) → (A → B) → gathering fragments_of a m A k → gathering large_fragments_of a s B k
+  pub large_gathers : s ≡ true ∷ m → {A B : Type 0} (k : DecodeErrorKind) → (A → B) → gathering fragments_of IsOfLargeBitmap a m A k → gathering large_fragments_of IsOfBitmap a s B k
   large_gathers e k f (inl h) = inl (h.0, record { count = h.1.count; rest = h.1.rest; took = behind_bit true e h.1.rest h.1.took })
-  large_gathers e k f (inr h) = inr (h.0, f h.1)
+  large_gathers e k f (inr h) = inr (past_marked IsOfSmallBitmap (IsOfLargeBitmap a) k e h.0, f h.1)
 
 pub no_bitmap : (a : Settings) {s : Bits} → s ≡ [] → NoneIn (IsBitmap a) s
 no_bitmap a e flags t b = no_mark small_bitmap (large_bitmap a) e flags t (took_bitmap a flags b)
@@ -139,10 +141,10 @@ module _ (a : Settings) {s : Bits} where
       took_map (λ v x y. (omega (arith, f.is, f.some, ap length p.2, length-append p.0 p.1, p.3), y)) c
 
 -- every count of a string of any size is one that the size allows
-pub tested_bits : (a : Settings) (s : Bits) (k : DecodeErrorKind) → IsOfItems a any_size false Bit s k → IsTested k
-tested_bits a s (SizeConstraintNotSatisfied told) h =
+pub unsized_bits : (a : Settings) (s : Bits) (k : DecodeErrorKind) → IsOfItems a any_size false Bit s k → IsOfUnconstrained a 1 s k
+unsized_bits a s (SizeConstraintNotSatisfied told) h =
     let e : true ≡ false = sym h.took.spelled.allowed ∙ ap (allows any_size) h.count ∙ h.refused in absurd (cc)
-tested_bits a s _ h = h
+unsized_bits a s _ h = h
 
 -- what a bitmap is, behind its first bit
 pub flags_behind : (b : Bool) (v : PresenceBits) (flags : List Bool) {s m : Bits} (t : Bits) → s ≡ b ∷ m → AreFlags m t v flags → AreFlags s t v flags

@@ -1,24 +1,20 @@
 -- Items under a size constraint, and why there are none (X.691 11.9, 16.6, 17.3, 30.4).
-use Rattle.std.proofs.Common.{◌≡◌, ◌∙◌, inr, ℕ, Bool, true, false, List, [], ◌∷◌, length, sym, ap, Option}
+use Rattle.std.proofs.Common.{◌≡◌, ◌∙◌, inl, inr, ℕ, true, false, List, [], ◌∷◌, length, sym, ap, Option}
 use Rattle.rasn_types.specs.Bits.{Bits}
 use Rattle.rasn_constraints.specs.Bounds.{allows, Size, any_size}
-use Rattle.per_core.specs.Counts.{ItemKind}
-use Rattle.per_core.specs.Spellings.{Settings, Spelling, never}
+use Rattle.per_core.specs.Spellings.{Settings, never}
 use Rattle.per_core.specs.Items.{bits_of, counted_of}
 use Rattle.per_read.specs.Items.{TookItems, coded, unconstrained_items, sized_items, counted_items}
-use Rattle.per_read.specs.Kinds.{Faulty, IsTested, NoneIn, Refused, Stopped}
-use Rattle.per_read.specs.Sizes.{IsOfSize, IsOfItems, items_under}
+use Rattle.per_read.specs.Fields.{IsOfField, IsOfUnconstrained}
+use Rattle.per_read.specs.Kinds.{Faulty, NoneIn}
+use Rattle.per_read.specs.Sizes.{IsOfItems, IsOfUnder, items_under}
 use Rattle.per_core.specs.declared.items.Item.{Item}
 use Rattle.per_read.specs.declared.error.DecodeErrorKind.{DecodeErrorKind}
 use Rattle.per_read.specs.declared.error.DecodeErrorKind.TheVariants.{SizeConstraintNotSatisfied}
 use Rattle.per_read.proofs.Refusals.{faulty_map}
+use Rattle.per_read.proofs.OfFields.{in_marked, of_items, past_marked}
 use Rattle.per_read.proofs.Marked.{mark_in, mark_past, in_mark, past_mark, no_mark}
 use Rattle.per_read.proofs.SizeForms.{sized_of, of_sized, one_size}
-
--- a kind that tests show may come with items
-pub tested_size : {X : Type 0} (a : Settings) (size : Size) (mark : Bool) (kind : ItemKind) (item : X → Spelling) (s : Bits) (k : DecodeErrorKind) → IsTested k → IsOfSize a size mark kind item s k
-tested_size a size mark kind item s (SizeConstraintNotSatisfied told) h = absurd h
-tested_size a size mark kind item s _ h = h
 
 module _ (a : Settings) (i : Item) where
   module _ (size : Size) where
@@ -45,9 +41,9 @@ module _ (a : Settings) (i : Item) where
           let g : true ≡ false = sym c.spelled.allowed ∙ ap (allows size) (e ∙ b.count) ∙ h in cc,
     )
 
-    pub none_faulty : {s : Bits} (k : DecodeErrorKind) → Stopped (NoneIn (items_under a size i) s) k
+    pub none_faulty : {s : Bits} (k : DecodeErrorKind) → Faulty (IsOfUnder a size.least size.most i s) (NoneIn (items_under a size i) s) k
         → Faulty (IsOfItems a size false i s) (NoneIn (sized_items a size i) s) k
-    none_faulty {s} k = faulty_map k (tested_size a size false (counted_of i) (coded i) s k) none_sized
+    none_faulty {s} k = faulty_map k (of_items a size false i s k) none_sized
 
     -- behind an extension bit
     module _ {s m : Bits} where
@@ -74,15 +70,15 @@ module _ (a : Settings) (i : Item) where
         refused = h.refused;
         took = mark_in (items_under a size i) (λ xs. never) e h.items h.rest h.took;
       }
-      in_kind _ e h = h
+      in_kind k e h = in_marked (IsOfUnder a size.least size.most i) (IsOfUnconstrained a (bits_of i)) k e h
 
       pub faulty_in : (k : DecodeErrorKind) → s ≡ false ∷ m → Faulty (IsOfItems a size false i m) (NoneIn (sized_items a size i) m) k → Faulty (IsOfItems a size true i s) (NoneIn (counted_items a size true i) s) k
       faulty_in k e = faulty_map k (in_kind k e) (λ none xs t b. none xs t (in_mark (sized_items a size i) (sized_items a any_size i) e xs t b))
 
-      pub faulty_past : (k : DecodeErrorKind) → s ≡ true ∷ m → Stopped (NoneIn (unconstrained_items a i) m) k
+      pub faulty_past : (k : DecodeErrorKind) → s ≡ true ∷ m → Faulty (IsOfUnconstrained a (bits_of i) m) (NoneIn (unconstrained_items a i) m) k
           → Faulty (IsOfItems a size true i s) (NoneIn (counted_items a size true i) s) k
       faulty_past k e =
-          faulty_map k (tested_size a size true (counted_of i) (coded i) s k) (λ none xs t b. none xs t (past_mark (sized_items a size i) (sized_items a any_size i) e xs t b))
+          faulty_map k (λ h. of_items a size true i s k (past_marked (IsOfUnder a size.least size.most i) (IsOfUnconstrained a (bits_of i)) k e h)) (λ none xs t b. none xs t (past_mark (sized_items a size i) (sized_items a any_size i) e xs t b))
 
-    pub no_bit : {s : Bits} (k : DecodeErrorKind) → Refused (s ≡ []) k → Faulty (IsOfItems a size true i s) (NoneIn (counted_items a size true i) s) k
-    no_bit {s} k h = inr (tested_size a size true (counted_of i) (coded i) s k h.0, no_mark (sized_items a size i) (sized_items a any_size i) h.1)
+    pub no_bit : {s : Bits} (k : DecodeErrorKind) → IsOfField 1 s k × (s ≡ []) → Faulty (IsOfItems a size true i s) (NoneIn (counted_items a size true i) s) k
+    no_bit {s} k h = inr (of_items a size true i s k (inl h.0), no_mark (sized_items a size i) (sized_items a any_size i) h.1)

@@ -32,6 +32,13 @@ module _ (w : ℕ) where
       let l : length s ≡ length q.1.front + length q.0 = ap length q.1.joins ∙ length-append q.1.front q.0 in
       omega (arith, q.1.spelled.wide, items_wide xs q.2, mul-suc w (length xs))
 
+  pub items_exact : (xs : List ℕ) {s t : Bits} (a : Took (OneByOne (Field w) xs) s t) → length a.front ≡ w * length xs
+  items_exact xs a = go xs _ a.front a.spelled
+    where
+      go : (xs : List ℕ) (p : ℕ) (b : Bits) → OneByOne (Field w) xs p b → length b ≡ w * length xs
+      go [] p b h = ap length h ∙ omega arith
+      go (x ∷ xs) p b h = omega (arith, ap length h.joins, length-append h.front h.rest, h.is_front.wide, go xs _ h.rest h.is_rest, mul-suc w (length xs))
+
   items_far : (xs ys : List ℕ) {s m t : Bits} → Took (OneByOne (Field w) xs) s m → Took (OneByOne (Field w) ys) m t → Took (OneByOne (Field w) (xs ++ ys)) s t
   items_far [] ys {t = t} a b = subst (λ z. Took (OneByOne (Field w) ys) z t) (sym (nothing_took a)) b
   items_far (x ∷ xs) ys a b = let q = then_took a in took_then q.1 (items_far xs ys q.2 b)

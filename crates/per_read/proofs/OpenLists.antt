@@ -14,13 +14,18 @@ use Rattle.per_core.proofs.Agree.{Agree}
 use Rattle.per_core.proofs.Took.{took_then, then_took, took_map, took_agree, took_nothing, nothing_took}
 use Rattle.per_read.specs.Kinds.{NoneIn}
 use Rattle.per_read.specs.Lengths.{LengthOf, count_of, is_followed}
-use Rattle.per_read.specs.Lists.{AreOpenItems, AwaitsItem, IsLeft, ListRule, RefusesList, Rest, RestUpTo, list_form}
+use Rattle.per_read.specs.Fields.{IsOfLength}
+use Rattle.per_read.specs.InLists.{AreUncounted, IsOfList}
+use Rattle.per_read.specs.Lists.{AreOpenItems, AwaitsItem, IsLeft, ListRule, RefusesList, Rest, RestUpTo, RestUpToLength, list_form}
 use Rattle.per_read.specs.Sizes.{Miscounted}
-use Rattle.per_read.specs.UpTo.{UpTo, UpToFragment, UpToUnconstrained}
+use Rattle.per_read.specs.UpTo.{InWhole, LengthUpTo, UpTo, UpToFragment, UpToUnconstrained, WholeFragments}
+use Rattle.per_read.specs.declared.error.DecodeErrorKind.{DecodeErrorKind}
 use Rattle.per_read.specs.declared.error.DecodeErrorKind.TheVariants.{SizeConstraintNotSatisfied}
 use Rattle.per_read.specs.declared.lengths.Length.{Length}
 use Rattle.per_read.specs.declared.lengths.Length.TheVariants.{Last, Fragment}
 use Rattle.per_read.specs.declared.lists.UnreadElements.{UnreadElements}
+use Rattle.per_read.proofs.OfFields.{length_tested}
+use Rattle.per_read.proofs.OfLists.{of_list}
 use Rattle.per_read.proofs.Parts.{Tail, first_part, last_part, more_parts, one_length}
 use Rattle.per_read.proofs.SizeForms.{countable}
 
@@ -76,6 +81,12 @@ module _ {X : Type 0} (item : X → Spelling) where
         go : {m : Bits} → Took (item x) s m → UpToSplit n xs m t → UpToSplit (suc n) (x ∷ xs) s t
         go c (inl d) = inl (omega (arith, d.0), took_then c d.1)
         go c (inr d) = inr (split_more c d)
+
+    -- up to a further length, these and what is behind them
+    pub length_split : (n : ℕ) (xs : List X) {s t : Bits} → Took (RestUpToLength a item more n xs) s t → Split (RestUpToLength a item more zero) n xs s t
+    length_split zero xs {s} b = record { these = []; others = xs; middle = s; all = refl; many = refl; are_these = took_nothing s; behind = b }
+    length_split (suc n) [] b = absurd b.spelled
+    length_split (suc n) (x ∷ xs) b = let q = then_took b in split_more q.1 (length_split n xs q.2)
 
   -- as many items as were counted
   module _ (a : Settings) {n : ℕ} (xs : List X) {s t : Bits} where
@@ -133,6 +144,20 @@ module _ {X : Type 0} {a : Settings} {item : X → Spelling} {s m : Bits} where
       go (inl d) = took_map (λ p y j. record { fragments = 0; spelled = record { counts = l; fewer = d.0; spelled = j } }) (took_then b d.1)
       go (inr d) = subst (λ z. Took (UpToUnconstrained a item z) s t) (sym d.all) (behind l d.others d.middle b d.these d.many d.are_these d.behind)
 
+  -- and up to a further length
+  pub up_to_next : (l : Length) → Took (LengthOf a l) s m → (xs : List X) (t : Bits) → Took (RestUpToLength a item (is_followed l) (count_of l) xs) m t → Took (WholeFragments a item xs) s t
+  up_to_next l b xs t c = let d = length_split item a (is_followed l) (count_of l) xs c in subst (λ z. Took (WholeFragments a item z) s t) (sym d.all) (behind l d.others d.middle b d.these d.many d.are_these d.behind)
+    where
+      behind : (h : Length) (others : List X) (r : Bits) → Took (LengthOf a h) s m → (these : List X) → length these ≡ count_of h → Took (OneByOne item these) m r
+          → Took (RestUpToLength a item (is_followed h) zero others) r t → Took (WholeFragments a item (these ++ others)) s t
+      behind (Last n) others r b these e d x = absurd x.spelled
+      behind (Fragment n) others r b these e d x =
+          let q = then_took b in
+          let h : Took (Basic.Fragment (length these)) q.0 m = subst (λ z. Took (Basic.Fragment z) q.0 m) (sym e) q.2 in
+          let k = x.spelled.fragments in
+          let i : Took (InWhole a item k others) r t = record { front = x.front; joins = x.joins; spelled = x.spelled.spelled } in
+          took_map (λ p y j. record { fragments = suc k; spelled = record { these = these; others = others; all = refl; spelled = j } }) (took_then q.1 (took_then h (took_then d i)))
+
 module _ {X : Type 0} (f : ListRule X) {start : Bits} {before : List X} where
   -- an open list with a length of its next fragment read
   pub amid_fragment : {l : UnreadElements} {here m : Bits} (counts : Length) → l.left ≡ 0 → l.more ≡ true → Took (LengthOf f.settings counts) here m → AreOpenItems f start before l here
@@ -148,6 +173,7 @@ module _ {X : Type 0} (f : ListRule X) {start : Bits} {before : List X} where
     };
     miscounted = λ xs t refused few c. h.miscounted xs t refused few (forth xs t c);
     up_to = λ xs t c. h.up_to xs t (subst (λ z. Took (RestUpTo f.settings f.item z l.left xs) here t) (sym another) (subst (λ z. Took (RestUpTo f.settings f.item true z xs) here t) (sym none) (up_to_length counts b xs t c)));
+    up_to_length = λ xs t c. h.up_to_length xs t (subst (λ z. Took (RestUpToLength f.settings f.item z l.left xs) here t) (sym another) (subst (λ z. Took (RestUpToLength f.settings f.item true z xs) here t) (sym none) (up_to_next counts b xs t c)));
   }
     where
       forth : (xs : List X) (t : Bits) → Took (Rest f.settings f.item (is_followed counts) (count_of counts) xs) m t → Took (Rest f.settings f.item l.more l.left xs) here t
@@ -172,6 +198,7 @@ module _ {X : Type 0} (f : ListRule X) {start : Bits} {before : List X} where
       miscounted = λ xs t refused few c. joined x xs (λ zs. allows (size_between l.size) (length zs) ≡ false → length zs < 2 ^ 64 → Miscounted f.settings f.size f.mark list_items f.item (length zs) (start_of l.size) (end_of l.size) start)
           (λ r w. h.miscounted (x ∷ xs) t r w (forth (x ∷ xs) t (took_then b c))) refused few;
       up_to = λ xs t c. joined x xs (λ zs. Took (UpTo f.settings f.size f.mark f.item zs) start t) (h.up_to (x ∷ xs) t (up_to (x ∷ xs) t (took_then b c)));
+      up_to_length = λ xs t c. joined x xs (λ zs. Took (LengthUpTo f.settings f.size f.mark f.item zs) start t) (h.up_to_length (x ∷ xs) t (up_to_next_length (x ∷ xs) t (took_then b c)));
     };
     none = λ unread xs t c. let i = h.back xs t c in no_item unread i.others t (subst (λ z. Took (Rest f.settings f.item l.more z i.others) here t) some i.took);
   }
@@ -181,6 +208,9 @@ module _ {X : Type 0} (f : ListRule X) {start : Bits} {before : List X} where
 
       up_to : (xs : List X) (t : Bits) → Took (RestUpTo f.settings f.item l.more (suc n) xs) here t → Took (RestUpTo f.settings f.item l.more l.left xs) here t
       up_to xs t c = subst (λ z. Took (RestUpTo f.settings f.item l.more z xs) here t) (sym some) c
+
+      up_to_next_length : (xs : List X) (t : Bits) → Took (RestUpToLength f.settings f.item l.more (suc n) xs) here t → Took (RestUpToLength f.settings f.item l.more l.left xs) here t
+      up_to_next_length xs t c = subst (λ z. Took (RestUpToLength f.settings f.item l.more z xs) here t) (sym some) c
 
       joined : (x : X) (xs : List X) (P : List X → Type 0) → P (before ++ x ∷ xs) → P ((before ++ x ∷ []) ++ xs)
       joined x xs P c = subst P (sym (append_assoc before (x ∷ []) xs)) c
@@ -201,6 +231,23 @@ module _ {X : Type 0} (f : ListRule X) {start : Bits} {before : List X} where
       no_item : NoneIn f.item here → (others : List X) (t : Bits) → Took (Rest f.settings f.item l.more (suc n) others) here t → ⊥
       no_item unread [] t c = absurd c.spelled
       no_item unread (y ∷ ys) t c = let q = then_took c in unread y q.0 q.1
+
+  -- what a kind says of a list where no length is read, and where its items can't be counted
+  pub says_length : {l : UnreadElements} {here : Bits} (k : DecodeErrorKind) → l.left ≡ 0 → l.more ≡ true → IsOfLength f.settings here k → AreOpenItems f start before l here
+      → IsOfList f.settings f.size f.mark f.item start k
+  says_length {l} {here} k none another says h = of_list f.settings f.size f.mark f.item start k (length_tested k says) (inr (inl (before ++ [], (here, h.up_to_length [] here ready, says))))
+    where
+      ready : Took (RestUpToLength f.settings f.item l.more l.left []) here here
+      ready = subst (λ z. Took (RestUpToLength f.settings f.item z l.left []) here here) (sym another)
+          (subst (λ z. Took (RestUpToLength f.settings f.item true z []) here here) (sym none) (took_map (λ p x i. record { fragments = 0; spelled = (refl, i) }) (took_nothing here)))
+
+  pub uncounted : {l : UnreadElements} {here : Bits} (n : ℕ) → l.left ≡ suc n → 2 ^ 64 ≤ l.count + 1 → AreOpenItems f start before l here → AreUncounted f.settings f.size f.mark f.item start
+  uncounted {l} {here} n some many h = record {
+    items = before ++ [];
+    rest = here;
+    many = omega (arith, many, h.count, ap length (append-nil before));
+    took = h.up_to [] here (subst (λ z. Took (RestUpTo f.settings f.item l.more z []) here here) (sym some) (took_nothing here));
+  }
 
   -- there are no more items than can be counted
   pub none_uncounted : {l : UnreadElements} {here : Bits} (n : ℕ) → l.left ≡ suc n → 2 ^ 64 ≤ l.count + 1 → AreOpenItems f start before l here → NoneIn (list_form f) start

@@ -13,15 +13,16 @@ use Rattle.per_core.specs.Counts.{list_items}
 use Rattle.per_core.specs.Spellings.{Settings, Spelling, never}
 use Rattle.per_core.specs.Took.{Took}
 use Rattle.per_core.proofs.Took.{took_then, then_took, took_map, took_agree, took_nothing, nothing_took}
+use Rattle.per_read.specs.InLists.{IsOfOpening}
 use Rattle.per_read.specs.Kinds.{NoneIn}
 use Rattle.per_read.specs.Lists.{AreOpenItems, Leaves, ListRule, OpensList, Rest, RestUpTo, list_form, list_rule}
 use Rattle.per_read.specs.Sizes.{Between, CountFrom, under_size}
 use Rattle.per_read.specs.State.{State, settings_of}
-use Rattle.per_read.specs.UpTo.{UpToBetween, UpToSized, UpToUnconstrained}
+use Rattle.per_read.specs.UpTo.{LengthUpToSized, UpToBetween, UpToSized, UpToUnconstrained, WholeFragments}
 use Rattle.per_read.specs.declared.error.DecodeErrorKind.{DecodeErrorKind}
 use Rattle.per_read.specs.declared.lists.UnreadElements.{UnreadElements}
 use Rattle.per_read.proofs.Marked.{mark_in, mark_past, in_mark, past_mark, no_mark}
-use Rattle.per_read.proofs.OpenLists.{counted, of_counted, up_to_split}
+use Rattle.per_read.proofs.OpenLists.{counted, length_split, of_counted, up_to_split}
 use Rattle.per_core.proofs.ConstrainedLengths.{IsConstrained, IsFree}
 use Rattle.per_read.proofs.SizeForms.{countable, count_agree, no_count_between, of_sized, sized_of, under_constrained, under_free}
 
@@ -34,6 +35,11 @@ module _ {X : Type 0} (a : Settings) (item : X → Spelling) where
 
   up_to_constrained : {l u : Option ℕ} {lb ub : ℕ} → IsConstrained l u lb ub → (xs : List X) → UpToSized a l u item xs ≡ UpToBetween a lb ub item xs
   up_to_constrained {l} {u} {lb} {ub} h xs = rw (h.lower, h.upper, lt-ltb ub 65536 h.few) refl
+
+  length_free : (l u : Option ℕ) → IsFree l u → (xs : List X) → LengthUpToSized a l u item xs ≡ WholeFragments a item xs
+  length_free None u h xs = refl
+  length_free (Some lb) None h xs = refl
+  length_free (Some lb) (Some ub) h xs = rw (le-ltb ub 65536 h) refl
 
   -- elements of a list begin anywhere
   no_padding : (b : Bool) (s : Bits) → Took (PaddingIf (b && false) a) s s
@@ -68,6 +74,7 @@ module _ {X : Type 0} (a : Settings) (item : X → Spelling) where
         took = as_under xs t (lt-ltb (length xs) (2 ^ 64) few) c;
       };
       up_to = λ xs t c. subst (λ z. Took z s t) (sym (up_to_free (start_of size) (end_of size) free xs)) c;
+      up_to_length = λ xs t c. subst (λ z. Took z s t) (sym (length_free (start_of size) (end_of size) free xs)) c;
     }
       where
         is : (xs : List X) → under xs ≡ Sized a any_size list_items item xs
@@ -88,6 +95,7 @@ module _ {X : Type 0} (a : Settings) (item : X → Spelling) where
         back = λ xs t c. record { others = xs; all = refl; allowed = c.spelled.allowed; took = of_under xs t (of_sized a list_items item xs (size_between size) c) };
         miscounted = λ xs t refused few c. record { items = xs; rest = t; count = refl; is_least = refl; is_most = refl; refused = refused; took = as_under xs t c };
         up_to = λ xs t c. subst (λ z. Took z s t) (sym (up_to_constrained bounds xs)) (up_to xs t c);
+        up_to_length = λ xs t c. let d = length_split item a false n xs c in absurd d.behind.spelled;
       }
         where
           as_under : (xs : List X) (t : Bits) → Took (Rest a item false n xs) m t → Took (under xs) s t
@@ -139,6 +147,7 @@ module _ {X : Type 0} (a : Settings) (item : X → Spelling) where
           took = mark_in (under_size a size.least size.most list_items item) (λ xs. never) e r.items r.rest r.took;
         };
         up_to = λ xs t c. mark_in (UpToSized a size.least size.most item) (UpToUnconstrained a item) e (before ++ xs) t (h.up_to xs t c);
+        up_to_length = λ xs t c. mark_in (LengthUpToSized a size.least size.most item) (WholeFragments a item) e (before ++ xs) t (h.up_to_length xs t c);
       }
 
       pub amid_outside : {l : UnreadElements} {here : Bits} {before : List X} → s ≡ true ∷ m → AreOpenItems (rule any_size false) m before l here → AreOpenItems (rule size true) s before l here
@@ -149,6 +158,7 @@ module _ {X : Type 0} (a : Settings) (item : X → Spelling) where
         miscounted = λ xs t refused few c. let r = h.miscounted xs t refused few c in
             let g : true ≡ false = sym (lt-ltb (length (before ++ xs)) (2 ^ 64) few) ∙ r.refused in absurd (cc);
         up_to = λ xs t c. mark_past (UpToSized a size.least size.most item) (UpToUnconstrained a item) e (before ++ xs) t (h.up_to xs t c);
+        up_to_length = λ xs t c. mark_past (LengthUpToSized a size.least size.most item) (WholeFragments a item) e (before ++ xs) t (h.up_to_length xs t c);
       }
 
       pub none_inside : s ≡ false ∷ m → NoneIn (list_form (rule size false)) m → NoneIn (list_form (rule size true)) s
@@ -168,11 +178,12 @@ leaves_behind t (Err e) a b = tt
 -- what a call opens behind others that took the bit
 pub opens_behind : {size other : Size} {mark marked : Bool} {x m y : State} {r : Result UnreadElements DecodeErrorKind} → OpensList other marked m r y → m.options ≡ x.options → Leaves x.bits m.bits
     → ((l : UnreadElements) (e : Schema) → AreOpenItems (list_rule (settings_of x) other marked e) m.bits [] l y.bits → AreOpenItems (list_rule (settings_of x) size mark e) x.bits [] l y.bits)
+    → ((k : DecodeErrorKind) → IsOfOpening (settings_of x) other marked m.bits k → IsOfOpening (settings_of x) size mark x.bits k)
     → ((e : Schema) → NoneIn (list_form (list_rule (settings_of x) other marked e)) m.bits → NoneIn (list_form (list_rule (settings_of x) size mark e)) x.bits)
     → OpensList size mark x r y
-opens_behind {y = y} {r = r} h same leaves f g = record {
+opens_behind {y = y} {r = r} h same leaves f i g = record {
   ok = IfOk-weaker r _ _ (λ l amid e. f l e (rw (sym same) (amid e))) h.ok;
-  err = IfErr-weaker r _ _ (λ k none. (none.0, λ e. g e (rw (sym same) (none.1 e)))) h.err;
+  err = IfErr-weaker r _ _ (λ k none. (i k (rw (sym same) none.0), λ e. g e (rw (sym same) (none.1 e)))) h.err;
   leaves = leaves_behind y.bits r leaves h.leaves;
   kept = h.kept ∙ same;
 }

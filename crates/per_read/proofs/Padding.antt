@@ -12,6 +12,7 @@ use Rattle.per_core.proofs.Agree.{fronts}
 use Rattle.per_core.proofs.Took.{then_took}
 use Rattle.per_core.proofs.Within.{zero_if}
 use Rattle.per_core.proofs.Zeros.{zeros}
+use Rattle.per_read.specs.Fields.{AreNonzero}
 use Rattle.per_read.specs.Kinds.{NoneIn}
 use Rattle.per_read.specs.Options.{settings}
 use Rattle.per_read.specs.Takes.{alone}
@@ -51,7 +52,17 @@ module _ (o : ReaderOptions) where
       pub padded_zero : n ≡ 0 → Took (AnyPadding (settings o)) s t
       padded_zero h = padded (zero_if o.zero_padding f (zeros f (sym is_number ∙ h)))
 
-      -- nothing is padding where they aren't zero
+      -- where they aren't zero
+      pub nonzero : o.zero_padding ≡ true → n ≢ 0 → AreNonzero (settings o) s
+      nonzero strict some = record {
+        padding = f;
+        rest = t;
+        joins = joins;
+        fits = fits;
+        nonzero = λ z. some (is_number ∙ ap number_of (subst (λ z. ZeroIf z f) strict z) ∙ number-zeros (length f));
+      }
+
+      -- nothing is padding then
       pub unpadded : o.zero_padding ≡ true → n ≢ 0 → NoneIn (alone AnyPadding (settings o)) s
       unpadded strict some u r b =
           let same : f ≡ b.front = fronts f b.front t r (fits ∙ sym b.spelled.fits) (sym joins ∙ b.joins) in

@@ -1,5 +1,5 @@
 -- Items of as many bits each in fragments, from the first length on (X.691 11.9.3.8).
-use Rattle.std.proofs.Common.{◌≡◌, ◌<◌, ◌≤◌, inl, inr, ℕ, zero, suc, true, ◌+◌, ◌*◌, ◌^◌, List, [], ◌++◌, length, refl, sym, ◌∙◌, ap, subst, arith, append_assoc, length-append}
+use Rattle.std.proofs.Common.{◌≡◌, ◌<◌, ◌≤◌, ℕ, zero, suc, true, ◌+◌, ◌*◌, ◌^◌, List, [], ◌++◌, length, refl, sym, ◌∙◌, ap, subst, arith, append_assoc, length-append}
 use Rattle.std.proofs.lemmas.List.{append-nil}
 use Rattle.std.proofs.lemmas.Bool.{lt-ltb, ltb-true}
 use Rattle.rasn_types.specs.Bits.{Bits}
@@ -17,10 +17,11 @@ use Rattle.per_read.specs.declared.lengths.Length.TheVariants.{Last, Fragment}
 use Rattle.per_read.specs.declared.error.DecodeErrorKind.{DecodeErrorKind}
 use Rattle.per_read.specs.Items.{Adds, TookItems, Gathered}
 use Rattle.per_read.specs.Lengths.{CountOf, LengthOf, count_of}
-use Rattle.per_read.specs.Kinds.{NoneIn, Stopped}
+use Rattle.per_read.specs.Fields.{IsOfFragments, IsOfUnconstrained, past_fragment}
+use Rattle.per_read.specs.Kinds.{NoneIn}
 use Rattle.per_read.proofs.Fields.{field_below}
 use Rattle.per_read.proofs.Counts.{Begins, short, long, fragment, count_begins, one_count, unpadded}
-use Rattle.per_read.proofs.OneByOne.{items_wide, adds_none, adds_more}
+use Rattle.per_read.proofs.OneByOne.{items_exact, items_wide, adds_none, adds_more}
 
 -- what a length says of its count and of the bits that it takes
 small_count : (l : Length) (s t : Bits) → Took (CountOf l) s t → (count_of l ≤ 65536) × (length t < length s)
@@ -121,9 +122,10 @@ pub record ItemsSoFar {C : Type 0} (holds : C → C → List ℕ → Type 0) (a 
   pub added : Adds holds before codes items
   pub on : (xs : List ℕ) (t : Bits) → Took (UnconstrainedLength a (Field w) xs) here t → Took (UnconstrainedLength a (Field w) (codes ++ xs)) start t
   pub back : (xs : List ℕ) (t : Bits) → Took (UnconstrainedLength a (Field w) xs) start t → (others : List ℕ) × (xs ≡ codes ++ others) × Took (UnconstrainedLength a (Field w) others) here t
+  pub refusal : (k : DecodeErrorKind) → IsOfFragments a w k n here → IsOfUnconstrained a w start k
 
 pub items_begin : {C : Type 0} (holds : C → C → List ℕ → Type 0) (a : Settings) (w : ℕ) (s : Bits) (items : C) → ItemsSoFar holds a w s s items items 0
-items_begin holds a w s items = record { codes = []; count = refl; added = adds_none holds items; on = λ xs t b. b; back = λ xs t b. (xs, refl, b) }
+items_begin holds a w s items = record { codes = []; count = refl; added = adds_none holds items; on = λ xs t b. b; back = λ xs t b. (xs, refl, b); refusal = λ k h. h }
 
 module _ {C : Type 0} {holds : C → C → List ℕ → Type 0} {a : Settings} {w : ℕ} {start here : Bits} {before items : C} {n : ℕ} (h : ItemsSoFar holds a w start here before items n) where
   pub items_go_on : {l : Length} {k j : ℕ} {m r : Bits} {more : C} → Took (LengthOf a l) here m → l ≡ Fragment k → j ≡ count_of l → TookItems holds (OneByOne (Field w)) j items more m r
@@ -135,8 +137,12 @@ module _ {C : Type 0} {holds : C → C → List ℕ → Type 0} {a : Settings} {
     on = λ xs t d.
         subst (λ z. Took (UnconstrainedLength a (Field w) z) start t) (sym (append_assoc h.codes c.codes xs)) (h.on (c.codes ++ xs) t (more_parts (Field w) c.codes fragment (c.count ∙ i ∙ ap count_of e) c.took d));
     back = λ xs t d. let q = h.back xs t d in go xs t q.0 q.1 (first_part (Field w) a q.0 here t q.2);
+    refusal = λ f d. h.refusal f (past_fragment c.took.front fragment c.took.joins (items_exact w c.codes c.took ∙ ap (λ (z : ℕ). w * z) (c.count ∙ counted)) (subst (λ (z : ℕ). IsOfFragments a w f (n + z) r) counted d));
   }
     where
+      counted : j ≡ k
+      counted = i ∙ ap count_of e
+
       fragment : Took (LengthOf a (Fragment k)) here m
       fragment = subst (λ z. Took (LengthOf a z) here m) e b
 
@@ -188,8 +194,3 @@ module _ {C : Type 0} {holds : C → C → List ℕ → Type 0} {a : Settings} {
 -- all items are those that were appended to none
 pub are_gathered : {C : Type 0} {holds : C → C → List ℕ → Type 0} {form : List ℕ → Spelling} {n : ℕ} {before after : C} {s t : Bits} → TookItems holds form n before after s t → holds before before [] → Gathered (holds before after) form s t
 are_gathered {before = before} b h = record { codes = b.codes; held = b.added.behind before [] h; took = b.took }
-
--- where a fact follows from another
-pub stopped : {A B : Type 0} (k : DecodeErrorKind) → (A → B) → Stopped A k → Stopped B k
-stopped k f (inl e) = inl e
-stopped k f (inr h) = inr (h.0, f h.1)

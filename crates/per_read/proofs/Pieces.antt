@@ -10,7 +10,8 @@ use Rattle.per_core.specs.Spellings.{Settings, Spelling}
 use Rattle.per_core.specs.Took.{Took}
 use Rattle.per_core.proofs.Took.{took_map}
 use Rattle.per_read.specs.Items.{TookItems}
-use Rattle.per_read.specs.Kinds.{NoneIn, Stopped}
+use Rattle.per_read.specs.Fields.{Says}
+use Rattle.per_read.specs.Kinds.{Faulty, NoneIn}
 use Rattle.per_read.specs.Lengths.{LengthOf}
 use Rattle.per_read.specs.Takes.{Front}
 use Rattle.per_read.specs.declared.error.DecodeErrorKind.{DecodeErrorKind}
@@ -52,6 +53,7 @@ module _ (a : Settings) {s : Bits} where
   no_front_no_octets n {m} b none = no_items_short (items_begin Anything a 8 s tt) octet_items (Last n) m b (λ few. no_front none)
 
 -- a refusal by a call that gathers fragments
-pub gathers : {a : Settings} {s m : Bits} {A B : Type 0} (n : ℕ) (k : DecodeErrorKind) → Took (LengthOf a (Fragment n)) s m → (A → B) → Stopped A k → gathering fragments_of a s B k
-gathers n k b f (inl e) = inl (e, record { count = n; rest = _; took = b })
-gathers n k b f (inr h) = inr (h.0, f h.1)
+pub gathers : (says : Settings → Says) {a : Settings} {s m : Bits} {A B : Type 0} (n : ℕ) (k : DecodeErrorKind) → Took (LengthOf a (Fragment n)) s m → (A → B) → Faulty (says a s) A k
+    → gathering fragments_of says a s B k
+gathers says n k b f (inl e) = inl (e, record { count = n; rest = _; took = b })
+gathers says n k b f (inr h) = inr (h.0, f h.1)

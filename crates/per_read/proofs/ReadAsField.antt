@@ -21,7 +21,8 @@ use Rattle.per_core.specs.Took.{place, Took}
 use Rattle.per_core.specs.Writers.{pad}
 use Rattle.per_core.proofs.Took.{took_map, took_then, then_took}
 use Rattle.per_read.specs.FewOctets.{AreOctetsOf, AtOnce, TookFew, TakesFew}
-use Rattle.per_read.specs.Kinds.{NoneIn, Refused}
+use Rattle.per_read.specs.Fields.{IsOfUnconstrained}
+use Rattle.per_read.specs.Kinds.{NoneIn}
 use Rattle.per_read.specs.Lengths.{LengthOf, count_of}
 use Rattle.per_read.specs.State.{State, settings_of}
 use Rattle.per_read.specs.declared.error.DecodeErrorKind.{DecodeErrorKind}
@@ -185,9 +186,9 @@ module _ (a : Settings) (s : Bits) where
       (λ few. subst (λ (n : ℕ). length m < 8 * n) (sym (ap count_of e)) h)
 
 pub few_refused : {x y : State} (r : Result (Option FewOctets) DecodeErrorKind) (k : DecodeErrorKind) → IsErrAnd r (λ e. e ≡ k) → y.options ≡ x.options
-    → Refused (NoneIn (Octets (settings_of x)) x.bits) k → TakesFew x r y
+    → IsOfUnconstrained (settings_of x) 8 x.bits k × NoneIn (Octets (settings_of x)) x.bits → TakesFew x r y
 few_refused (Ok v) k h e i = absurd h
-few_refused {x} (Err f) k h e i = record { ok = tt; err = subst (Refused (NoneIn (Octets (settings_of x)) x.bits)) (sym h) i; kept = e }
+few_refused {x} (Err f) k h e i = record { ok = tt; err = subst (λ z. IsOfUnconstrained (settings_of x) 8 x.bits z × NoneIn (Octets (settings_of x)) x.bits) (sym h) i; kept = e }
 
 -- a call where nothing was taken before
 pub few_after : {x m y : State} {r : Result (Option FewOctets) DecodeErrorKind} → m.bits ≡ x.bits → m.options ≡ x.options → TakesFew m r y → TakesFew x r y

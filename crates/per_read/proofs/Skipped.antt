@@ -1,5 +1,5 @@
 -- Unknown additions are skipped one after another (X.691 19.9).
-use Rattle.std.proofs.Common.{◌≡◌, sym, subst, List, [], ◌∷◌, Bool, true, false}
+use Rattle.std.proofs.Common.{◌≡◌, sym, subst, inl, inr, List, [], ◌∷◌, Bool, true, false}
 use Rattle.rasn_types.specs.Bits.{Bits}
 use Rattle.per_core.specs.Basic.{Unknown}
 use Rattle.per_core.specs.Spellings.{Settings}
@@ -7,16 +7,19 @@ use Rattle.per_core.specs.Took.{Took}
 use Rattle.per_core.proofs.Took.{then_took, took_agree, took_nothing, took_then}
 use Rattle.per_core.proofs.Unique.{open_agree}
 use Rattle.per_read.specs.Kinds.{NoneIn}
-use Rattle.per_read.specs.Bitmaps.{skipped_unknown}
+use Rattle.per_read.specs.Bitmaps.{IsOfUnknown, skipped_unknown}
+use Rattle.per_read.specs.Fields.{IsOfUnconstrained}
+use Rattle.per_read.specs.declared.error.DecodeErrorKind.{DecodeErrorKind}
 use Rattle.per_read.specs.OpenTypes.{skipped_open}
 
 -- The additions from `start` on are those that were skipped and those from here.
 pub record SkippedSoFar (a : Settings) (flags left : List Bool) (start here : Bits) : Type 0 where
   pub on : (t : Bits) → Took (Unknown a left) here t → Took (Unknown a flags) start t
   pub back : (t : Bits) → Took (Unknown a flags) start t → Took (Unknown a left) here t
+  pub refusal : (k : DecodeErrorKind) → IsOfUnknown left a here k → IsOfUnknown flags a start k
 
 pub skip_begins : (a : Settings) (flags : List Bool) (s : Bits) → SkippedSoFar a flags flags s s
-skip_begins a flags s = record { on = λ t b. b; back = λ t b. b }
+skip_begins a flags s = record { on = λ t b. b; back = λ t b. b; refusal = λ k h. h }
 
 module _ {a : Settings} {flags left : List Bool} {start here : Bits} (h : SkippedSoFar a flags left start here) where
   pub skip_ends : left ≡ [] → Took (Unknown a flags) start here
@@ -27,6 +30,7 @@ module _ {a : Settings} {flags left rest : List Bool} {start here : Bits} (h : S
   skip_absent e = record {
     on = λ t b. h.on t (subst (λ z. Took (Unknown a z) here t) (sym e) b);
     back = λ t b. subst (λ z. Took (Unknown a z) here t) e (h.back t b);
+    refusal = λ k f. h.refusal k (subst (λ z. IsOfUnknown z a here k) (sym e) f);
   }
 
   pub skip_present : {m : Bits} → left ≡ true ∷ rest → Took (skipped_open a tt) here m → SkippedSoFar a flags rest start m
@@ -35,7 +39,11 @@ module _ {a : Settings} {flags left rest : List Bool} {start here : Bits} (h : S
     back = λ t b.
         let q = then_took (subst (λ z. Took (Unknown a z) here t) e (h.back t b)) in
         subst (λ z. Took (Unknown a rest) z t) (took_agree (open_agree {P = Unit {0}} a (λ os. Unit {0}) (λ os. Unit {0}) (λ os x y. tt)) q.1 o).1 q.2;
+    refusal = λ k f. h.refusal k (subst (λ z. IsOfUnknown z a here k) (sym e) (inr (m, o, f)));
   }
+
+  pub skip_refused : (k : DecodeErrorKind) → left ≡ true ∷ rest → IsOfUnconstrained a 8 here k → IsOfUnknown flags a start k
+  skip_refused k e f = h.refusal k (subst (λ z. IsOfUnknown z a here k) (sym e) (inl f))
 
   pub none_skipped : left ≡ true ∷ rest → NoneIn (skipped_open a) here → NoneIn (skipped_unknown flags a) start
   none_skipped e none u t b = let q = then_took (subst (λ z. Took (Unknown a z) here t) e (h.back t b)) in none tt q.0 q.1

@@ -6,23 +6,25 @@ use Rattle.per_core.specs.Basic.{IsNumber, IsSemiConstrainedWhole, Small, at_lea
 use Rattle.per_core.specs.Spellings.{Settings, Then, exactly, Field}
 use Rattle.per_core.specs.Took.{Took}
 use Rattle.per_core.proofs.Took.{took_then, then_took, took_map}
-use Rattle.per_read.specs.Kinds.{IsTested}
+use Rattle.per_read.specs.Fields.{IsOfField, IsOfMarked, IsOfUnconstrained}
 use Rattle.per_read.specs.Numbers.{IsOfOctets}
 use Rattle.per_read.specs.SmallNumbers.{IsOfSmall, small_form}
 use Rattle.per_read.specs.declared.error.DecodeErrorKind.{DecodeErrorKind}
 use Rattle.per_read.specs.declared.error.DecodeErrorKind.TheVariants.{UnexpectedEmptyInput}
+use Rattle.per_read.proofs.Calls.{of_short}
 use Rattle.per_read.proofs.Fields.{either_took}
 use Rattle.per_read.proofs.Marked.{behind_bit}
+use Rattle.per_read.proofs.OfFields.{marked_tested, past_marked, unconstrained_tested}
 
--- a kind that tests show may come with one
-pub tested_small : (a : Settings) (s : Bits) (k : DecodeErrorKind) → IsTested k → IsOfSmall a s k
-tested_small a s UnexpectedEmptyInput h = absurd h
-tested_small a s _ h = h
+-- what a kind says of a field of one
+pub field_small : (a : Settings) (s : Bits) (k : DecodeErrorKind) → IsOfMarked true (IsOfField 6) (IsOfUnconstrained a 8) s k → IsOfSmall a s k
+field_small a s UnexpectedEmptyInput h = absurd (marked_tested (IsOfField 6) (IsOfUnconstrained a 8) true s UnexpectedEmptyInput (λ t x. of_short UnexpectedEmptyInput x) (λ t x. unconstrained_tested UnexpectedEmptyInput x) h)
+field_small a s _ h = h
 
 -- the octets of a large form
 pub octets_small : (a : Settings) (s m : Bits) (k : DecodeErrorKind) → s ≡ true ∷ m → IsOfOctets a m k → IsOfSmall a s k
 octets_small a s m UnexpectedEmptyInput e h = (h.0, behind_bit true e h.0 h.1)
-octets_small a s m _ e h = h
+octets_small a s m k e h = past_marked (IsOfField 6) (IsOfUnconstrained a 8) k e h
 
 -- a number that 64 bits hold is within an i128
 fits_small : (i : ℕ) → i < 2 ^ 64 → fits_i128 (pos i) ≡ true

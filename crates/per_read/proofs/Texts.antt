@@ -7,16 +7,18 @@ use Rattle.per_core.specs.Spellings.{Settings}
 use Rattle.per_core.specs.Took.{Took}
 use Rattle.per_core.proofs.LengthForms.{same_octets}
 use Rattle.per_core.proofs.Took.{took_map, took_agree}
-use Rattle.per_read.specs.Kinds.{IsTested, NoneIn}
+use Rattle.per_read.specs.Fields.{IsOfUnconstrained}
+use Rattle.per_read.specs.Kinds.{NoneIn}
 use Rattle.per_read.specs.Strings.{IsNoText, IsOfText}
 use Rattle.per_read.specs.declared.error.DecodeErrorKind.{DecodeErrorKind}
 use Rattle.per_read.specs.declared.error.DecodeErrorKind.TheVariants.{StringConversionFailed}
 use Rattle.per_read.proofs.Fields.{when_took}
+use Rattle.per_read.proofs.OfFields.{unconstrained_tested}
 
--- a kind that tests show may come with a text
-pub tested_text : (a : Settings) (kind : TextKind) (s : Bits) (k : DecodeErrorKind) → IsTested k → IsOfText a kind s k
-tested_text a kind s StringConversionFailed h = absurd h
-tested_text a kind s _ h = h
+-- what a kind says of the octets of a text
+pub octets_text : (a : Settings) (kind : TextKind) (s : Bits) (k : DecodeErrorKind) → IsOfUnconstrained a 8 s k → IsOfText a kind s k
+octets_text a kind s StringConversionFailed h = absurd (unconstrained_tested StringConversionFailed h)
+octets_text a kind s _ h = h
 
 module _ (a : Settings) (kind : TextKind) where
   pub none_of_text : {s : Bits} → NoneIn (Octets a) s → NoneIn (Proper (is_text kind) (Octets a)) s

@@ -6,7 +6,8 @@ use Rattle.per_core.specs.Basic.{Octets, OneByOne, octet}
 use Rattle.per_core.specs.Spellings.{Settings, Field, Then}
 use Rattle.per_core.specs.Took.{Took}
 use Rattle.per_core.specs.Writers.{pad}
-use Rattle.per_read.specs.Kinds.{NoneIn, Refused}
+use Rattle.per_read.specs.Fields.{IsOfUnconstrained}
+use Rattle.per_read.specs.Kinds.{NoneIn}
 use Rattle.per_read.specs.State.{State, settings_of}
 use Rattle.per_read.specs.declared.error.DecodeErrorKind.{DecodeErrorKind}
 use Rattle.per_read.specs.declared.few_octets.FewOctets.{FewOctets}
@@ -39,5 +40,5 @@ pub record AtOnce (a : Settings) (octets : List ℕ) (p : ℕ) (bits : Bits) : T
 -- A call that takes few octets behind an unconstrained length.
 pub record TakesFew (x : State) (result : Result (Option FewOctets) DecodeErrorKind) (y : State) : Type 0 where
   pub ok : IfOk result (OfFew (settings_of x) x.bits y.bits)
-  pub err : IfErr result (Refused (NoneIn (Octets (settings_of x)) x.bits))
+  pub err : IfErr result (λ k. IsOfUnconstrained (settings_of x) 8 x.bits k × NoneIn (Octets (settings_of x)) x.bits)
   pub kept : y.options ≡ x.options

@@ -7,7 +7,8 @@ use Rattle.rasn_constraints.specs.Bounds.{Size, any_size}
 use Rattle.per_core.specs.Basic.{OneByOne, Sized, Counted}
 use Rattle.per_core.specs.Spellings.{Settings, Spelling, Field, When}
 use Rattle.per_core.specs.Took.{Took}
-use Rattle.per_read.specs.Kinds.{NoneIn, Stopped}
+use Rattle.per_read.specs.Fields.{IsOfField}
+use Rattle.per_read.specs.Kinds.{Faulty, NoneIn}
 use Rattle.per_read.specs.State.{State, settings_of}
 use Rattle.per_read.specs.Takes.{Reason}
 use Rattle.per_read.specs.declared.error.DecodeErrorKind.{DecodeErrorKind}
@@ -61,7 +62,8 @@ pub record Collects {C : Type 0} (holds : C → C → List ℕ → Type 0) (item
   pub ok : OnOk result (TookItems holds (OneByOne (coded (item before))) n before after x.bits y.bits)
   pub same : OnOk result (item after ≡ item before)
   pub few : OnOk result (count after ≤ count before + n)
-  pub err : IfErr result (Stopped (length x.bits < bits_of (item before) * n))
+  pub err : IfErr result (Faulty (IsOfField (bits_of (item before) * n) x.bits)
+      (length x.bits < bits_of (item before) * n))
   pub kept : y.options ≡ x.options
 
 -- all items were read, in some form, and a fact holds of their codes

@@ -22,11 +22,6 @@ IsTested (ParserFail cause) = Unit {0}
 IsTested ExceedsMaxLength = Unit {0}
 IsTested _ = ⊥
 
--- Too few bits are left: one at least is missing. That the number missing is right is tested.
-abbrev pub IsShort : DecodeErrorKind → Type 0
-IsShort (Incomplete missing) = 0 < number_of missing
-IsShort _ = ⊥
-
 -- want of memory, or a kind of which P holds, where a fact does
 abbrev pub Faulty : (DecodeErrorKind → Type 0) → Type 0 → DecodeErrorKind → Type 0
 Faulty P A k = (k ≡ OutOfMemory) ⊎ (P k × A)

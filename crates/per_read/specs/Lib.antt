@@ -1,5 +1,7 @@
 pub mod Options
+pub mod Fields
 pub mod FewOctets
+pub mod InLists
 pub mod Items
 pub mod Kinds
 pub mod Lacking
@@ -7,6 +9,7 @@ pub mod Lengths
 pub mod Lists
 pub mod Names
 pub mod Numbers
+pub mod Shortages
 pub mod Sizes
 pub mod State
 pub mod Strings

@@ -10,10 +10,11 @@ use Rattle.per_core.specs.Basic.{Counted, UnconstrainedLength, basic}
 use Rattle.per_core.specs.Counts.{list_items}
 use Rattle.per_core.specs.Spellings.{Settings, Spelling, Then, exactly, never}
 use Rattle.per_core.specs.Took.{Took}
-use Rattle.per_read.specs.Kinds.{NoneIn, Refused}
-use Rattle.per_read.specs.Sizes.{IsOfSize, Miscounted}
+use Rattle.per_read.specs.InLists.{IsOfList, IsOfOpening}
+use Rattle.per_read.specs.Kinds.{NoneIn}
+use Rattle.per_read.specs.Sizes.{Miscounted}
 use Rattle.per_read.specs.State.{State, settings_of}
-use Rattle.per_read.specs.UpTo.{UpTo, UpToUnconstrained}
+use Rattle.per_read.specs.UpTo.{LengthUpTo, UpTo, UpToUnconstrained, WholeFragments}
 use Rattle.per_read.specs.declared.error.DecodeErrorKind.{DecodeErrorKind}
 use Rattle.per_read.specs.declared.lists.UnreadElements.{UnreadElements}
 
@@ -48,6 +49,13 @@ RestUpTo a item more (suc n) [] = exactly []
 RestUpTo a item true zero xs = UpToUnconstrained a item xs
 RestUpTo a item false zero xs = never
 
+-- what stands of these in front of a further length, behind xs
+abbrev pub RestUpToLength : {X : Type 0} → Settings → (X → Spelling) → (more : Bool) → ℕ → List X → Spelling
+RestUpToLength a item more (suc n) (x ∷ xs) = Then (item x) (RestUpToLength a item more n xs)
+RestUpToLength a item more (suc n) [] = never
+RestUpToLength a item true zero xs = WholeFragments a item xs
+RestUpToLength a item false zero xs = never
+
 -- What is still to be read of a list of items: others behind those that were read, with whose count the size allows
 -- that of all.
 pub record IsLeft {X : Type 0} (a : Settings) (item : X → Spelling) (before : List X) (l : UnreadElements) (here : Bits)
@@ -59,7 +67,7 @@ pub record IsLeft {X : Type 0} (a : Settings) (item : X → Spelling) (before : 
 
 -- A list is open: it began at `start`, the items `before` were read, and the reader is `here`. It is read from its
 -- start on exactly where the rest is read from here on, and the size allows the count of all; a count that the size
--- doesn't allow is its fault; and where a further item is to be read, it stands behind others of the list.
+-- doesn't allow is its fault; and where a further item or length is to be read, it stands behind others of the list.
 pub record AreOpenItems {X : Type 0} (f : ListRule X) (start : Bits) (before : List X) (l : UnreadElements)
     (here : Bits) : Type 0 where
   pub count : l.count ≡ length before
@@ -71,6 +79,8 @@ pub record AreOpenItems {X : Type 0} (f : ListRule X) (start : Bits) (before : L
       (end_of l.size) start
   pub up_to : (xs : List X) (t : Bits) → Took (RestUpTo f.settings f.item l.more l.left xs) here t
       → Took (UpTo f.settings f.size f.mark f.item (before ++ xs)) start t
+  pub up_to_length : (xs : List X) (t : Bits) → Took (RestUpToLength f.settings f.item l.more l.left xs) here t
+      → Took (LengthUpTo f.settings f.size f.mark f.item (before ++ xs)) start t
 
 -- A further item of an open list is to be read here, behind those that were: with it, the list goes on; where none is
 -- read, the list isn't.
@@ -82,7 +92,7 @@ pub record AwaitsItem {X : Type 0} (f : ListRule X) (start : Bits) (before : Lis
 
 -- A list isn't read, and a kind that says why.
 pub record RefusesList {X : Type 0} (f : ListRule X) (start : Bits) (k : DecodeErrorKind) : Type 0 where
-  pub says : IsOfSize f.settings f.size f.mark list_items f.item start k
+  pub says : IsOfList f.settings f.size f.mark f.item start k
   pub none : NoneIn (list_form f) start
 
 -- Ok is at a further item, or behind the list; and Err comes only where that isn't read.
@@ -105,7 +115,8 @@ most l = 2 ^ 64 - l.count
 pub record OpensList (size : Size) (mark : Bool) (x : State) (result : Result UnreadElements DecodeErrorKind)
     (y : State) : Type 0 where
   pub ok : IfOk result (λ l. (e : Schema) → AreOpenItems (list_rule (settings_of x) size mark e) x.bits [] l y.bits)
-  pub err : IfErr result (Refused ((e : Schema) → NoneIn (list_form (list_rule (settings_of x) size mark e)) x.bits))
+  pub err : IfErr result (λ k. IsOfOpening (settings_of x) size mark x.bits k
+      × ((e : Schema) → NoneIn (list_form (list_rule (settings_of x) size mark e)) x.bits))
   pub leaves : OnOk result (Leaves x.bits y.bits)
   pub kept : y.options ≡ x.options
 

@@ -1,16 +1,16 @@
 -- Numbers as they are read.
 use lib.Signed.{le_z}
-use Rattle.std.specs.Prelude.{◌≡◌, ℕ, ◌+◌, ◌/◌, ◌^◌, ◌≤◌, Bool, true, false, if◌then◌else◌, [], Option, Some, None, ℤ}
-use Rattle.std.specs.Prelude.{pos, negsuc}
+use Rattle.std.specs.Prelude.{◌≡◌, ◌⊎◌, ℕ, ◌+◌, ◌*◌, ◌/◌, ◌^◌, ◌≤◌, nat_le, ◌==◌, Bool, true, false, cond}
+use Rattle.std.specs.Prelude.{if◌then◌else◌, [], Option, Some, None, ℤ, pos, negsuc}
 use Rattle.rasn_types.specs.Bits.{Bits, width}
-use Rattle.rasn_types.specs.Variants.{aligned}
+use Rattle.rasn_types.specs.Variants.{Variant, aligned, unaligned}
 use Rattle.rasn_constraints.specs.Bounds.{above, holds, fits_i128, Bounds, unbounded}
 use Rattle.per_core.specs.Spellings.{Settings, Spelling, Then, When, never, AnyPadding, Field}
 use Rattle.per_core.specs.Basic.{IsNumberOf, IsSemiConstrainedWhole, IsUnconstrainedWhole, Octets, Marked}
 use Rattle.per_core.specs.Basic.{constrained_form}
 use Rattle.per_core.specs.Took.{Took}
 use Rattle.rasn_constraints.specs.ToldBounds.{lower_of, upper_of, value_of}
-use Rattle.per_read.specs.Kinds.{IsTested}
+use Rattle.per_read.specs.Fields.{Behind, IsOfField, IsOfMarked, IsOfPadded, IsOfUnconstrained, Says}
 use Rattle.per_read.specs.declared.error.DecodeErrorKind.{DecodeErrorKind}
 use Rattle.per_read.specs.declared.error.DecodeErrorKind.TheVariants.{ValueConstraintNotSatisfied, IntegerOverflow}
 use Rattle.per_read.specs.declared.error.DecodeErrorKind.TheVariants.{UnexpectedEmptyInput}
@@ -24,6 +24,21 @@ padded_field a w o = Then (AnyPadding a) (Field w o)
 -- X.691 11.5.7.4: how wide the count is of the octets of one of n numbers
 abbrev pub count_width : ℕ → ℕ
 count_width n = width ((width n + 7) / 8)
+
+-- X.691 11.5.7.4: of one of n numbers in counted octets
+abbrev pub IsOfCounted : Settings → ℕ → Says
+IsOfCounted a n s k = IsOfField (count_width n) s k
+    ⊎ ((more : ℕ) × Behind (Field (count_width n) more) (IsOfPadded a (8 * (more + 1))) s k)
+
+-- X.691 11.5.6, 11.5.7: of one of n numbers, by the variant
+abbrev pub IsOfConstrainedBy : Variant → Settings → ℕ → Says
+IsOfConstrainedBy unaligned a n = IsOfField (width n)
+IsOfConstrainedBy aligned a n = cond (nat_le n 255) (IsOfField (width n))
+    (cond (n == 256) (IsOfPadded a 8) (cond (nat_le n 65536) (IsOfPadded a 16) (IsOfCounted a n)))
+
+-- X.691 11.5.6, 11.5.7: of one of n numbers
+abbrev pub IsOfConstrained : Settings → ℕ → Says
+IsOfConstrained a n = IsOfConstrainedBy a.variant a n
 
 -- a fact about the number without sign that was read; none stands for one that no `u128` holds
 abbrev pub OfNatural : (ℕ → Type 0) → Option ℕ → Type 0
@@ -87,13 +102,13 @@ pub record IsEmpty (a : Settings) (bounds : Bounds) (mark : Bool) (s : Bits) : T
 -- what a kind says of octets that are to be a number
 abbrev pub IsOfOctets : Settings → Bits → DecodeErrorKind → Type 0
 IsOfOctets a s UnexpectedEmptyInput = (t : Bits) × Took (Octets a []) s t
-IsOfOctets a s k = IsTested k
+IsOfOctets a s k = IsOfUnconstrained a 8 s k
 
 -- what a kind says of a number as its bounds have it written
 abbrev pub IsOfForm : Settings → Option ℤ → Option ℤ → Bits → DecodeErrorKind → Type 0
 IsOfForm a None high s k = IsOfOctets a s k
 IsOfForm a (Some l) None s k = IsOfOctets a s k
-IsOfForm a (Some l) (Some u) s k = IsTested k
+IsOfForm a (Some l) (Some u) s k = IsOfConstrained a (above l u + 1) s k
 
 -- a number within bounds, as they have it written
 abbrev pub within_bounds : Settings → Bounds → ℤ → Spelling
@@ -113,4 +128,4 @@ IsOfNumber a bounds mark range s UnexpectedEmptyInput = IsEmpty a bounds mark s
 IsOfNumber a bounds mark range s (ValueConstraintNotSatisfied told) =
     IsOutside a bounds mark (value_of told) (lower_of told) (upper_of told) s
 IsOfNumber a bounds mark range s (IntegerOverflow width) = IsUnheld a bounds mark range s
-IsOfNumber a bounds mark range s k = IsTested k
+IsOfNumber a bounds mark range s k = IsOfMarked mark (IsOfForm a bounds.low bounds.high) (IsOfOctets a) s k

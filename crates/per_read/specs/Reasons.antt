@@ -3,7 +3,7 @@ use Rattle.std.specs.Prelude.{◌≡◌, ◌⊎◌, ℕ}
 use Rattle.rasn_types.specs.Bits.{Bits}
 use Rattle.per_core.specs.Spellings.{Settings, Spelling}
 use Rattle.per_core.specs.Took.{Took}
-use Rattle.per_read.specs.Kinds.{Refused}
+use Rattle.per_read.specs.Fields.{Says}
 use Rattle.per_read.specs.Takes.{Reason}
 use Rattle.per_read.specs.declared.error.DecodeErrorKind.TheVariants.{OutOfMemory}
 
@@ -13,6 +13,6 @@ pub record IsFragmented (form : ℕ → Spelling) (s : Bits) : Type 0 where
   pub rest : Bits
   pub took : Took (form count) s rest
 
--- want of memory, where a fragment is at the front, or a kind that tests show
-abbrev pub gathering : (Settings → ℕ → Spelling) → Reason
-gathering form a s A k = ((k ≡ OutOfMemory) × IsFragmented (form a) s) ⊎ Refused A k
+-- want of memory, where a fragment is at the front, or a kind that says something of the bits
+abbrev pub gathering : (Settings → ℕ → Spelling) → (Settings → Says) → Reason
+gathering form says a s A k = ((k ≡ OutOfMemory) × IsFragmented (form a) s) ⊎ (says a s k × A)

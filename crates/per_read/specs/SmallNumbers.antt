@@ -7,7 +7,7 @@ use Rattle.per_core.specs.Basic.{IsSemiConstrainedWhole, Marked, Octets, OneByOn
 use Rattle.per_core.specs.Spellings.{Settings, Spelling, Then, Field, exactly}
 use Rattle.per_core.specs.Took.{Took}
 use Rattle.per_read.specs.Items.{TookItems}
-use Rattle.per_read.specs.Kinds.{IsTested, Refused}
+use Rattle.per_read.specs.Fields.{IsOfField, IsOfMarked, IsOfUnconstrained}
 use Rattle.per_read.specs.State.{State}
 use Rattle.per_read.specs.declared.error.DecodeErrorKind.{DecodeErrorKind}
 use Rattle.per_read.specs.declared.error.DecodeErrorKind.TheVariants.{UnexpectedEmptyInput}
@@ -25,7 +25,7 @@ MeansSince start number octets = Means number octets
 pub record AppendsOctets (n : ℕ) (before : Option ℕ) (x : State) (result : Result (Unit {0}) DecodeErrorKind)
     (after : Option ℕ) (y : State) : Type 0 where
   pub ok : OnOk result (TookItems MeansSince (OneByOne octet) n before after x.bits y.bits)
-  pub err : IfErr result (Refused (length x.bits < 8 * n))
+  pub err : IfErr result (λ k. IsOfField (8 * n) x.bits k × (length x.bits < 8 * n))
   pub kept : y.options ≡ x.options
 
 -- a fact about the number that was read; none stands for one past 64 bits
@@ -44,4 +44,4 @@ empty_form a = Then (exactly (true ∷ [])) (Octets a [])
 -- what a kind says of a normally small number
 abbrev pub IsOfSmall : Settings → Bits → DecodeErrorKind → Type 0
 IsOfSmall a s UnexpectedEmptyInput = (t : Bits) × Took (empty_form a) s t
-IsOfSmall a s k = IsTested k
+IsOfSmall a s k = IsOfMarked true (IsOfField 6) (IsOfUnconstrained a 8) s k

@@ -9,7 +9,7 @@ use Rattle.per_core.specs.Basic.{Octets}
 use Rattle.per_core.specs.Spellings.{Settings}
 use Rattle.per_core.specs.Took.{Took}
 use Rattle.per_read.specs.Items.{counted_items}
-use Rattle.per_read.specs.Kinds.{IsTested}
+use Rattle.per_read.specs.Fields.{IsOfUnconstrained}
 use Rattle.per_read.specs.Sizes.{IsOfItems}
 use Rattle.per_core.specs.declared.items.Item.TheVariants.{Character}
 use Rattle.per_read.specs.declared.error.DecodeErrorKind.{DecodeErrorKind}
@@ -56,4 +56,4 @@ pub record IsNoText (a : Settings) (kind : TextKind) (s : Bits) : Type 0 where
 -- what a kind says of a text
 abbrev pub IsOfText : Settings → TextKind → Bits → DecodeErrorKind → Type 0
 IsOfText a kind s StringConversionFailed = IsNoText a kind s
-IsOfText a kind s k = IsTested k
+IsOfText a kind s k = IsOfUnconstrained a 8 s k

@@ -3,7 +3,8 @@ use Rattle.std.specs.Prelude.{◌≡◌, ℕ, length, Result, IfOk, IfErr}
 use Rattle.rasn_types.specs.Bits.{Bits}
 use Rattle.per_core.specs.Spellings.{Settings, Spelling, When, exactly}
 use Rattle.per_core.specs.Took.{Took}
-use Rattle.per_read.specs.Kinds.{IsTested, IsShort, NoneIn, Refused, Faulty}
+use Rattle.per_read.specs.Fields.{IsOfField}
+use Rattle.per_read.specs.Kinds.{IsTested, NoneIn, Refused, Faulty}
 use Rattle.per_read.specs.State.{State, settings_of}
 use Rattle.per_read.specs.declared.error.DecodeErrorKind.{DecodeErrorKind}
 
@@ -11,9 +12,9 @@ use Rattle.per_read.specs.declared.error.DecodeErrorKind.{DecodeErrorKind}
 abbrev pub Reason : Type 1
 Reason = Settings → Bits → Type 0 → DecodeErrorKind → Type 0
 
--- too few bits are left
-abbrev pub short : Reason
-short a s A k = IsShort k × A
+-- bits end within a field of w bits
+abbrev pub lacking : ℕ → Reason
+lacking w a s A k = IsOfField w s k × A
 
 -- a kind that tests show
 abbrev pub tested : Reason

@@ -3,8 +3,9 @@
 ghost use Rattle.std.specs.Prelude.{◌≡◌, drop};
 ghost use Rattle.std.specs.Iterator.{YieldsFirst, item_count};
 ghost use Rattle.per_core.specs.Basic.{IsBitmap};
-ghost use Rattle.per_read.specs.Takes.{Takes, itself, short, tested};
+ghost use Rattle.per_read.specs.Takes.{Takes, itself, telling};
 ghost use Rattle.per_read.specs.Additions.{NextFlag};
+ghost use Rattle.per_read.specs.Bitmaps.{IsOfBitmap, IsOfLargeBitmap, IsOfSmallBitmap, IsOfUnknown};
 ghost use Rattle.per_read.specs.Bitmaps.{large_bitmap, large_fragments_of, skipped_unknown, small_bitmap};
 ghost use Rattle.per_read.specs.Flags.{HasFlags};
 ghost use Rattle.per_read.specs.OpenTypes.{fragments_of};
@@ -116,8 +117,8 @@ pub fn next_flag(bits: &BitString, index: &mut usize) -> Option<bool>
 /// bits, behind a bit 1 an unconstrained length, and then its bits. One of no bits is refused as `EmptyBitmap`. Only
 /// one in fragments takes memory.
 pub fn take_bitmap(reader: &mut Reader<'_>) -> Result<PresenceBits, DecodeErrorKind>
-    ensures { Takes (gathering large_fragments_of) IsBitmap (HasFlags reader.old.bits reader.new.bits) reader.old
-        result reader.new }
+    ensures { let why = gathering large_fragments_of IsOfBitmap in
+        Takes why IsBitmap (HasFlags reader.old.bits reader.new.bits) reader.old result reader.new }
 {
     if reader.take_bit()? {
         take_large_bitmap(reader)
@@ -128,8 +129,8 @@ pub fn take_bitmap(reader: &mut Reader<'_>) -> Result<PresenceBits, DecodeErrorK
 
 /// Takes a bitmap of up to 64 bits, behind its length less one in six bits.
 fn take_small_bitmap(reader: &mut Reader<'_>) -> Result<PresenceBits, DecodeErrorKind>
-    ensures { Takes short (λ a. small_bitmap) (HasFlags reader.old.bits reader.new.bits) reader.old result
-        reader.new }
+    ensures { let why = telling (λ a. IsOfSmallBitmap) in
+        Takes why (λ a. small_bitmap) (HasFlags reader.old.bits reader.new.bits) reader.old result reader.new }
 {
     let more = reader.take_bits(6)?;
     reader.take_front(more + 1)?;
@@ -138,8 +139,8 @@ fn take_small_bitmap(reader: &mut Reader<'_>) -> Result<PresenceBits, DecodeErro
 
 /// Takes a bitmap of one bit or more behind an unconstrained length (X.691 11.9.3.5 to 11.9.3.8).
 fn take_large_bitmap(reader: &mut Reader<'_>) -> Result<PresenceBits, DecodeErrorKind>
-    ensures { Takes (gathering fragments_of) large_bitmap (HasFlags reader.old.bits reader.new.bits) reader.old result
-        reader.new }
+    ensures { let why = gathering fragments_of IsOfLargeBitmap in
+        Takes why large_bitmap (HasFlags reader.old.bits reader.new.bits) reader.old result reader.new }
 {
     let mut ahead = ahead_of(reader);
     match ahead.take_unconstrained_length()? {
@@ -160,7 +161,8 @@ fn take_large_bitmap(reader: &mut Reader<'_>) -> Result<PresenceBits, DecodeErro
 /// Skips the additions behind those that the schema knows, of which these are the presence bits (X.691 19.9): an open
 /// type for each bit 1. It takes no memory.
 pub fn skip_unknown(reader: &mut Reader<'_>, bitmap: Bitmap<'_>) -> Result<(), DecodeErrorKind>
-    ensures { Takes tested (skipped_unknown bitmap.entry) itself reader.old result reader.new }
+    ensures { let why = telling (IsOfUnknown bitmap.entry) in
+        Takes why (skipped_unknown bitmap.entry) itself reader.old result reader.new }
 {
     for is_present in bitmap {
         if is_present {

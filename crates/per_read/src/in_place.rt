@@ -2,10 +2,12 @@
 
 ghost use Rattle.std.specs.Prelude.{◌≡◌, ◌<◌, ◌*◌, [], ◌∷◌, length};
 ghost use Rattle.per_core.specs.Basic.{IsSemiConstrainedWhole, Octets, OneByOne, octet as an_octet};
+ghost use Rattle.per_core.specs.Spellings.{Settings};
+ghost use Rattle.per_read.specs.Fields.{IsOfUnconstrained};
 ghost use Rattle.per_read.specs.Items.{Adds, TakesItems, TookItems};
 ghost use Rattle.per_read.specs.Numbers.{IsOfOctets};
 ghost use Rattle.per_read.specs.SmallNumbers.{AppendsOctets, MeansSince, OfIndex};
-ghost use Rattle.per_read.specs.Takes.{Takes, telling, tested};
+ghost use Rattle.per_read.specs.Takes.{Takes, telling};
 
 use crate::Reader;
 use crate::error::DecodeErrorKind;
@@ -31,7 +33,8 @@ fn take_octets_onto(
     reader: &mut Reader<'_>,
     number: &mut Option<usize>,
 ) -> Result<usize, DecodeErrorKind>
-    ensures { TakesItems MeansSince tested Octets number.old reader.old result number.new reader.new }
+    ensures { let why = telling (λ (a : Settings). IsOfUnconstrained a 8) in
+        TakesItems MeansSince why Octets number.old reader.old result number.new reader.new }
 {
     let mut count: usize = 0;
     loop {

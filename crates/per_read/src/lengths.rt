@@ -2,8 +2,9 @@
 
 ghost use Rattle.std.specs.Prelude.{◌≡◌};
 ghost use Rattle.per_core.specs.Spellings.{AnyPadding};
+ghost use Rattle.per_read.specs.Fields.{IsOfCount, IsOfLength, IsOfPadding};
 ghost use Rattle.per_read.specs.Lengths.{LengthOf, CountOf, count_of, is_followed};
-ghost use Rattle.per_read.specs.Takes.{Takes, alone, tested, itself};
+ghost use Rattle.per_read.specs.Takes.{Takes, alone, itself, telling};
 
 use crate::Reader;
 use crate::error::{DecodeErrorKind, ParserFailCause};
@@ -42,7 +43,7 @@ impl Reader<'_> {
     /// octets. Where padding must be zero, other bits are refused.
     #[inline(always)]
     pub(crate) fn take_padding(&mut self) -> Result<(), DecodeErrorKind>
-        ensures { Takes tested (alone AnyPadding) itself self.old result self.new }
+        ensures { Takes (telling IsOfPadding) (alone AnyPadding) itself self.old result self.new }
     {
         if let Codec::Uper = self.options.codec {
             return Ok(());
@@ -58,7 +59,7 @@ impl Reader<'_> {
     /// Takes how many items follow, which begins on an octet in the aligned variant (X.691 11.9.3.5 to 11.9.3.8).
     #[inline(always)]
     pub fn take_unconstrained_length(&mut self) -> Result<Length, DecodeErrorKind>
-        ensures { Takes tested LengthOf itself self.old result self.new }
+        ensures { Takes (telling IsOfLength) LengthOf itself self.old result self.new }
     {
         self.take_padding()?;
         self.take_determinant()
@@ -68,7 +69,7 @@ impl Reader<'_> {
     /// (X.691 11.9.3.6 to 11.9.3.8).
     #[inline(always)]
     fn take_determinant(&mut self) -> Result<Length, DecodeErrorKind>
-        ensures { Takes tested (λ a. CountOf) itself self.old result self.new }
+        ensures { Takes (telling (λ a. IsOfCount)) (λ a. CountOf) itself self.old result self.new }
     {
         if !self.take_bit()? {
             return Ok(Length::Last(self.take_bits(7)?));

@@ -6,7 +6,8 @@
 ghost use Rattle.std.specs.Prelude.{◌≡◌, ◌≤◌};
 ghost use Rattle.per_core.specs.Basic.{Octets, bit};
 ghost use Rattle.per_core.specs.Spellings.{Field};
-ghost use Rattle.per_read.specs.Takes.{Front, Takes, short, stopped, itself};
+ghost use Rattle.per_read.specs.Fields.{IsOfUnconstrained};
+ghost use Rattle.per_read.specs.Takes.{Front, Takes, itself, lacking, memory_or};
 
 pub mod addition_laws;
 mod ahead;
@@ -21,6 +22,7 @@ pub mod lists;
 pub mod numbers;
 pub mod open_types;
 mod short_octets;
+pub mod shortages;
 mod sizes;
 pub mod small_numbers;
 mod strings;
@@ -98,14 +100,15 @@ impl<'input> Reader<'input> {
     /// Takes a bit.
     #[inline(always)]
     pub fn take_bit(&mut self) -> Result<bool, DecodeErrorKind>
-        ensures { Takes short (λ a. bit) itself self.old result self.new }
+        ensures { Takes (lacking 1) (λ a. bit) itself self.old result self.new }
     {
         Ok(self.take_bits(1)? == 1)
     }
 
     /// Takes so many bits, as a reader of their own. Takes no memory.
     pub fn take_front(&mut self, count: u128) -> Result<BitReader<'input>, DecodeErrorKind>
-        ensures { Takes short (λ a. Front count) (λ P front. P front.bits) self.old result self.new }
+        ensures { Takes (lacking count) (λ a. Front count) (λ P front. P front.bits) self.old result
+            self.new }
     {
         self.bits.take(count).map_err(missing)
     }
@@ -114,7 +117,7 @@ impl<'input> Reader<'input> {
     #[inline(always)]
     pub fn take_bits(&mut self, width: u128) -> Result<u128, DecodeErrorKind>
         requires { width ≤ 128 }
-        ensures { Takes short (λ a. Field width) itself self.old result self.new }
+        ensures { Takes (lacking width) (λ a. Field width) itself self.old result self.new }
     {
         let front = self.bits.take(width).map_err(missing)?;
         Ok(front.first_bits(width))
@@ -122,7 +125,8 @@ impl<'input> Reader<'input> {
 
     /// Takes octets behind an unconstrained length (X.691 11.9.3.5 to 11.9.3.8).
     pub fn take_octets(&mut self) -> Result<Vec<u8>, DecodeErrorKind>
-        ensures { Takes stopped Octets (λ P octets. P octets.items) self.old result self.new }
+        ensures { Takes (memory_or (λ a. IsOfUnconstrained a 8)) Octets (λ P octets. P octets.items) self.old result
+            self.new }
     {
         let mut octets = Vec::new(self.alloc);
         self.take_unconstrained_items(&mut octets)?;

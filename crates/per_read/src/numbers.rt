@@ -7,11 +7,13 @@ ghost use Rattle.rasn_constraints.specs.Bounds.{above};
 ghost use Rattle.per_core.specs.Basic.{InOctets, IsSemiConstrainedWhole, IsUnconstrainedWhole, constrained_by};
 ghost use Rattle.per_core.specs.Basic.{constrained_form};
 ghost use Rattle.per_core.specs.Spellings.{Settings, Field};
+ghost use Rattle.per_read.specs.Fields.{IsOfPadded};
 ghost use Rattle.per_read.specs.Numbers.{OfNatural, OfRead, IsAbove, IsOfOctets, IsOfForm, padded_field, count_width};
+ghost use Rattle.per_read.specs.Numbers.{IsOfConstrained, IsOfConstrainedBy, IsOfCounted};
 ghost use Rattle.per_read.specs.Numbers.{between_in_field, in_one_field, under_bounds};
 ghost use Rattle.per_read.specs.Kinds.{NoneIn};
 ghost use Rattle.per_read.specs.State.{settings_of};
-ghost use Rattle.per_read.specs.Takes.{Takes, short, tested, memory_or, itself};
+ghost use Rattle.per_read.specs.Takes.{Takes, itself, lacking, memory_or, telling, tested};
 
 use crate::Reader;
 use crate::error::DecodeErrorKind;
@@ -51,7 +53,9 @@ impl Reader<'_> {
     /// Takes a number with both bounds: how far it is above the lower one (X.691 11.5).
     #[inline(always)]
     fn take_between(&mut self, lower: i128, upper: i128) -> Result<ReadNumber, DecodeErrorKind>
-        ensures { Takes tested (λ a. under_bounds a (Some lower) (Some upper)) OfRead self.old result self.new }
+        ensures { let why = λ (a : Settings). IsOfConstrained a (above lower upper + 1) in
+            let form = λ (a : Settings). under_bounds a (Some lower) (Some upper) in
+            Takes (telling why) form OfRead self.old result self.new }
     {
         let offset = self.take_constrained_whole(distance_above(lower, upper))?;
         Ok(number_above(lower, offset))
@@ -129,7 +133,8 @@ impl Reader<'_> {
     /// code past `greatest` has no meaning: it is answered as it stands, since its caller names what it would be.
     #[inline(always)]
     pub fn take_constrained_whole(&mut self, greatest: u128) -> Result<u128, DecodeErrorKind>
-        ensures { Takes tested (λ a. constrained_form a (greatest + 1)) itself self.old result self.new }
+        ensures { let form = λ (a : Settings). constrained_form a (greatest + 1) in
+            Takes (telling (λ a. IsOfConstrained a (greatest + 1))) form itself self.old result self.new }
     {
         match self.options.codec {
             Codec::Aper => self.take_constrained_whole_aligned(greatest),
@@ -157,7 +162,9 @@ impl Reader<'_> {
     /// Takes one of the numbers from 0 to `greatest` in the aligned variant (X.691 11.5.7): of 255 numbers or fewer in
     /// bits, of 256 in an octet, of 65536 or fewer in two, and of more in octets, which their count precedes.
     fn take_constrained_whole_aligned(&mut self, greatest: u128) -> Result<u128, DecodeErrorKind>
-        ensures { Takes tested (λ a. constrained_by aligned a (greatest + 1)) itself self.old result self.new }
+        ensures { let why = λ (a : Settings). IsOfConstrainedBy aligned a (greatest + 1) in
+            let form = λ (a : Settings). constrained_by aligned a (greatest + 1) in
+            Takes (telling why) form itself self.old result self.new }
     {
         match greatest {
             0..=254 => self.take_bits(width_to(greatest)),
@@ -169,7 +176,8 @@ impl Reader<'_> {
 
     /// Takes one of the numbers from 0 to `greatest` in counted octets (X.691 11.5.7.4).
     fn take_in_octets(&mut self, greatest: u128) -> Result<u128, DecodeErrorKind>
-        ensures { Takes tested (λ a. InOctets a (greatest + 1)) itself self.old result self.new }
+        ensures { let form = λ (a : Settings). InOctets a (greatest + 1) in
+            Takes (telling (λ a. IsOfCounted a (greatest + 1))) form itself self.old result self.new }
     {
         let more = self.take_octet_count(greatest)?;
         self.take_on_octet(8 * (more + 1))
@@ -178,7 +186,8 @@ impl Reader<'_> {
     /// Takes the count, less one, of the octets of one of the numbers from 0 to `greatest` (X.691 11.5.7.4): any code
     /// of its field, up to 15.
     fn take_octet_count(&mut self, greatest: u128) -> Result<u128, DecodeErrorKind>
-        ensures taken { Takes short (λ a. Field (count_width (greatest + 1))) itself self.old result self.new }
+        ensures taken { let width = count_width (greatest + 1) in
+            Takes (lacking width) (λ a. Field width) itself self.old result self.new }
         ensures few { IfOk result (λ more. more < 16) }
     {
         let most = width_of((width_to(greatest) + 7) / 8);
@@ -189,7 +198,8 @@ impl Reader<'_> {
     #[inline(always)]
     fn take_on_octet(&mut self, width: u128) -> Result<u128, DecodeErrorKind>
         requires { width ≤ 128 }
-        ensures { Takes tested (λ a. padded_field a width) itself self.old result self.new }
+        ensures { let form = λ (a : Settings). padded_field a width in
+            Takes (telling (λ a. IsOfPadded a width)) form itself self.old result self.new }
     {
         self.take_padding()?;
         self.take_bits(width)

@@ -2,7 +2,9 @@
 
 ghost use Rattle.std.specs.Prelude.{◌≡◌, ◌%◌, ◌≤◌, length};
 ghost use Rattle.per_core.specs.Basic.{Octets};
-ghost use Rattle.per_read.specs.Takes.{Takes, itself, tested};
+ghost use Rattle.per_core.specs.Spellings.{Settings};
+ghost use Rattle.per_read.specs.Fields.{IsOfUnconstrained};
+ghost use Rattle.per_read.specs.Takes.{Takes, itself, telling};
 ghost use Rattle.per_read.specs.OpenTypes.{HasOctets, fragments_of, skipped_open};
 ghost use Rattle.per_read.specs.Ends.{EndsOpen, kind_of};
 ghost use Rattle.per_read.specs.Reasons.{gathering};
@@ -26,8 +28,8 @@ pub enum Contents {
 /// Takes the octets of an open type (X.691 11.2), behind an unconstrained length. Only those in fragments take memory.
 #[inline(always)]
 pub fn take_open(reader: &mut Reader<'_>) -> Result<Contents, DecodeErrorKind>
-    ensures { Takes (gathering fragments_of) Octets (HasOctets reader.old.bits reader.new.bits) reader.old result
-        reader.new }
+    ensures { let why = gathering fragments_of (λ (a : Settings). IsOfUnconstrained a 8) in
+        Takes why Octets (HasOctets reader.old.bits reader.new.bits) reader.old result reader.new }
 {
     let mut ahead = ahead_of(reader);
     match ahead.take_unconstrained_length()? {
@@ -43,7 +45,7 @@ pub fn take_open(reader: &mut Reader<'_>) -> Result<Contents, DecodeErrorKind>
 /// Skips an open type (X.691 11.2) whatever its octets are: an addition that the schema doesn't know (X.691 19.9). It
 /// takes no memory.
 pub fn skip_open(reader: &mut Reader<'_>) -> Result<(), DecodeErrorKind>
-    ensures { Takes tested skipped_open itself reader.old result reader.new }
+    ensures { Takes (telling (λ a. IsOfUnconstrained a 8)) skipped_open itself reader.old result reader.new }
 {
     let mut count: usize = 0;
     loop {

@@ -1,17 +1,21 @@
 //! Items under a size constraint (X.691 11.9.3.3, 11.9.4, 16, 17 and 30.5).
 
-ghost use Rattle.std.specs.Prelude.{◌≡◌, ◌<◌, ◌&&◌, nat_lt, true, false, None, Ok, OnOk, OnErr, IfErr, IfSome};
+ghost use Rattle.std.specs.Prelude.{◌≡◌, ◌<◌, ◌+◌, ◌-◌, ◌&&◌, nat_lt, true, false, None, Ok, OnOk, OnErr, IfErr};
+ghost use Rattle.std.specs.Prelude.{IfSome};
 ghost use Rattle.rasn_constraints.specs.Bounds.{allows};
 ghost use Rattle.rasn_constraints.specs.Constraints.{start_of, end_of, size_between, size_in, is_marked};
 ghost use Rattle.per_core.specs.Basic.{PaddingIf};
 ghost use Rattle.per_core.specs.Counts.{constrained_between, is_aligned};
-ghost use Rattle.per_core.specs.Items.{counted_of};
+ghost use Rattle.per_core.specs.Items.{bits_of, counted_of};
 ghost use Rattle.per_core.specs.Spellings.{Settings};
+ghost use Rattle.per_read.specs.Fields.{IsOfUnconstrained};
 ghost use Rattle.per_read.specs.Items.{unconstrained_items, sized_items, counted_items, TakesItems};
 ghost use Rattle.per_read.specs.Kinds.{NoneIn};
-ghost use Rattle.per_read.specs.Sizes.{CountFrom, items_between, items_under, IsOfItems};
+ghost use Rattle.per_read.specs.Numbers.{IsOfConstrained};
+ghost use Rattle.per_read.specs.Sizes.{CountFrom, items_between, items_under, IsOfBetween, IsOfItems, IsOfPaddingIf};
+ghost use Rattle.per_read.specs.Sizes.{IsOfUnder};
 ghost use Rattle.per_read.specs.State.{settings_of};
-ghost use Rattle.per_read.specs.Takes.{Takes, alone, itself, memory_or, stopped, tested};
+ghost use Rattle.per_read.specs.Takes.{Takes, alone, itself, memory_or, telling, tested};
 ghost use Rattle.per_read.specs.declared.error.DecodeErrorKind.TheVariants.{SizeConstraintNotSatisfied};
 
 use crate::Reader;
@@ -95,8 +99,9 @@ impl Reader<'_> {
         items: &mut C,
     ) -> Result<usize, DecodeErrorKind>
         requires { C.count items.old ≡ 0 }
-        ensures { let form = λ (a : Settings). items_under a (size_between size.now) (C.item items.old) in
-            TakesItems C.holds stopped form items.old self.old result items.new self.new }
+        ensures { let why = λ (a : Settings). IsOfUnder a (start_of size.now) (end_of size.now) (C.item items.old) in
+            let form = λ (a : Settings). items_under a (size_between size.now) (C.item items.old) in
+            TakesItems C.holds (memory_or why) form items.old self.old result items.new self.new }
     {
         match constrained_size(size) {
             Some((lower, upper)) => self.take_constrained_items(lower, upper, items),
@@ -115,8 +120,9 @@ impl Reader<'_> {
     ) -> Result<usize, DecodeErrorKind>
         requires few { upper < 65536 }
         requires empty { C.count items.old ≡ 0 }
-        ensures { let form = λ (a : Settings). items_between a lower upper (C.item items.old) in
-            TakesItems C.holds stopped form items.old self.old result items.new self.new }
+        ensures { let why = λ (a : Settings). IsOfBetween a lower upper (C.item items.old) in
+            let form = λ (a : Settings). items_between a lower upper (C.item items.old) in
+            TakesItems C.holds (memory_or why) form items.old self.old result items.new self.new }
     {
         let count = self.take_constrained_count(lower, upper)?;
         self.take_padding_between(count, items.item(), lower, upper)?;
@@ -133,7 +139,8 @@ impl Reader<'_> {
         upper: usize,
     ) -> Result<usize, DecodeErrorKind>
         requires { upper < 65536 }
-        ensures { Takes tested (λ a. CountFrom a lower upper) itself self.old result self.new }
+        ensures { let why = λ (a : Settings). IsOfConstrained a (upper - lower + 1) in
+            Takes (telling why) (λ a. CountFrom a lower upper) itself self.old result self.new }
     {
         let code = self.take_constrained_whole(upper.saturating_sub(lower) as u128)?;
         Ok(lower + code as usize)
@@ -163,7 +170,7 @@ impl Reader<'_> {
         upper: usize,
     ) -> Result<(), DecodeErrorKind>
         ensures { let pads = nat_lt 0 count && is_aligned (counted_of item) lower upper in
-            Takes tested (alone (PaddingIf pads)) itself self.old result self.new }
+            Takes (telling (IsOfPaddingIf pads)) (alone (PaddingIf pads)) itself self.old result self.new }
     {
         if count == 0 || !item.is_aligned(lower, upper) {
             return Ok(());
@@ -178,8 +185,9 @@ impl Reader<'_> {
         items: &mut C,
     ) -> Result<usize, DecodeErrorKind>
         requires { C.count items.old ≡ 0 }
-        ensures { let form = λ (a : Settings). unconstrained_items a (C.item items.old) in
-            TakesItems C.holds stopped form items.old self.old result items.new self.new }
+        ensures { let why = λ (a : Settings). IsOfUnconstrained a (bits_of (C.item items.old)) in
+            let form = λ (a : Settings). unconstrained_items a (C.item items.old) in
+            TakesItems C.holds (memory_or why) form items.old self.old result items.new self.new }
     {
         let mut count: usize = 0;
         loop {

@@ -23,8 +23,6 @@ mod expected;
 #[cfg(test)]
 mod failures;
 #[cfg(test)]
-mod lending;
-#[cfg(test)]
 mod options;
 #[cfg(test)]
 mod pieces;

@@ -1,17 +1,19 @@
-//! Records, a CHOICE and contents that are closed before all of their components came, or behind too many, over any
-//! encoder and any decoder.
+//! Records, a CHOICE and contents that are closed before all of their components came, or behind too many, and lists
+//! that are gone on in so, over any encoder and any decoder.
 
 use crate::calls::{Part, completed, encoding_of, unaligned};
 use crate::expected::{expect_octets, expect_unread, expect_unwritten};
 use per_enc::{EncodeError, EncodeErrorKind, Encoder, EncoderOptions};
 use per_read::error::{DecodeError, DecodeErrorKind};
 use per_samples_a::pair::Pair;
+use per_samples_a::six::Six;
 use per_samples_b::alt1::Alt1;
 use rasn_below::codec::{Decoder as AnyDecoder, Encoder as AnyEncoder};
 use rasn_below::types::{Identifier, Tag};
 use rasn_below::{AsnType, Constraints, ItemCounts, Place, context_tag};
 use rasn_traits::counted::{CountedDecoder, CountedEncoder};
 use std::alloc::Global;
+use std::process::Abort;
 
 const NONE: Identifier = Identifier::EMPTY;
 
@@ -59,6 +61,63 @@ impl Part for InContents {
     }
 }
 
+/// As many BOOLEANs in a SEQUENCE OF as are listed, of each of which so many values come.
+#[derive(Clone, Copy)]
+struct InList(&'static [usize]);
+
+impl Part for InList {
+    fn put<E: AnyEncoder>(&self, encoder: &mut E) -> Result<(), E::Error> {
+        let mut list = encoder.open_list(Tag::SEQUENCE, &Constraints::NONE, self.0.len(), NONE)?;
+        for count in self.0 {
+            encoder.next_element(&mut list)?;
+            put_truths(encoder, *count)?;
+        }
+        encoder.close_list(list)
+    }
+}
+
+/// As many BOOLEANs in a SET OF as are listed, of each of which so many values come.
+#[derive(Clone, Copy)]
+struct InSetOf(&'static [usize]);
+
+impl Part for InSetOf {
+    fn put<E: AnyEncoder>(&self, encoder: &mut E) -> Result<(), E::Error> {
+        let mut bag = encoder.open_set_of(Tag::SET, &Constraints::NONE, self.0.len(), NONE)?;
+        for count in self.0 {
+            encoder.next_member(&mut bag)?;
+            put_truths(encoder, *count)?;
+        }
+        encoder.close_set_of(bag)
+    }
+}
+
+/// Something else than an element of a list.
+#[derive(Clone, Copy)]
+enum Stray {
+    /// A value in front of the first element.
+    EarlyValue,
+    /// A presence bit of the record around it in place of an element.
+    PresenceBit,
+    /// The record around it is closed.
+    Close,
+}
+
+impl Part for Stray {
+    fn put<E: AnyEncoder>(&self, encoder: &mut E) -> Result<(), E::Error> {
+        let scope = encoder.open_sequence::<Six>(Six::TAG, NONE)?;
+        let mut list = encoder.open_list(Tag::SEQUENCE, &Constraints::NONE, 1, NONE)?;
+        match self {
+            Stray::EarlyValue => put_truths(encoder, 1)?,
+            Stray::PresenceBit => {
+                encoder.next_element(&mut list)?;
+                encoder.set_presence(false)?;
+            }
+            Stray::Close => return encoder.close_sequence::<Six>(scope),
+        }
+        encoder.close_list(list)
+    }
+}
+
 /// The octets of what is written.
 fn written_of<P: Part>(alloc: Global, part: &P) -> Result<Vec<u8>, EncodeError> {
     encoding_of(alloc, EncoderOptions::unaligned(), part)
@@ -72,6 +131,10 @@ fn writes_as_many_components_as_there_are(rt: HostRuntime) -> Result<(), EncodeE
     expect_octets(&rt, choice.as_slice(), &[0x40]);
     let contents = written_of(rt.alloc(), &InContents(1))?;
     expect_octets(&rt, contents.as_slice(), &[0x01, 0x80]);
+    let list = written_of(rt.alloc(), &InList(&[1, 1, 1]))?;
+    expect_octets(&rt, list.as_slice(), &[0x03, 0xe0]);
+    let bag = written_of(rt.alloc(), &InSetOf(&[1, 1, 1]))?;
+    expect_octets(&rt, bag.as_slice(), &[0x03, 0xe0]);
     Ok(())
 }
 
@@ -85,6 +148,25 @@ fn writes_neither_fewer_nor_more(rt: HostRuntime) {
         let refused = written_of(rt.alloc(), &InChoice(count)).err();
         expect_unwritten(&rt, refused, EncodeErrorKind::OutOfTurn);
         let refused = written_of(rt.alloc(), &InContents(count)).err();
+        expect_unwritten(&rt, refused, EncodeErrorKind::OutOfTurn);
+    }
+}
+
+#[test]
+fn goes_on_in_no_list_before_its_element_or_behind_two(rt: HostRuntime) {
+    let lists: [&'static [usize]; 4] = [&[0], &[2], &[0, 2], &[1, 2, 0]];
+    for counts in lists {
+        let refused = written_of(rt.alloc(), &InList(counts)).err();
+        expect_unwritten(&rt, refused, EncodeErrorKind::OutOfTurn);
+        let refused = written_of(rt.alloc(), &InSetOf(counts)).err();
+        expect_unwritten(&rt, refused, EncodeErrorKind::OutOfTurn);
+    }
+}
+
+#[test]
+fn takes_nothing_but_elements_in_a_list(rt: HostRuntime) {
+    for stray in [Stray::EarlyValue, Stray::PresenceBit, Stray::Close] {
+        let refused = written_of(rt.alloc(), &stray).err();
         expect_unwritten(&rt, refused, EncodeErrorKind::OutOfTurn);
     }
 }
@@ -182,6 +264,25 @@ fn take_contents<D: AnyDecoder>(decoder: &mut D, count: usize) -> Result<(), D::
     decoder.close_contents(outside)
 }
 
+/// Reads the elements of a SEQUENCE OF BOOLEAN as so many values each.
+fn take_list<D: AnyDecoder>(decoder: &mut D, counts: &[usize]) -> Result<(), D::Error> {
+    let mut list = decoder.open_list(Tag::SEQUENCE, &Constraints::NONE)?;
+    for count in counts {
+        decoder.next_element(&mut list)?;
+        take_truths(decoder, *count)?;
+    }
+    decoder.next_element(&mut list)?;
+    Ok(())
+}
+
+/// Reads a presence bit of the record around a list in place of its element.
+fn take_bit_in_list<D: AnyDecoder>(decoder: &mut D) -> Result<bool, D::Error> {
+    drop(decoder.open_sequence::<Six>(Six::TAG)?);
+    let mut list = decoder.open_list(Tag::SEQUENCE, &Constraints::NONE)?;
+    decoder.next_element(&mut list)?;
+    decoder.next_presence()
+}
+
 /// Closes a record within a list that was opened in it.
 fn leave_list<D: AnyDecoder>(decoder: &mut D) -> Result<(), D::Error> {
     let scope = decoder.open_sequence::<Pair>(Pair::TAG)?;
@@ -209,6 +310,11 @@ fn refusal_of_contents(alloc: Global, count: usize) -> Option<DecodeError> {
     take_contents(&mut unaligned(alloc, &[0x01, 0x80]), count).err()
 }
 
+/// Something was asked for out of turn.
+fn expect_untimely(rt: &impl Abort, found: Option<DecodeError>) {
+    expect_unread(rt, found, DecodeErrorKind::MissingTag);
+}
+
 #[test]
 fn reads_as_many_components_as_there_are(rt: HostRuntime) {
     assert!(rt; refusal_of_pair(rt.alloc(), 2).is_none());
@@ -220,33 +326,34 @@ fn reads_as_many_components_as_there_are(rt: HostRuntime) {
 #[test]
 fn reads_neither_fewer_nor_more(rt: HostRuntime) {
     for count in [0, 1, 3] {
-        expect_unread(
-            &rt,
-            refusal_of_pair(rt.alloc(), count),
-            DecodeErrorKind::MissingTag,
-        );
-        expect_unread(
-            &rt,
-            refusal_of_told_pair(rt.alloc(), count),
-            DecodeErrorKind::MissingTag,
-        );
+        expect_untimely(&rt, refusal_of_pair(rt.alloc(), count));
+        expect_untimely(&rt, refusal_of_told_pair(rt.alloc(), count));
     }
     for count in [0, 2] {
-        expect_unread(
-            &rt,
-            refusal_of_choice(rt.alloc(), count),
-            DecodeErrorKind::MissingTag,
-        );
-        expect_unread(
-            &rt,
-            refusal_of_contents(rt.alloc(), count),
-            DecodeErrorKind::MissingTag,
-        );
+        expect_untimely(&rt, refusal_of_choice(rt.alloc(), count));
+        expect_untimely(&rt, refusal_of_contents(rt.alloc(), count));
     }
+}
+
+#[test]
+fn reads_an_element_behind_each_call(rt: HostRuntime) {
+    let octets = [0x03, 0xe0];
+    assert!(rt; take_list(&mut unaligned(rt.alloc(), &octets), &[1, 1, 1]).is_ok());
+    let lists: [&'static [usize]; 4] = [&[0], &[2], &[0, 2], &[1, 2, 0]];
+    for counts in lists {
+        let refused = take_list(&mut unaligned(rt.alloc(), &octets), counts).err();
+        expect_untimely(&rt, refused);
+    }
+}
+
+#[test]
+fn reads_no_presence_bit_of_the_record_around_a_list(rt: HostRuntime) {
+    let refused = take_bit_in_list(&mut unaligned(rt.alloc(), &[0x04, 0x04, 0x00])).err();
+    expect_untimely(&rt, refused);
 }
 
 #[test]
 fn closes_no_record_within_an_open_list(rt: HostRuntime) {
     let refused = leave_list(&mut unaligned(rt.alloc(), &[0x02, 0x00, 0x00])).err();
-    expect_unread(&rt, refused, DecodeErrorKind::MissingTag);
+    expect_untimely(&rt, refused);
 }

@@ -430,6 +430,9 @@ fragment_begun_at f x y z v vs l m n i e d k h =
 pub begins_left : {form : Variant → List Writer → Writer} (x y : State) (count : ℕ) (l : UnwrittenElements) → Begins form count x l y → y.failed ≡ false
 begins_left x y count l h = (h.remains (replicate count refused) (length-replicate count refused)).left
 
+pub begins_beside : {form : Variant → List Writer → Writer} (x y : State) (count : ℕ) (l : UnwrittenElements) → Begins form count x l y → y.scope ≡ x.scope
+begins_beside x y count l h = (h.remains (replicate count refused) (length-replicate count refused)).beside
+
 -- nor is one left in a fragment that begins where none is left
 pub none_begun : {form : Variant → List Writer → Writer} (y z : State) (l m : UnwrittenElements) (n : ℕ) → n ≡ unwrap_or l.behind 0 → Begins form n y m z → count_left l ≡ 0 → count_left m ≡ 0
 none_begun y z l m n d k e = let b = d ∙ unwrapped_behind l.behind in let c = k.counted in omega (arith, b, c, e)

@@ -90,9 +90,10 @@ pub record IsOpenList (f : ListForm) (x : State) (vs : List Value) (l : Unwritte
       (still a l.behind l.fragment (map (canon a f.element) vs)))
   pub is_open : y.scope.is_open ≡ true
 
--- A call before each element of a list: where none is left it refuses.
+-- A call before each element of a list, which gives no presence bit and no addition: where none is left it refuses.
 pub record NextElement (l : UnwrittenElements) (y : State) (result : Result (Unit {0}) EncodeError)
     (m : UnwrittenElements) (z : State) : Type 0 where
   pub next : WritesNext encoder_rules IsOpenList l y result m z
   pub over : count_left l ≡ 0 → IsErrAnd result (λ e. IsMemory e y ⊎ IsError OutOfTurn e y)
   pub left : OnOk result (z.failed ≡ false)
+  pub beside : OnOk result (z.scope ≡ y.scope)

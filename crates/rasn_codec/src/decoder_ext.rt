@@ -166,9 +166,9 @@ pub trait DecoderExt: Decoder {
             let c = list_at (D.schema D.CONSTRAINTS) size mark (Self.rules.levels self.old) in
             Reads Self.rules c (λ xs. list_value (map D.value xs.items)) self.old result self.new }
     {
-        let mut list = self.open_list(tag, constraints)?;
+        let mut list = self.open_elements(tag, constraints)?;
         let mut values = Vec::new(self.alloc());
-        while self.next_element(&mut list)? {
+        while self.next_element_in_turn(&mut list)? {
             let value = D::decode(self)?;
             if values.push(value).is_err() {
                 return Err(self.out_of_memory());

@@ -30,12 +30,12 @@ pub trait EncoderExt: Encoder {
             Encodes Self.rules (list_at (T.schema T.CONSTRAINTS) size (is_size_marked constraints.now))
             (suc (deepest T.levels values.now)) (list_value (map T.value values.now)) self.old result self.new }
     {
-        let mut list = self.open_list(tag, constraints, values.len(), identifier)?;
+        let mut list = self.open_elements(tag, constraints, values.len(), identifier)?;
         for value in values {
-            self.next_element(&mut list)?;
+            self.next_element_in_turn(&mut list)?;
             value.encode(self)?;
         }
-        self.close_list(list)
+        self.close_elements(list)
     }
 
     /// Writes a CHOICE (X.691 23) by the value of the alternative that goes by the tag `chosen`: the type's own tag, or

@@ -201,9 +201,9 @@ impl<T: AsnType + Drop> Wraps<T> for Vec<T> {
         constraints: &Constraints,
         held: &F,
     ) -> Result<Vec<T>, D::Error> {
-        let mut list = decoder.open_list(tag, constraints)?;
+        let mut list = decoder.open_elements(tag, constraints)?;
         let mut values = Vec::new(decoder.alloc());
-        while decoder.next_element(&mut list)? {
+        while decoder.next_element_in_turn(&mut list)? {
             let value = read_held::<T, D, F>(decoder, T::TAG, held)?;
             if values.push(value).is_err() {
                 return Err(decoder.out_of_memory());

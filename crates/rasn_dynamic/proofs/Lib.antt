@@ -5,3 +5,9 @@ pub mod Places
 pub mod Slots
 pub mod Trees
 pub mod TimeTexts
+pub mod Pairs
+pub mod NormalForms
+pub mod DefaultTrees
+pub mod Comparing
+pub mod ComparedParts
+pub mod Depths

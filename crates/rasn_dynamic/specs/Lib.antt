@@ -1,3 +1,5 @@
+pub mod Defaults
+pub mod Depths
 pub mod Names
 pub mod Types
 pub mod Values

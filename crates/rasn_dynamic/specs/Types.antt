@@ -1,10 +1,10 @@
 -- The schemas of a table of types: of each place, to each number of levels.
-use Rattle.std.specs.Prelude.{ℕ, zero, suc, Bool, true, false, List, [], ◌∷◌, length, Option, Some, None}
+use Rattle.std.specs.Prelude.{ℕ, zero, suc, Bool, true, false, List, [], ◌∷◌, length, map, Option, Some, None}
 use Rattle.std.specs.Prelude.{count_by, is_some, nat_lt, option_map, slice_get, ℤ}
 use Rattle.std.specs.Global.{Vec}
 use Rattle.rasn_types.specs.Alphabets.{bmp, ia5, numeric, printable, visible}
 use Rattle.rasn_types.specs.Contents.{generalized, other, utc, utf8}
-use Rattle.rasn_types.specs.Values.{Value, truth, nothing, whole, octets, bits, characters}
+use Rattle.rasn_types.specs.Values.{Value, truth, nothing, whole, octets, bits, characters, alternative}
 use Rattle.rasn_constraints.specs.Bounds.{unbounded}
 use Rattle.rasn_constraints.specs.Constraints.{effective}
 use Rattle.rasn_constraints.specs.declared.constraints.Bounded.{Bounded}
@@ -16,10 +16,10 @@ use Rattle.rasn_schema.specs.Fields.{tag_of}
 use Rattle.rasn_schema.specs.Forms.{bit_schema, character_schema, is_size_marked}
 use Rattle.rasn_schema.specs.Forms.{named_bit_schema, number_schema, octet_schema, size_of}
 use Rattle.rasn_schema.specs.Lists.{list_value}
-use Rattle.rasn_schema.specs.Records.{record_at}
+use Rattle.rasn_schema.specs.Records.{record_at, record_value}
 use Rattle.rasn_schema.specs.Schemas
 use Rattle.rasn_schema.specs.Schemas.{Schema, Parts, no_parts, part, leaf, listed}
-use Rattle.rasn_traits.specs.Counted.{item_at}
+use Rattle.rasn_traits.specs.Counted.{index_in, item_at, side_of}
 use Rattle.rasn_traits.specs.Moments.{date_at}
 use Rattle.rasn_schema.specs.declared.items.ItemCounts.{ItemCounts}
 use Rattle.rasn_schema.specs.declared.items.Place.{Place}
@@ -34,6 +34,10 @@ use Rattle.rasn_dynamic.specs.declared.types.Items.{Items}
 use Rattle.rasn_dynamic.specs.declared.types.Presence.{Presence}
 use Rattle.rasn_dynamic.specs.declared.types.DefaultValue.{DefaultValue}
 use Rattle.rasn_dynamic.specs.declared.types.DefaultValue.TheVariants
+use Rattle.rasn_dynamic.specs.declared.types.DefaultTree.{DefaultTree}
+use Rattle.rasn_dynamic.specs.declared.types.DefaultTree.TheOpen.{DefaultTree-F}
+use Rattle.rasn_dynamic.specs.declared.types.DefaultTree.TheOpen as Trees
+use Rattle.rasn_dynamic.specs.declared.types.DefaultTree.TheFolds.{fold-DefaultTree}
 use Rattle.rasn_dynamic.specs.declared.types.Presence.TheVariants.{Required, Optional, Group, Default}
 use Rattle.rasn_dynamic.specs.declared.types.ObjectSet.{ObjectSet}
 use Rattle.rasn_dynamic.specs.declared.types.Record.{Record}
@@ -106,7 +110,7 @@ abbrev pub within : List Kind → Option Kind → Option Kind
 within ts (Some (Containing i)) = slice_get ts i
 within ts k = k
 
--- the value that a default is
+-- the value that a default is which holds none
 abbrev pub default_value : DefaultValue → Value
 default_value (TheVariants.Boolean b) = truth b
 default_value TheVariants.Null = nothing
@@ -117,13 +121,34 @@ default_value (TheVariants.Bits bs) = bits bs
 default_value (TheVariants.Characters cs) = characters cs
 default_value TheVariants.NoElements = list_value []
 
+-- NULL stands for an absent value of a default where one is asked for
+abbrev pub stated : Option Value → Value
+stated None = nothing
+stated (Some v) = v
+
+-- one level of a default, which has what its parts are in their place: each absent or there
+abbrev pub tree_step : DefaultTree-F (Option Value) → Option Value
+tree_step Trees.Absent = None
+tree_step (Trees.Plain d) = Some (default_value d)
+tree_step (Trees.Elements v) = Some (list_value (map stated v.items))
+tree_step (Trees.Fields v w) = Some (record_value v.items w.items)
+tree_step (Trees.Alternative p v) = Some (alternative (side_of p) (index_in p) (stated v.value))
+
+-- what a default is: absent or there
+abbrev pub tree_slot : DefaultTree → Option Value
+tree_slot = fold-DefaultTree (Option Value) tree_step
+
+-- the value that a default is
+abbrev pub tree_value : DefaultTree → Value
+tree_value d = stated (tree_slot d)
+
 -- whether a component has to be there, by whether it may be a group; a group that may not is one that may be absent
 abbrev pub presence_of : Bool → Presence → Schemas.Presence
 presence_of b Required = Schemas.required
 presence_of b Optional = Schemas.optional
 presence_of true Group = Schemas.group
 presence_of false Group = Schemas.optional
-presence_of b (Default d) = Schemas.default (default_value d)
+presence_of b (Default d) = Schemas.default (tree_value d)
 
 -- no root component is a group
 abbrev pub in_root : Component → Bool

@@ -99,7 +99,7 @@ fn is_item(value: &Value, told: Place) -> bool
 }
 
 /// Whether two places are one.
-fn are_same_place(own: Place, told: Place) -> bool
+pub fn are_same_place(own: Place, told: Place) -> bool
     ensures { result ≡ same (item_at own) (item_at told) }
 {
     match own {

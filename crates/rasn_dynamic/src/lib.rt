@@ -2,7 +2,9 @@
 #![tactic(auto)]
 
 pub mod copying;
+pub mod default_trees;
 pub mod defaults;
+mod display;
 pub mod times;
 pub mod types;
 pub mod values;

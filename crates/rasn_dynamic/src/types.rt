@@ -98,10 +98,10 @@ pub enum Presence {
     /// In the root, and where its type isn't a SEQUENCE, it is taken as `Optional`.
     Group,
     /// It is its default where it isn't there (X.680 25.9). A value of a record always has it.
-    Default(DefaultValue),
+    Default(DefaultTree),
 }
 
-/// A value that a table states: the default of a component, or one by which an object set tells a type.
+/// A value that a table states and that holds no values: a default, or one by which an object set tells a type.
 #[derive(Drop)]
 pub enum DefaultValue {
     /// Of BOOLEAN.
@@ -121,6 +121,22 @@ pub enum DefaultValue {
     Characters(BmpString),
     /// Of SEQUENCE OF: without elements.
     NoElements,
+}
+
+/// The default of a component (X.680 25.9), which may hold values: each in normal form, and without a SET OF that has
+/// members.
+#[derive(Drop)]
+pub enum DefaultTree {
+    /// No value: a component that is absent. It stands for NULL where a value is asked for.
+    Absent,
+    /// A value that holds none.
+    Plain(DefaultValue),
+    /// Of SEQUENCE OF.
+    Elements(Vec<DefaultTree>),
+    /// Of SEQUENCE and SET: its root components, and its additions.
+    Fields(Vec<DefaultTree>, Vec<DefaultTree>),
+    /// Of CHOICE: where its alternative stands, and the value of this.
+    Alternative(Place, Box<DefaultTree>),
 }
 
 /// A component of a record.

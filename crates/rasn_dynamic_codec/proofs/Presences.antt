@@ -11,10 +11,10 @@ use Rattle.rasn_traits.specs.Presences.{left_out, presence_bit}
 use Rattle.rasn_traits.specs.Scopes.{presents_required, presents_there, presents_left_out, refuses_bit, refuses_required, refuses_there, WrittenPart}
 use Rattle.rasn_dynamic_codec.specs.OneAddition.{normal_addition}
 use Rattle.rasn_dynamic_codec.proofs.OneAddition.{given_absent, given_there}
-use Rattle.rasn_dynamic.specs.declared.types.DefaultValue.{DefaultValue}
+use Rattle.rasn_dynamic.specs.declared.types.DefaultTree.{DefaultTree}
 use Rattle.rasn_dynamic.specs.declared.types.Presence.{Presence}
 use Rattle.rasn_dynamic.specs.declared.types.Presence.TheVariants.{Default, Group, Optional, Required}
-use Rattle.rasn_dynamic.specs.Types.{default_value, presence_of}
+use Rattle.rasn_dynamic.specs.Types.{tree_value, presence_of}
 use Rattle.rasn_dynamic.specs.Values.{there}
 use Rattle.rasn_dynamic_codec.specs.Writes.{may_stand}
 
@@ -24,7 +24,7 @@ is_other Group b = b
 is_other (Default d) b = true
 is_other p b = false
 
-pub no_other : (g : Bool) (p : Presence) → (p ≡ Group → ⊥) → ((d : DefaultValue) → p ≡ Default d → ⊥) → is_other p g ≡ false
+pub no_other : (g : Bool) (p : Presence) → (p ≡ Group → ⊥) → ((d : DefaultTree) → p ≡ Default d → ⊥) → is_other p g ≡ false
 no_other g Required h k = refl
 no_other g Optional h k = refl
 no_other true Group h k = absurd (h refl)
@@ -32,7 +32,7 @@ no_other false Group h k = refl
 no_other g (Default d) h k = absurd (k d refl)
 
 -- a component with a default that has to be there
-pub stands_there : (d : DefaultValue) (o : Option Content) → may_stand true (Default d) o ≡ true → is_some o ≡ true
+pub stands_there : (d : DefaultTree) (o : Option Content) → may_stand true (Default d) o ≡ true → is_some o ≡ true
 stands_there d None e = absurd (cc)
 stands_there d (Some v) e = refl
 
@@ -92,28 +92,28 @@ module _ {E X : Type 0} (rules : EncoderRules E X) where
   open_written false Group s x y (Some v) r n q h = given_there rules optional s (normal s v) x r y refl h
   open_written g (Default d) s x y (Some v) r n q h = absurd (cc)
 
-module _ {E X : Type 0} (rules : EncoderRules E X) (d : DefaultValue) where
+module _ {E X : Type 0} (rules : EncoderRules E X) (d : DefaultTree) where
   -- the bit of a component with a default
-  bit_told : (s : Schema) (v : Content) (r : Bool) → r ≡ same (normal s v) (default_value d) → presence_bit (default (default_value d)) (Some (normal s v)) ≡ Some (not r)
+  bit_told : (s : Schema) (v : Content) (r : Bool) → r ≡ same (normal s v) (tree_value d) → presence_bit (default (tree_value d)) (Some (normal s v)) ≡ Some (not r)
   bit_told s v r e = ap (λ b. Some (not b)) (sym e)
 
   -- a component with a default whose presence bit is refused
-  pub default_unmarked : (s : Schema) (x y z : X) (o : Option Content) (r b : Bool) (e : E) → r ≡ same (normal s (there o)) (default_value d) → b ≡ not r → is_some o ≡ true → GivesPresence rules b x (Err e) y
-      → WrittenPart rules (default (default_value d)) s (normal_addition (default (default_value d)) s o) x (Err e) z
+  pub default_unmarked : (s : Schema) (x y z : X) (o : Option Content) (r b : Bool) (e : E) → r ≡ same (normal s (there o)) (tree_value d) → b ≡ not r → is_some o ≡ true → GivesPresence rules b x (Err e) y
+      → WrittenPart rules (default (tree_value d)) s (normal_addition (default (tree_value d)) s o) x (Err e) z
   unfolding settle
   default_unmarked s x y z None r b e i j q h = absurd (cc)
   default_unmarked s x y z (Some v) r b e i j q h = inr (refuses_bit (bit_told s v r i) h)
 
   -- one that is its default
-  pub default_left : (s : Schema) (x y : X) (o : Option Content) (r b : Bool) → r ≡ same (normal s (there o)) (default_value d) → b ≡ not r → b ≡ false → is_some o ≡ true → rules.marks x b y
-      → WrittenPart rules (default (default_value d)) s (normal_addition (default (default_value d)) s o) x (Ok tt) y
+  pub default_left : (s : Schema) (x y : X) (o : Option Content) (r b : Bool) → r ≡ same (normal s (there o)) (tree_value d) → b ≡ not r → b ≡ false → is_some o ≡ true → rules.marks x b y
+      → WrittenPart rules (default (tree_value d)) s (normal_addition (default (tree_value d)) s o) x (Ok tt) y
   unfolding settle
   default_left s x y None r b i j f q h = absurd (cc)
   default_left s x y (Some v) r b i j f q h = presents_left_out (bit_told s v r i ∙ ap Some (sym j ∙ f)) (rw (← f) h)
 
   -- one that isn't
-  pub default_there : PresentsWell rules → (s : Schema) (x m y : X) (o : Option Content) (r b : Bool) (result : Result (Unit {0}) E) → r ≡ same (normal s (there o)) (default_value d) → b ≡ not r → b ≡ true → is_some o ≡ true → rules.marks x b m
-      → Written rules s (normal s (there o)) m result y → WrittenPart rules (default (default_value d)) s (normal_addition (default (default_value d)) s o) x result y
+  pub default_there : PresentsWell rules → (s : Schema) (x m y : X) (o : Option Content) (r b : Bool) (result : Result (Unit {0}) E) → r ≡ same (normal s (there o)) (tree_value d) → b ≡ not r → b ≡ true → is_some o ≡ true → rules.marks x b m
+      → Written rules s (normal s (there o)) m result y → WrittenPart rules (default (tree_value d)) s (normal_addition (default (tree_value d)) s o) x result y
   unfolding settle
   default_there L s x m y None r b result i j f q h w = absurd (cc)
   default_there L s x m y (Some v) r b (Ok u) i j f q h w = presents_there (bit_told s v r i ∙ ap Some (sym j ∙ f)) (rw (← f) h) w
@@ -121,18 +121,18 @@ module _ {E X : Type 0} (rules : EncoderRules E X) (d : DefaultValue) where
   default_there L s x m y (Some v) r b (Err e) i j f q h (inr k) = inr (refuses_there (bit_told s v r i ∙ ap Some (sym j ∙ f)) (rw (← f) h) k)
 
   -- an addition that is its default
-  pub default_skipped : (s : Schema) (x y : X) (o : Option Content) (r : Bool) (result : Result (Unit {0}) E) → r ≡ same (normal s (there o)) (default_value d) → r ≡ true → is_some o ≡ true → AdditionSkipped rules x result y
-      → WrittenAddition rules (default (default_value d)) s (normal_addition (default (default_value d)) s o) x result y
+  pub default_skipped : (s : Schema) (x y : X) (o : Option Content) (r : Bool) (result : Result (Unit {0}) E) → r ≡ same (normal s (there o)) (tree_value d) → r ≡ true → is_some o ≡ true → AdditionSkipped rules x result y
+      → WrittenAddition rules (default (tree_value d)) s (normal_addition (default (tree_value d)) s o) x result y
   unfolding settle
   default_skipped s x y None r result i f q h = absurd (cc)
-  default_skipped s x y (Some v) r result i f q h = given_absent rules (default (default_value d)) s (Some (normal s v)) x result y (bit_told s v r i ∙ ap (λ b. Some (not b)) f) h
+  default_skipped s x y (Some v) r result i f q h = given_absent rules (default (tree_value d)) s (Some (normal s v)) x result y (bit_told s v r i ∙ ap (λ b. Some (not b)) f) h
 
   -- an addition that isn't
-  pub default_open : (s : Schema) (x y : X) (o : Option Content) (r : Bool) (result : Result (Unit {0}) E) → r ≡ same (normal s (there o)) (default_value d) → r ≡ false → is_some o ≡ true → AdditionWritten rules s (normal s (there o)) x result y
-      → WrittenAddition rules (default (default_value d)) s (normal_addition (default (default_value d)) s o) x result y
+  pub default_open : (s : Schema) (x y : X) (o : Option Content) (r : Bool) (result : Result (Unit {0}) E) → r ≡ same (normal s (there o)) (tree_value d) → r ≡ false → is_some o ≡ true → AdditionWritten rules s (normal s (there o)) x result y
+      → WrittenAddition rules (default (tree_value d)) s (normal_addition (default (tree_value d)) s o) x result y
   unfolding settle
   default_open s x y None r result i f q h = absurd (cc)
-  default_open s x y (Some v) r result i f q h = given_there rules (default (default_value d)) s (normal s v) x result y (bit_told s v r i ∙ ap (λ b. Some (not b)) f) h
+  default_open s x y (Some v) r result i f q h = given_there rules (default (tree_value d)) s (normal s v) x result y (bit_told s v r i ∙ ap (λ b. Some (not b)) f) h
 
 -- an addition that is one too many
 pub surplus_refused : {E X : Type 0} (rules : EncoderRules E X) (s : Schema) (v : Content) (x y : X) (e : E) → rules.memory e x ⊎ rules.surplus e x → AdditionWritten rules s v x (Err e) y

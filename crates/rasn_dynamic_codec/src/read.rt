@@ -13,7 +13,7 @@ ghost use Rattle.rasn_traits.specs.Calls.{Reads};
 ghost use Rattle.rasn_traits.specs.Optionals.{ReadsComponent};
 ghost use Rattle.rasn_dynamic_codec.specs.OneAddition.{ReadsOneAddition};
 ghost use Rattle.rasn_dynamic_codec.specs.Reads.{OpensNext, OpensWithin, PutsRead, ReadsBoxed, ReadsValue, TakesRoot};
-ghost use Rattle.rasn_dynamic.specs.Types.{choice_of, contained_at, default_value, grouped, in_root, of_size};
+ghost use Rattle.rasn_dynamic.specs.Types.{choice_of, contained_at, grouped, in_root, of_size, tree_value};
 ghost use Rattle.rasn_dynamic.specs.Types.{parts_at, plain_at, presence_of, record_schema, schema_at, standing};
 ghost use Rattle.rasn_dynamic.specs.Values.{slot_of, value_of};
 
@@ -22,8 +22,7 @@ use crate::read_simple::{
 };
 use rasn_constraints::constraints::{Constraint, Constraints};
 use rasn_dynamic::types::{
-    Choice, Component, DefaultValue, Kind, Presence, Record, SizeBounds, kind_at,
-    presence_bit_count,
+    Choice, Component, DefaultTree, Kind, Presence, Record, SizeBounds, kind_at, presence_bit_count,
 };
 use rasn_dynamic::values::Value;
 use rasn_schema::items::Place;
@@ -171,9 +170,9 @@ fn decode_elements<D: CountedDecoder>(
         (D.rules.levels decoder.old)) (λ xs. list_value (map value_of xs.items)) decoder.old result decoder.new }
 {
     let stated = [Constraint::Size(*size)];
-    let mut list = decoder.open_list(Tag::SEQUENCE, &Constraints::new(&stated))?;
+    let mut list = decoder.open_elements(Tag::SEQUENCE, &Constraints::new(&stated))?;
     let mut values = Vec::new(decoder.alloc());
-    while decoder.next_element(&mut list)? {
+    while decoder.next_element_in_turn(&mut list)? {
         let value = decode_value(decoder, kinds, of)?;
         if values.push(value).is_err() {
             return Err(decoder.out_of_memory());
@@ -280,10 +279,10 @@ fn put_default<D: CountedDecoder>(
     decoder: &mut D,
     kinds: &[Kind],
     place: usize,
-    otherwise: &DefaultValue,
+    otherwise: &DefaultTree,
     values: &mut Vec<Value>,
 ) -> Result<(), D::Error>
-    ensures { PutsRead (ReadsComponent D.rules (default (default_value otherwise.now))
+    ensures { PutsRead (ReadsComponent D.rules (default (tree_value otherwise.now))
         (schema_at kinds.now place (D.rules.levels decoder.old)) slot_of decoder.old)
         values.old.items result values.new.items decoder.new }
 {
@@ -371,9 +370,9 @@ fn decode_default<D: CountedDecoder>(
     decoder: &mut D,
     kinds: &[Kind],
     place: usize,
-    otherwise: &DefaultValue,
+    otherwise: &DefaultTree,
 ) -> Result<Value, D::Error>
-    ensures { ReadsComponent D.rules (default (default_value otherwise.now))
+    ensures { ReadsComponent D.rules (default (tree_value otherwise.now))
         (schema_at kinds.now place (D.rules.levels decoder.old)) slot_of decoder.old result decoder.new }
 {
     let there = decoder.next_presence()?;
@@ -384,8 +383,8 @@ fn decode_default<D: CountedDecoder>(
 }
 
 /// The value of a default, in memory of the decoder's.
-fn made<D: CountedDecoder>(decoder: &mut D, otherwise: &DefaultValue) -> Result<Value, D::Error>
-    ensures { Holds D.rules slot_of (Some (default_value otherwise.now)) decoder.old result decoder.new }
+fn made<D: CountedDecoder>(decoder: &mut D, otherwise: &DefaultTree) -> Result<Value, D::Error>
+    ensures { Holds D.rules slot_of (Some (tree_value otherwise.now)) decoder.old result decoder.new }
 {
     match otherwise.value(decoder.alloc()) {
         Ok(value) => Ok(value),

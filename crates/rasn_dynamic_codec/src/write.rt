@@ -13,7 +13,7 @@ ghost use Rattle.rasn_traits.specs.Calls.{Encodes};
 ghost use Rattle.rasn_traits.specs.Counted.{index_in, IsGroupOf, side_of};
 ghost use Rattle.rasn_traits.specs.Scopes.{WritesParts, WrittenPart};
 ghost use Rattle.rasn_dynamic.specs.declared.types.Presence.TheVariants.{Group};
-ghost use Rattle.rasn_dynamic.specs.Types.{choice_of, contained_at, default_value, grouped, in_root, of_size};
+ghost use Rattle.rasn_dynamic.specs.Types.{choice_of, contained_at, tree_value, grouped, in_root, of_size};
 ghost use Rattle.rasn_dynamic.specs.Types.{parts_at, plain_at, presence_of, record_schema, required_in, schema_at};
 ghost use Rattle.rasn_dynamic.specs.Values.{levels_of, slot_of, value_of};
 ghost use Rattle.rasn_dynamic_codec.specs.Writes.{fit, may_stand, GivesOpen, GivesSettled, OpensChosen, WritesOne};
@@ -21,7 +21,7 @@ ghost use Rattle.rasn_dynamic_codec.specs.Writes.{fit, may_stand, GivesOpen, Giv
 use crate::write_simple::{encode_any, encode_date, encode_leaf, encode_simple};
 use rasn_constraints::constraints::{Constraint, Constraints};
 use rasn_dynamic::types::{
-    Choice, Component, DefaultValue, Kind, Presence, Record, SizeBounds, kind_at,
+    Choice, Component, DefaultTree, Kind, Presence, Record, SizeBounds, kind_at,
     presence_bit_count, required_in,
 };
 use rasn_dynamic::values::Value;
@@ -163,12 +163,17 @@ fn encode_elements<E: CountedEncoder>(
 {
     let stated = [Constraint::Size(*size)];
     let constraints = Constraints::new(&stated);
-    let mut list = encoder.open_list(Tag::SEQUENCE, &constraints, values.len(), Identifier::EMPTY)?;
+    let mut list = encoder.open_elements(
+        Tag::SEQUENCE,
+        &constraints,
+        values.len(),
+        Identifier::EMPTY,
+    )?;
     for value in values {
-        encoder.next_element(&mut list)?;
+        encoder.next_element_in_turn(&mut list)?;
         encode_value(encoder, kinds, of, value)?;
     }
-    encoder.close_list(list)
+    encoder.close_elements(list)
 }
 
 /// Writes a SET OF.
@@ -206,12 +211,12 @@ fn encode_members<E: CountedEncoder>(
 {
     let stated = [Constraint::Size(*size)];
     let constraints = Constraints::new(&stated);
-    let mut bag = encoder.open_set_of(Tag::SET, &constraints, values.len(), Identifier::EMPTY)?;
+    let mut bag = encoder.open_members(Tag::SET, &constraints, values.len(), Identifier::EMPTY)?;
     for value in values {
-        encoder.next_member(&mut bag)?;
+        encoder.next_member_in_turn(&mut bag)?;
         encode_value(encoder, kinds, of, value)?;
     }
-    encoder.close_set_of(bag)
+    encoder.close_members(bag)
 }
 
 /// Writes a SEQUENCE.
@@ -363,14 +368,14 @@ fn encode_default<E: CountedEncoder>(
     encoder: &mut E,
     kinds: &[Kind],
     place: usize,
-    otherwise: &DefaultValue,
+    otherwise: &DefaultTree,
     value: &Value,
 ) -> Result<(), E::Error>
     ensures { is_some (slot_of value.now) ≡ true →
-        WritesOne E.rules (WrittenPart E.rules) (default (default_value otherwise.now)) (schema_at kinds.now place)
+        WritesOne E.rules (WrittenPart E.rules) (default (tree_value otherwise.now)) (schema_at kinds.now place)
         (levels_of value.now) (slot_of value.now) encoder.old result encoder.new }
 {
-    let differs = !value.is_default_at(kinds, place, otherwise);
+    let differs = !value.is_default_tree_at(kinds, place, otherwise);
     encoder.set_presence(differs)?;
     if !differs {
         return Ok(());
@@ -483,14 +488,14 @@ fn encode_differing<E: CountedEncoder>(
     encoder: &mut E,
     kinds: &[Kind],
     place: usize,
-    otherwise: &DefaultValue,
+    otherwise: &DefaultTree,
     value: &Value,
 ) -> Result<(), E::Error>
     ensures { is_some (slot_of value.now) ≡ true →
-        WritesOne E.rules (WrittenAddition E.rules) (default (default_value otherwise.now)) (schema_at kinds.now place)
+        WritesOne E.rules (WrittenAddition E.rules) (default (tree_value otherwise.now)) (schema_at kinds.now place)
         (levels_of value.now) (slot_of value.now) encoder.old result encoder.new }
 {
-    if value.is_default_at(kinds, place, otherwise) {
+    if value.is_default_tree_at(kinds, place, otherwise) {
         return encoder.skip_addition();
     }
     encode_open(encoder, kinds, place, value)

@@ -19,7 +19,7 @@ use Rattle.rasn_schema.specs.Records.{record_value}
 use Rattle.rasn_schema.specs.declared.items.Place.{Place}
 use Rattle.rasn_schema.specs.declared.items.Place.TheVariants.{Root, Added}
 use Rattle.rasn_traits.specs.Counted.{index_in, side_of}
-use Rattle.rasn_dynamic.specs.Types.{behind, default_value, row_at, standing}
+use Rattle.rasn_dynamic.specs.Types.{behind, row_at, standing, tree_value}
 use Rattle.rasn_dynamic.specs.Values.{slot_of, slot_step, there, value_of}
 use Rattle.rasn_dynamic.specs.declared.types.Alternative.{Alternative}
 use Rattle.rasn_dynamic.specs.declared.types.Choice.{Choice}
@@ -282,13 +282,13 @@ module _ (ts : List Kind) (m : ℕ) (g : ℕ → Json → Option Value) (f : ℕ
   absent_none (Default d) e = absurd cc
 
   default_part : (p : Presence) (i : ℕ) (v : Value) → is_default_of ts p i v ≡ true → absent_told p ≡ Some (Some (part_normal ts f i p v))
-  default_part (Default d) i v e = ap (λ b. Some (Some (cond b (default_value d) (f i v)))) (sym e)
+  default_part (Default d) i v e = ap (λ b. Some (Some (cond b (tree_value d) (f i v)))) (sym e)
   default_part Required i v e = absurd cc
   default_part Optional i v e = absurd cc
   default_part Group i v e = absurd cc
 
   other_part : (p : Presence) (i : ℕ) (v : Value) → is_default_of ts p i v ≡ false → part_normal ts f i p v ≡ f i v
-  other_part (Default d) i v e = ap (λ b. cond b (default_value d) (f i v)) e
+  other_part (Default d) i v e = ap (λ b. cond b (tree_value d) (f i v)) e
   other_part Required i v e = refl
   other_part Optional i v e = refl
   other_part Group i v e = refl

@@ -6,7 +6,7 @@ use Rattle.std.specs.Str.{bytes_eq}
 use Rattle.rasn_types.specs.Values.{Value, alternative, fields, root, slots}
 use Rattle.rasn_schema.specs.Normal.{normal, over_alternative, over_bag, over_elements, over_fields}
 use Rattle.rasn_schema.specs.Records.{record_value}
-use Rattle.rasn_dynamic.specs.Types.{behind, default_value, simple_schema}
+use Rattle.rasn_dynamic.specs.Types.{behind, simple_schema, tree_value}
 use Rattle.rasn_dynamic.specs.declared.types.Alternative.{Alternative}
 use Rattle.rasn_dynamic.specs.declared.types.Choice.{Choice}
 use Rattle.rasn_dynamic.specs.declared.types.Component.{Component}
@@ -22,7 +22,7 @@ use Rattle.rasn_dynamic_jer.specs.Shown.{group_in, is_default, is_default_of, ki
 
 -- the value of a component that is there: its default, where its normal form is that, and else its normal form
 abbrev pub part_normal : List Kind → (ℕ → Value → Value) → ℕ → Presence → Value → Value
-part_normal ts f i (Default d) v = if is_default_of ts (Default d) i v then default_value d else f i v
+part_normal ts f i (Default d) v = if is_default_of ts (Default d) i v then tree_value d else f i v
 part_normal ts f i p v = f i v
 
 -- what stands for a component

@@ -5,7 +5,8 @@ use Rattle.rasn_types.specs.AllOf.{all_of}
 use Rattle.rasn_types.specs.Values
 use Rattle.rasn_types.specs.Values.{same}
 use Rattle.rasn_schema.specs.Normal.{normal}
-use Rattle.rasn_dynamic.specs.Types.{behind, default_value, row_at, schema_at, standing, within}
+use Rattle.rasn_dynamic.specs.Depths.{depth}
+use Rattle.rasn_dynamic.specs.Types.{behind, row_at, schema_at, standing, tree_value, within}
 use Rattle.rasn_dynamic.specs.Values.{slot_step}
 use Rattle.rasn_dynamic.specs.declared.types.Alternative.{Alternative}
 use Rattle.rasn_dynamic.specs.declared.types.Component.{Component}
@@ -49,9 +50,9 @@ kind_within ts i = within ts (slice_get ts i)
 abbrev pub named : List ℕ → Option Json → Option (List Member)
 named name j = option_map (λ j. (name, j) ∷ []) j
 
--- X.691 19.5: whether a component has a default, which a value's normal form is; this is one at all levels
+-- X.691 19.5: whether a component has a default, which a value's normal form is; this is one at all levels that hold it
 abbrev pub is_default_of : List Kind → Presence → ℕ → Values.Value → Bool
-is_default_of ts (Default d) i v = same (normal (schema_at ts i 0) v) (default_value d)
+is_default_of ts (Default d) i v = same (normal (schema_at ts i (depth v)) v) (tree_value d)
 is_default_of ts p i v = false
 
 abbrev pub is_default : List Kind → Component → Values.Value → Bool

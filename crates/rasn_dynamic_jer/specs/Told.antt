@@ -20,7 +20,7 @@ use Rattle.rasn_schema.specs.Records.{record_value}
 use Rattle.rasn_schema.specs.declared.items.Place.{Place}
 use Rattle.rasn_schema.specs.declared.items.Place.TheVariants.{Root, Added}
 use Rattle.rasn_traits.specs.Counted.{index_in, item_at, side_of}
-use Rattle.rasn_dynamic.specs.Types.{behind, default_value, row_at, standing}
+use Rattle.rasn_dynamic.specs.Types.{behind, row_at, standing, tree_value}
 use Rattle.rasn_dynamic.specs.Values.{slot_of, value_of}
 use Rattle.rasn_dynamic.specs.declared.types.Alternative.{Alternative}
 use Rattle.rasn_dynamic.specs.declared.types.Choice.{Choice}
@@ -160,7 +160,7 @@ abbrev pub absent_told : Presence → Option (Option Value)
 absent_told Required = None
 absent_told Optional = Some None
 absent_told Group = Some None
-absent_told (Default d) = Some (Some (default_value d))
+absent_told (Default d) = Some (Some (tree_value d))
 
 -- a component, by the member that may tell it
 abbrev pub slot_told : (ℕ → Json → Option Value) → Component → Option Json → Option (Option Value)

@@ -335,7 +335,7 @@ fn is_default(kinds: &[Kind], component: &Component, value: &Value) -> bool
     ensures { result ≡ is_default kinds.now component.now (value_of value.now) }
 {
     match &component.presence {
-        Presence::Default(otherwise) => value.is_default_at(kinds, component.of, otherwise),
+        Presence::Default(otherwise) => value.is_default_tree_at(kinds, component.of, otherwise),
         _ => false,
     }
 }

@@ -5,12 +5,12 @@ use Rattle.rasn_types.specs.Values.{Value}
 use Rattle.rasn_schema.specs.Schemas.{count, Order, Parts, Schema}
 use Rattle.rasn_traits.specs.Lists.{Mistimed}
 use Rattle.rasn_traits.specs.Scopes.{PresentsFields}
-use Rattle.rasn_traits.specs.Amounts.{Amount, amount_of, no_amount, one_value}
+use Rattle.rasn_traits.specs.Amounts.{Amount, amount_of, no_amount, one_value, only_values}
 use Rattle.rasn_traits.specs.Turns.{Came, came_added, came_bit, came_nothing, came_skipped, came_value, RefusesOther}
 use Rattle.rasn_traits.proofs.Turns.{fields_came, same_amount}
 use Rattle.rasn_jer.proofs.Refusing.{Inside}
-use Rattle.rasn_jer.specs.Places.{are_done, behind, fewer, inside, is_complete, is_complete_of, is_done, is_full, is_full_of, past_added, past_bit, past_root, Place, Rest, State, unfailed_at, with_value}
-use Rattle.rasn_jer.specs.Rules.{Closed, IsUnclosed, jer_rules, OpensRecord}
+use Rattle.rasn_jer.specs.Places.{are_done, behind, fewer, inside, is_complete, is_complete_of, is_done, is_full, is_full_of, past_added, past_bit, past_item, past_root, Place, Rest, State, unfailed_at, with_value}
+use Rattle.rasn_jer.specs.Rules.{AwaitsValues, Closed, IsUnclosed, jer_rules, OpensRecord}
 use Rattle.rasn_jer.specs.Texts.{text_of}
 use Rattle.rasn_jer.specs.declared.error.EncodeError.{EncodeError}
 use Rattle.rasn_jer.specs.declared.error.EncodeError.TheVariants.{AlreadyFailed, NoJson, OutOfMemory, OutOfTurn, VariantNotInChoice}
@@ -123,6 +123,38 @@ record_untimely order ps marker qs x i j o r h f = λ a k d.
 
     complete_members : (p : Place) → p.kind ≡ Kinds.Members → is_complete p ≡ are_done p.due
     complete_members p e = ap (λ (k : Kind). is_complete_of k p.is_empty p.due) e
+
+-- what came in an array: items alone
+record ItemsCame (a : Amount) (i j : State) : Type 0 where
+  items : j.place.kind ≡ Kinds.Items
+  unfailed : j.failed ≡ false
+  components : j.place.due.components ≡ past a.components i.place.due.components
+  bits : a.bits ≡ 0
+  additions : a.additions ≡ 0
+
+items_came : (a : Amount) (i j : State) → i.place.kind ≡ Kinds.Items → i.failed ≡ false → Came jer_rules a i j → ItemsCame a i j
+items_came a i j e f came_nothing = record { items = e; unfailed = f; components = refl; bits = refl; additions = refl }
+items_came a i j e f (came_value {a = b} {m = m} w c) =
+    let now : m.place ≡ behind (past_item i.place) (text_of w.json) = subst (λ (k : Kind). m.place ≡ with_value k i.place (text_of w.json)) e w.taken.written in
+    let d = items_came b m j (ap (λ (q : Place). q.kind) now ∙ e) w.left c in
+    record { items = d.items; unfailed = d.unfailed; components = d.components ∙ ap (λ (q : Place). past b.components q.due.components) now; bits = d.bits; additions = d.additions }
+items_came a i j e f (came_bit w c) = absurd (let g : Kinds.Items ≡ Kinds.Members = sym e ∙ w.members in cc)
+items_came a i j e f (came_skipped w c) = absurd (let g : Kinds.Items ≡ Kinds.Members = sym e ∙ w.members in cc)
+items_came a i j e f (came_added w c) = absurd (let g : Kinds.Items ≡ Kinds.Members = sym e ∙ w.members in cc)
+
+-- a call of an array in which anything else came than the items that were awaited is refused
+pub values_untimely : (n : ℕ) (i j : State) (r : Result (Unit {0}) EncodeError) → AwaitsValues n i → (is_complete j.place ≡ false → j.failed ≡ false → IsErrAnd r (λ e. e ≡ OutOfTurn)) → RefusesOther jer_rules (only_values n) i j r
+values_untimely n i j r w f = λ a k d.
+    let c = items_came a i j w.items w.unfailed k in
+    let components : j.place.due.components ≡ past a.components (Some n) = c.components ∙ ap (λ (q : Due). past a.components q.components) w.due in
+    mistimed r j (f (is_false (is_complete j.place) (λ t.
+    let e : are_done j.place.due ≡ true = sym (ap (λ (k : Kind). is_complete_of k j.place.is_empty j.place.due) c.items) ∙ t in
+    let b = both (is_done j.place.due.components) _ e in
+    d (same_amount a (only_values n) (as_many a.components n (ap is_done (sym components) ∙ b.0)) c.bits c.additions))) c.unfailed)
+  where
+    is_false : (b : Bool) → (b ≡ true → ⊥) → b ≡ false
+    is_false true n = absurd (n refl)
+    is_false false n = refl
 
 -- in a full place nothing more comes
 full_came : (a : Amount) (i j : State) → i.place.kind ≡ Kinds.One → is_full i.place ≡ true → Came jer_rules a i j → a ≡ no_amount

@@ -31,6 +31,10 @@ is_done (Some (suc n)) = false
 abbrev pub none_due : Due
 none_due = record { components = Some 0; bits = Some 0; additions = Some 0 }
 
+-- so many items are still to come, and nothing else
+abbrev pub items_due : ℕ → Due
+items_due n = record { components = Some n; bits = Some 0; additions = Some 0 }
+
 -- what is to come where names of root components and of additions are left, and so many presence bits
 abbrev pub due_of : List (List ℕ) → ℕ → List (List ℕ) → Due
 due_of root bits added = record { components = Some (length root); bits = Some bits; additions = Some (length added) }
@@ -92,10 +96,10 @@ is_full p = is_full_of p.kind p.is_empty
 -- whether what a place of a kind holds is whole
 abbrev pub is_complete_of : Kind → Bool → Due → Bool
 is_complete_of Kinds.One is_empty due = not is_empty
-is_complete_of Kinds.Items is_empty due = true
+is_complete_of Kinds.Items is_empty due = are_done due
 is_complete_of Kinds.Members is_empty due = are_done due
 
--- whether what a place holds is whole: one value, any items, or the members that were to come
+-- whether what a place holds is whole: one value, or the items or members that were to come
 abbrev pub is_complete : Place → Bool
 is_complete p = is_complete_of p.kind p.is_empty p.due
 
@@ -110,6 +114,14 @@ behind_all p ms = record p { is_empty = p.is_empty && is_none ms; text = p.text 
 -- a root component comes: its name isn't left any more
 abbrev pub past_root : Place → Place
 past_root p = record p { root = drop 1 p.root; due = record p.due { components = fewer p.due.components } }
+
+-- an item comes
+abbrev pub past_item : Place → Place
+past_item p = record p { due = record p.due { components = fewer p.due.components } }
+
+-- an item is to come
+abbrev pub awaiting_item : Place → Place
+awaiting_item p = record p { due = record p.due { components = Some 1 } }
 
 -- an addition comes: its name isn't left any more
 abbrev pub past_added : Place → Place
@@ -127,7 +139,7 @@ marked is_there p = if is_there then past_bit p else past_root (past_bit p)
 -- a value's text in a place of a kind: among members behind the next root component's name
 abbrev pub with_value : Kind → Place → List ℕ → Place
 with_value Kinds.One p text = behind p text
-with_value Kinds.Items p text = behind p text
+with_value Kinds.Items p text = behind (past_item p) text
 with_value Kinds.Members p text = behind (past_root p) (member_text (next_name p.root) text)
 
 -- the text of an addition's value, behind the next addition's name

@@ -8,8 +8,8 @@ use Rattle.rasn_schema.specs.Schemas.{count, Schema}
 use Rattle.rasn_traits.specs.Calls.{Behaves, EncoderRules, Writes}
 use Rattle.rasn_traits.specs.Lists.{ListForm}
 use Rattle.json.specs.Json.{Json, object, Items, Members}
-use Rattle.rasn_jer.specs.Places.{due_of, inside, is_complete, is_full, marked, named_place, past_added, Place, State}
-use Rattle.rasn_jer.specs.Places.{Takes, unfailed_at, with_addition, with_group}
+use Rattle.rasn_jer.specs.Places.{awaiting_item, due_of, inside, is_complete, is_full, items_due, marked, named_place}
+use Rattle.rasn_jer.specs.Places.{none_due, past_added, Place, State, Takes, unfailed_at, with_addition, with_group}
 use Rattle.rasn_jer.specs.Shown.{HasElement, HasNoJson, IsNull, Shows, ShowsAll, StandsIn}
 use Rattle.rasn_jer.specs.Texts.{enclosed, items_text, text_of}
 use Rattle.rasn_jer.specs.declared.error.EncodeError.{EncodeError}
@@ -102,9 +102,16 @@ pub record IsOpenList (f : ListForm) (x : State) (vs : List Value) (o : Place ×
   pub counted : o.1 ≡ length vs
   pub left : y.failed ≡ false
   pub items : y.place.kind ≡ Kinds.Items
+  pub due : y.place.due ≡ none_due
   pub whole : (js : Items) → ShowsAll f.element vs js → (all : Items) × ShowsAll f.element f.all all
       × (items_text true all ≡ y.place.text ++ items_text y.place.is_empty js)
   pub member : (v : Value) → HasElement v vs → HasElement v f.all
+
+-- in an open array so many items are to come before it is gone on in, and nothing else can come
+pub record AwaitsValues (n : ℕ) (y : State) : Type 0 where
+  pub unfailed : y.failed ≡ false
+  pub items : y.place.kind ≡ Kinds.Items
+  pub due : y.place.due ≡ items_due n
 
 -- why nothing is written at a place: a call was refused before, or no value is awaited
 abbrev pub IsRefused : EncodeError → State → Type 0
@@ -216,16 +223,21 @@ pub record ClosesPlace (kind : Kind) (opening closing : ℕ) (o : Place) (j : St
   pub lacks : is_complete j.place ≡ false → j.failed ≡ false → IsErrAnd result (λ e. e ≡ OutOfTurn)
   pub behaves : BehavesSo j result y
 
--- A call before an item of an array, of which so many are left: one less then, and where none is left it refuses.
+-- A call before an item of an array, of which so many are left: one less then, and an item is to come. Where none is
+-- left it refuses, and where the item before it didn't come, or more did.
 pub record CountsItem (n : ℕ) (x : State) (result : Result (Unit {0}) EncodeError) (m : ℕ) (y : State) : Type 0 where
-  pub ok : OnOk result ((x.failed ≡ false) × (n ≡ suc m) × (y ≡ x))
-  pub err : IfErr result (λ e. ((e ≡ AlreadyFailed) × (x.failed ≡ true)) ⊎ ((e ≡ OutOfTurn) × (n ≡ 0)))
+  pub ok : OnOk result ((x.failed ≡ false) × (n ≡ suc m) × (y ≡ record x { place = awaiting_item x.place }))
+  pub err : IfErr result (λ e. ((e ≡ AlreadyFailed) × (x.failed ≡ true))
+      ⊎ ((e ≡ OutOfTurn) × ((n ≡ 0) ⊎ (is_complete x.place ≡ false))))
+  pub lacks : is_complete x.place ≡ false → x.failed ≡ false → IsErrAnd result (λ e. e ≡ OutOfTurn)
   pub behaves : BehavesSo x result y
 
--- A call that closes an array, of which so many items are left: where one is it refuses.
+-- A call that closes an array, of which so many items are left: where one is it refuses, and where the last one didn't
+-- come, or more did.
 pub record ClosesItems (o : Place × ℕ) (j : State) (result : Result (Unit {0}) EncodeError) (y : State) : Type 0 where
   pub closed : o.1 ≡ 0 → Closed Kinds.Items 91 93 o.0 j result y
   pub early : 0 < o.1 → j.failed ≡ false → IsErrAnd result (λ e. e ≡ OutOfTurn)
+  pub lacks : is_complete j.place ≡ false → j.failed ≡ false → IsErrAnd result (λ e. e ≡ OutOfTurn)
   pub behaves : BehavesSo j result y
 
 -- a record is open, or why none is

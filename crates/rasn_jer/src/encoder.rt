@@ -79,7 +79,8 @@ impl<A: Allocator + Copy> Encoder<A> {
 }
 
 impl<A: Allocator + Copy> encoder::Encoder for Encoder<A> {
-    ghost use Rattle.rasn_jer.specs.Rules.{IsOpenList, Opens, OpensAddition, OpensContents, OpensRecord};
+    ghost use Rattle.rasn_jer.specs.Rules.{AwaitsValues, IsOpenList, Opens, OpensAddition, OpensContents};
+    ghost use Rattle.rasn_jer.specs.Rules.{OpensRecord};
     ghost use Rattle.rasn_jer.specs.Laws.Relations.{presents_well, sets_written};
     ghost use Rattle.rasn_jer.specs.declared.place.Kind.TheVariants as Kinds;
 
@@ -111,7 +112,13 @@ impl<A: Allocator + Copy> encoder::Encoder for Encoder<A> {
 
     ghost amid = { IsOpenList };
 
+    ghost amid_elements = { IsOpenList };
+
     ghost amid_bag = { IsOpenList };
+
+    ghost amid_members = { IsOpenList };
+
+    ghost awaits_values = { AwaitsValues };
 
     /// No variant of PER writes JSON: the UNALIGNED one stands for it.
     fn codec(&self) -> Codec {
@@ -458,6 +465,24 @@ impl<A: Allocator + Copy> encoder::Encoder for Encoder<A> {
         self.close_items(list)
     }
 
+    fn open_elements(
+        &mut self,
+        tag: Tag,
+        constraints: &Constraints,
+        count: usize,
+        identifier: Identifier,
+    ) -> Result<(Place<A>, usize), EncodeError> {
+        encoder::Encoder::open_list(self, tag, constraints, count, identifier)
+    }
+
+    fn next_element_in_turn(&mut self, list: &mut (Place<A>, usize)) -> Result<(), EncodeError> {
+        encoder::Encoder::next_element(self, list)
+    }
+
+    fn close_elements(&mut self, list: (Place<A>, usize)) -> Result<(), EncodeError> {
+        encoder::Encoder::close_list(self, list)
+    }
+
     fn open_set_of(
         &mut self,
         _tag: Tag,
@@ -476,6 +501,24 @@ impl<A: Allocator + Copy> encoder::Encoder for Encoder<A> {
 
     fn close_set_of(&mut self, bag: (Place<A>, usize)) -> Result<(), EncodeError> {
         self.close_items(bag)
+    }
+
+    fn open_members(
+        &mut self,
+        tag: Tag,
+        constraints: &Constraints,
+        count: usize,
+        identifier: Identifier,
+    ) -> Result<(Place<A>, usize), EncodeError> {
+        encoder::Encoder::open_set_of(self, tag, constraints, count, identifier)
+    }
+
+    fn next_member_in_turn(&mut self, bag: &mut (Place<A>, usize)) -> Result<(), EncodeError> {
+        encoder::Encoder::next_member(self, bag)
+    }
+
+    fn close_members(&mut self, bag: (Place<A>, usize)) -> Result<(), EncodeError> {
+        encoder::Encoder::close_set_of(self, bag)
     }
 
     fn fail(&mut self) {

@@ -140,23 +140,29 @@ impl<A: Allocator + Copy> Encoder<A> {
         }
     }
 
-    /// Counts the next item of an array, of which so many are left. Where none is left it refuses.
+    /// Goes on to the next item of an array, of which so many are left. Where none is left it refuses, and where the
+    /// item before it wasn't written, or more was.
     pub(crate) fn next_item(&mut self, left: &mut usize) -> Result<(), EncodeError>
         ensures { CountsItem left.old self.old result left.new self.new }
     {
         if self.failed {
             return Err(EncodeError::AlreadyFailed);
         }
+        if !self.place.is_complete() {
+            return Err(self.refuse_now(EncodeError::OutOfTurn));
+        }
         match left.checked_sub(1) {
             Some(others) => {
                 *left = others;
+                self.place.await_item();
                 Ok(())
             }
             None => Err(self.refuse_now(EncodeError::OutOfTurn)),
         }
     }
 
-    /// Closes an array of which no item is left. Where one is it refuses.
+    /// Closes an array of which no item is left. Where one is it refuses, and where the last one wasn't written, or
+    /// more was.
     pub(crate) fn close_items(&mut self, items: (Place<A>, usize)) -> Result<(), EncodeError>
         ensures { ClosesItems items self.old result self.new }
     {

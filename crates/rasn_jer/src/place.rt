@@ -3,7 +3,8 @@
 ghost use Rattle.std.specs.Prelude.{◌≡◌, ◌≢◌, [], drop, length, true, false, IfOk, OnOk};
 ghost use Rattle.json.specs.Json.{Members as JsonMembers};
 ghost use Rattle.rasn_jer.specs.Names.{names_of, next_name};
-ghost use Rattle.rasn_jer.specs.Places.{Takes, are_done, behind, due_of, fewer, is_complete, is_done, is_full};
+ghost use Rattle.rasn_jer.specs.Places.{Takes, are_done, awaiting_item, behind, due_of, fewer, is_complete, is_done};
+ghost use Rattle.rasn_jer.specs.Places.{is_full};
 ghost use Rattle.rasn_jer.specs.Places.{named_place, none_due, past_added, past_bit, past_root, vacant_place};
 ghost use Rattle.rasn_jer.specs.Places.{with_addition, with_group};
 ghost use Rattle.rasn_jer.specs.Texts.{members_text};
@@ -85,10 +86,10 @@ impl<A: Allocator> Names<A> {
     }
 }
 
-/// What is still to come in a record; none of what came too often.
+/// What is still to come in a record, or in an array before it is gone on in; none of what came too often.
 #[derive(Clone, Copy, Debug)]
 pub struct Due {
-    /// Components, of which each comes as a value or as a presence bit 0.
+    /// Components, of which each comes as a value or as a presence bit 0; or items.
     components: Option<usize>,
     /// Presence bits.
     bits: Option<usize>,
@@ -220,14 +221,13 @@ impl<A: Allocator + Copy> Place<A> {
         }
     }
 
-    /// Whether what the place holds is whole: one value, any items, or the members that were to come.
+    /// Whether what the place holds is whole: one value, or the items or members that were to come.
     pub fn is_complete(&self) -> bool
         ensures { result ≡ is_complete self.now }
     {
         match self.kind {
             Kind::One => !self.is_empty,
-            Kind::Items => true,
-            Kind::Members => self.due.are_done(),
+            Kind::Items | Kind::Members => self.due.are_done(),
         }
     }
 
@@ -251,7 +251,11 @@ impl<A: Allocator + Copy> Place<A> {
         ensures { OnOk result (Takes self.old text.now self.new) }
     {
         match self.kind {
-            Kind::One | Kind::Items => self.append(text),
+            Kind::One => self.append(text),
+            Kind::Items => {
+                self.due.components = fewer(self.due.components);
+                self.append(text)
+            }
             Kind::Members => {
                 let named = member(*self.text.allocator(), self.take_root(), text)?;
                 self.append(named.as_slice())
@@ -277,6 +281,13 @@ impl<A: Allocator + Copy> Place<A> {
             return Ok(());
         }
         self.append(members)
+    }
+
+    /// Awaits an item.
+    pub fn await_item(&mut self)
+        ensures { self.new ≡ awaiting_item self.old }
+    {
+        self.due.components = Some(1);
     }
 
     /// Leaves the next component of the root out.

@@ -55,8 +55,8 @@ abbrev pub Names : (Surplus → Type 0) → DecodeErrorKind → Type 0
 Names holds k = (why : Surplus) × (k ≡ kind_of why) × holds why
 
 -- What a kind says of the octets, or of their front, as a type's schema reads them within 128 levels. That octets end
--- early, or aren't as they have to be, is said of the end of an encoding, and else where that stands in them; that it
--- is so there is shown by tests.
+-- early, or aren't as they have to be, is said of the end of an encoding, and else of the field in them that ends
+-- early, of which so many bits are missing, or that isn't as it has to be.
 abbrev pub IsInFront : Settings → (ℕ → Schema) → List ℕ → DecodeErrorKind → Type 0
 IsInFront a schema octets (Incomplete missing) = Names (IsWithoutRemainder a schema octets) (Incomplete missing)
     ⊎ IsInBits a (Incomplete missing) (schema 128) (unpack octets)

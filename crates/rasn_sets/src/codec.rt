@@ -28,12 +28,12 @@ pub trait SetOfEncoder: Encoder {
             (suc (deepest T.levels values.now)) (bag_of (map T.value values.now)) self.old result self.new }
     {
         let members = values.as_slice();
-        let mut bag = self.open_set_of(tag, constraints, members.len(), identifier)?;
+        let mut bag = self.open_members(tag, constraints, members.len(), identifier)?;
         for member in members {
-            self.next_member(&mut bag)?;
+            self.next_member_in_turn(&mut bag)?;
             member.encode(self)?;
         }
-        self.close_set_of(bag)
+        self.close_members(bag)
     }
 }
 

@@ -18,6 +18,10 @@ no_amount = record { components = 0; bits = 0; additions = 0 }
 abbrev pub one_value : Amount
 one_value = record { components = 1; bits = 0; additions = 0 }
 
+-- so many values, and nothing else
+abbrev pub only_values : ℕ → Amount
+only_values n = record { components = n; bits = 0; additions = 0 }
+
 -- what the scope of a record takes: each of its components, a presence bit of each that may be absent (X.691 19.2), and
 -- each of its additions (X.691 19.7)
 abbrev pub amount_of : Parts → Parts → Amount

@@ -11,6 +11,7 @@ pub mod Contents
 pub mod Counted
 pub mod Errors
 pub mod Lists
+pub mod ListsInTurn
 pub mod Moments
 pub mod Scopes
 pub mod Sets

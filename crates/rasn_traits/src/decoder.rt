@@ -23,6 +23,8 @@ ghost use Rattle.rasn_traits.specs.Contents.{ContentsWell, OpensContentsToRead};
 ghost use Rattle.rasn_traits.specs.Errors.{ErrorsWell};
 ghost use Rattle.rasn_traits.specs.Reals.{ReadsNoReal};
 ghost use Rattle.rasn_traits.specs.Lists.{AmidRead, ListsWell, OpensListToRead, ReadsNext};
+ghost use Rattle.rasn_traits.specs.ListsInTurn.{AwaitsValues, IsBeforeElementRead, OpensListToReadInTurn};
+ghost use Rattle.rasn_traits.specs.ListsInTurn.{ReadsNextInTurn};
 ghost use Rattle.rasn_traits.specs.Moments.{date_at, identifier_value};
 ghost use Rattle.rasn_traits.specs.Scopes.{ClosesOneRead, ClosesRead, IsReadInTurn, OpensInTurn, OpensToRead};
 ghost use Rattle.rasn_traits.specs.Scopes.{ReadsAround, ScopesWell};
@@ -90,8 +92,14 @@ pub trait Decoder: Sized {
     // A list is open: its elements' schema and its size, what was before it, its elements read, what is left, and now.
     ghost amid: { AmidRead Self Self.List };
 
+    // The same, where what comes in the list isn't counted.
+    ghost amid_elements: { AmidRead Self Self.List };
+
     // How many elements of an open list can follow at most.
     ghost most: { Self.List → ℕ };
+
+    // In an open list that counts what comes: so many values are to come before the next call of it.
+    ghost awaits_values: { AwaitsValues Self };
 
     // The fault that an error names stands at the end of a scope.
     ghost unended: { Self.Scope → Self.Error → Self → Type 0 };
@@ -321,13 +329,29 @@ pub trait Decoder: Sized {
     /// Opens a SEQUENCE OF under constraints (X.691 20), which takes a level: its elements follow, each behind a call
     /// of `next_element` that answers true. At no level left it refuses.
     fn open_list(&mut self, tag: Tag, constraints: &Constraints) -> Result<Self::List, Self::Error>
-        ensures { OpensListToRead rules amid (size_of constraints.now) (is_size_marked constraints.now)
-            self.old result self.new };
+        ensures { OpensListToReadInTurn rules awaits_values amid (size_of constraints.now)
+            (is_size_marked constraints.now) self.old result self.new };
 
     /// Goes on in an open list: answers whether an element follows. Where none does, the list has ended: its size
     /// allows the count of its elements, and its level is given back. A count that the size doesn't allow is refused.
+    /// Where the element before wasn't read, or anything else was, it refuses.
     fn next_element(&mut self, list: &mut Self::List) -> Result<bool, Self::Error>
-        ensures { ReadsNext rules amid most list.old self.old result list.new self.new };
+        ensures { ReadsNextInTurn rules awaits_values amid most list.old self.old result list.new self.new };
+
+    /// Opens a SEQUENCE OF as `open_list` does, but for `next_element_in_turn` alone: what is read in it isn't counted.
+    fn open_elements(
+        &mut self,
+        tag: Tag,
+        constraints: &Constraints,
+    ) -> Result<Self::List, Self::Error>
+        ensures { OpensListToRead rules amid_elements (size_of constraints.now) (is_size_marked constraints.now)
+            self.old result self.new };
+
+    /// Goes on in a list that `open_elements` opened, as `next_element` does. The caller shows that each element before
+    /// was read, so that nothing need be counted.
+    fn next_element_in_turn(&mut self, list: &mut Self::List) -> Result<bool, Self::Error>
+        requires in_turn { IsBeforeElementRead amid_elements list.old self.old }
+        ensures { ReadsNext rules amid_elements most list.old self.old result list.new self.new };
 
     /// Refuses from now on.
     fn fail(&mut self)
@@ -488,6 +512,9 @@ pub trait Decoder: Sized {
 
     // What holds of each decoder's lists.
     ghost lists: { ListsWell rules amid };
+
+    // What holds of each decoder's lists in which nothing is counted.
+    ghost elements: { ListsWell rules amid_elements };
 
     // What holds of each decoder's SETs.
     ghost sets: { SetsWell rules };

@@ -21,6 +21,9 @@ ghost use Rattle.rasn_schema.specs.Fields.{tag_of};
 ghost use Rattle.rasn_traits.specs.Choices.{ClosesChoice, OpensChoice, WritesChoice};
 ghost use Rattle.rasn_traits.specs.Contents.{ClosesContents, OpensContents};
 ghost use Rattle.rasn_traits.specs.Lists.{Amid, OpensList, WritesNext, ClosesList};
+ghost use Rattle.rasn_traits.specs.ListsInTurn.{AwaitsValues, ClosesBagInTurn, ClosesListInTurn, IsBeforeElement};
+ghost use Rattle.rasn_traits.specs.ListsInTurn.{IsBehindElements, OpensBagInTurn, OpensListInTurn};
+ghost use Rattle.rasn_traits.specs.ListsInTurn.{WritesMemberInTurn, WritesNextInTurn};
 ghost use Rattle.rasn_traits.specs.Moments.{identifier_value};
 ghost use Rattle.rasn_traits.specs.Reals.{WritesNoReal};
 ghost use Rattle.rasn_traits.specs.Scopes.{OpensToWrite, ClosesInTurn, ClosesWritten, IsInTurn, WritesAround};
@@ -85,8 +88,17 @@ pub trait Encoder: Sized {
     // A list is open: which one, what was before it, its elements still to be written, what is left of it, and now.
     ghost amid: { Amid Self Self.List };
 
+    // The same, where what comes in the list isn't counted.
+    ghost amid_elements: { Amid Self Self.List };
+
     // A SET OF is open: which one, what was before it, its members still to be written, what is kept of it, and now.
     ghost amid_bag: { Amid Self Self.Bag };
+
+    // The same, where what comes in the SET OF isn't counted.
+    ghost amid_members: { Amid Self Self.Bag };
+
+    // In an open list or SET OF, which counts what comes: so many values are to come before the next call of it.
+    ghost awaits_values: { AwaitsValues Self };
 
     /// The variant in use.
     fn codec(&self) -> Codec
@@ -398,16 +410,42 @@ pub trait Encoder: Sized {
         count: usize,
         identifier: Identifier,
     ) -> Result<Self::List, Self::Error>
-        ensures { OpensList rules amid (size_of constraints.now) (is_size_marked constraints.now) count
+        ensures { OpensListInTurn rules awaits_values amid (size_of constraints.now) (is_size_marked constraints.now)
+            count self.old result self.new };
+
+    /// Goes on to the next element of an open list: where a fragment begins, its length is written. Where the element
+    /// before it wasn't written, or anything else was, or none is left, it refuses.
+    fn next_element(&mut self, list: &mut Self::List) -> Result<(), Self::Error>
+        ensures { WritesNextInTurn rules awaits_values amid list.old self.old result list.new self.new };
+
+    /// Closes a list in which its elements were written: where a last length is due, it is written. Where one wasn't
+    /// written, or anything else was, it refuses.
+    fn close_list(&mut self, list: Self::List) -> Result<(), Self::Error>
+        ensures { ClosesListInTurn rules awaits_values amid list self.old result self.new };
+
+    /// Opens a SEQUENCE OF as `open_list` does, but for `next_element_in_turn` and `close_elements` alone: what is
+    /// written in it isn't counted.
+    fn open_elements(
+        &mut self,
+        tag: Tag,
+        constraints: &Constraints,
+        count: usize,
+        identifier: Identifier,
+    ) -> Result<Self::List, Self::Error>
+        ensures { OpensList rules amid_elements (size_of constraints.now) (is_size_marked constraints.now) count
             self.old result self.new };
 
-    /// Goes on to the next element of an open list: where a fragment begins, its length is written.
-    fn next_element(&mut self, list: &mut Self::List) -> Result<(), Self::Error>
-        ensures { WritesNext rules amid list.old self.old result list.new self.new };
+    /// Goes on to the next element of a list that `open_elements` opened, as `next_element` does. The caller shows that
+    /// each element before it was written, and that it is one of the list, so that nothing need be counted.
+    fn next_element_in_turn(&mut self, list: &mut Self::List) -> Result<(), Self::Error>
+        requires in_turn { IsBeforeElement amid_elements list.old self.old }
+        ensures { WritesNext rules amid_elements list.old self.old result list.new self.new };
 
-    /// Closes a list of which all elements were written: where a last length is due, it is written.
-    fn close_list(&mut self, list: Self::List) -> Result<(), Self::Error>
-        ensures { ClosesList rules amid list self.old result self.new };
+    /// Closes a list that `open_elements` opened, as `close_list` does. The caller shows that its elements were
+    /// written.
+    fn close_elements(&mut self, list: Self::List) -> Result<(), Self::Error>
+        requires in_turn { IsBehindElements amid_elements list self.old }
+        ensures { ClosesList rules amid_elements list self.old result self.new };
 
     /// Opens a SET OF under constraints (X.691 22): so many members follow, each behind a call of `next_member`, up to
     /// `close_set_of`, in whatever order. A count outside a size that isn't extensible is refused.
@@ -418,16 +456,42 @@ pub trait Encoder: Sized {
         count: usize,
         identifier: Identifier,
     ) -> Result<Self::Bag, Self::Error>
-        ensures { OpensBag rules amid_bag (size_of constraints.now) (is_size_marked constraints.now) count
+        ensures { OpensBagInTurn rules awaits_values amid_bag (size_of constraints.now) (is_size_marked constraints.now)
+            count self.old result self.new };
+
+    /// Goes on to the next member of an open SET OF, which is written by itself. Where the member before it wasn't
+    /// written, or anything else was, or none is left, it refuses.
+    fn next_member(&mut self, bag: &mut Self::Bag) -> Result<(), Self::Error>
+        ensures { WritesMemberInTurn rules awaits_values amid_bag bag.old self.old result bag.new self.new };
+
+    /// Closes a SET OF in which its members were written: they stand in ascending order of their complete encodings.
+    /// Where one wasn't written, or anything else was, it refuses.
+    fn close_set_of(&mut self, bag: Self::Bag) -> Result<(), Self::Error>
+        ensures { ClosesBagInTurn rules awaits_values amid_bag bag self.old result self.new };
+
+    /// Opens a SET OF as `open_set_of` does, but for `next_member_in_turn` and `close_members` alone: what is written
+    /// in it isn't counted.
+    fn open_members(
+        &mut self,
+        tag: Tag,
+        constraints: &Constraints,
+        count: usize,
+        identifier: Identifier,
+    ) -> Result<Self::Bag, Self::Error>
+        ensures { OpensBag rules amid_members (size_of constraints.now) (is_size_marked constraints.now) count
             self.old result self.new };
 
-    /// Goes on to the next member of an open SET OF, which is written by itself.
-    fn next_member(&mut self, bag: &mut Self::Bag) -> Result<(), Self::Error>
-        ensures { WritesMember rules amid_bag bag.old self.old result bag.new self.new };
+    /// Goes on to the next member of a SET OF that `open_members` opened, as `next_member` does. The caller shows that
+    /// each member before it was written, and that it is one of the SET OF, so that nothing need be counted.
+    fn next_member_in_turn(&mut self, bag: &mut Self::Bag) -> Result<(), Self::Error>
+        requires in_turn { IsBeforeElement amid_members bag.old self.old }
+        ensures { WritesMember rules amid_members bag.old self.old result bag.new self.new };
 
-    /// Closes a SET OF of which all members were written: they stand in ascending order of their complete encodings.
-    fn close_set_of(&mut self, bag: Self::Bag) -> Result<(), Self::Error>
-        ensures { ClosesBag rules amid_bag bag self.old result self.new };
+    /// Closes a SET OF that `open_members` opened, as `close_set_of` does. The caller shows that its members were
+    /// written.
+    fn close_members(&mut self, bag: Self::Bag) -> Result<(), Self::Error>
+        requires in_turn { IsBehindElements amid_members bag self.old }
+        ensures { ClosesBag rules amid_members bag self.old result self.new };
 
     /// Refuses from now on.
     fn fail(&mut self)

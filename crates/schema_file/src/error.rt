@@ -124,7 +124,7 @@ pub enum Reason {
     /// Numbers aren't the arcs of an OBJECT IDENTIFIER.
     #[error("numbers are no OBJECT IDENTIFIER")]
     NotIdentifier,
-    /// What the codec has only on pages, or not at all: a default that holds values, a time, DATE, UniversalString.
+    /// What the codec has only on pages: UniversalString.
     #[error("this isn't data yet")]
     NotHeld,
     /// A value holds values more than 255 deep.

@@ -1,6 +1,7 @@
 //! Reads schema files, the text of types as data, into tables of types. `docs/SCHEMA-FILE.md` says what stands in one.
 #![tactic(auto)]
 
+mod arrange;
 pub mod error;
 pub mod judge;
 pub mod kinds;

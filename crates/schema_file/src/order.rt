@@ -1,5 +1,6 @@
 //! Tags of CHOICEs that have none of their own, and the order of a SET's components.
 
+use crate::arrange::arrange;
 use rasn_dynamic::types::{Alternative, Component, Kind, Simple};
 use rasn_types::types::Tag;
 use std::alloc::{AllocError, Global};
@@ -8,7 +9,8 @@ use std::alloc::{AllocError, Global};
 const MOST_CHOICES: usize = 255;
 
 /// Gives each component and alternative without a tag, which has that of no type, the smallest of the CHOICE that it
-/// is, and puts the root components of the SETs, which stand at some places, in the order of their tags (X.691 21.1).
+/// is, and puts the root components of the SETs, which stand at some ascending places, in the order of their tags
+/// (X.691 21.1), and those of defaults.
 /// Which type an open type in a SET is isn't known then, since its component was told by the other order. The only
 /// error is want of memory.
 pub fn order(alloc: Global, kinds: &mut [Kind], sets: &[usize]) -> Result<(), AllocError> {
@@ -16,6 +18,7 @@ pub fn order(alloc: Global, kinds: &mut [Kind], sets: &[usize]) -> Result<(), Al
     for kind in kinds.iter_mut() {
         tag_kind(kind, tags.as_slice());
     }
+    arrange(alloc, kinds, sets)?;
     for place in sets {
         forget_choosers(kinds, *place);
         if let Some(Kind::Record(record)) = kinds.get_mut(*place) {
@@ -35,7 +38,7 @@ fn forget_choosers(kinds: &mut [Kind], place: usize) {
 }
 
 /// How many components the record at a place has.
-fn part_count(kinds: &[Kind], place: usize) -> usize {
+pub fn part_count(kinds: &[Kind], place: usize) -> usize {
     match kinds.get(place) {
         Some(Kind::Record(record)) => record.root.len().saturating_add(record.behind().len()),
         _ => 0,
@@ -43,7 +46,7 @@ fn part_count(kinds: &[Kind], place: usize) -> usize {
 }
 
 /// The place of the type of a component of the record at a place, by its index in the root and then the additions.
-fn part_type(kinds: &[Kind], place: usize, index: usize) -> Option<usize> {
+pub fn part_type(kinds: &[Kind], place: usize, index: usize) -> Option<usize> {
     let Kind::Record(record) = kinds.get(place)? else {
         return None;
     };

@@ -1,7 +1,7 @@
 //! Components, alternatives and items in the words of a line.
 
 use crate::error::Reason;
-use crate::values::default_value;
+use crate::values::{MOST_LEVELS, default_tree};
 use crate::words::{Words, name_of};
 use rasn_dynamic::types::{Alternative, Choice, Component, Items, Presence, Record};
 use std::alloc::Global;
@@ -57,7 +57,7 @@ fn component(alloc: Global, name: &str, words: &mut Words<'_>) -> Result<Compone
     let presence = match presence {
         "r" => Presence::Required,
         "o" => Presence::Optional,
-        "d" => Presence::Default(default_value(alloc, words.word()?, words)?),
+        "d" => Presence::Default(default_tree(alloc, words.word()?, words, MOST_LEVELS)?),
         _ => return Err(Reason::UnknownWord),
     };
     Ok(Component {

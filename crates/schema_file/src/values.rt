@@ -1,8 +1,10 @@
 //! Values in the words of a line.
 
+ghost use Rattle.std.specs.Prelude.{◌≡◌, ◌+◌, IfOk};
+
 use crate::error::Reason;
 use crate::words::Words;
-use rasn_dynamic::types::DefaultValue;
+use rasn_dynamic::types::{DefaultTree, DefaultValue};
 use rasn_strings::strings::BmpString;
 use rasn_types::ber::{BerError, object_identifier_as_bytes};
 use rasn_types::types::{Any, Integer};
@@ -11,7 +13,82 @@ use std::alloc::Global;
 /// How deep a value holds values at most.
 pub const MOST_LEVELS: usize = 255;
 
-/// The default that words say, the first of which was read. One that holds values isn't data yet.
+/// The default that words say, the first of which was read, with at most so many levels of values in it. All components
+/// of a record are in its root until its type is known (`arrange`).
+#[cycle(reading)]
+pub fn default_tree(
+    alloc: Global,
+    head: &str,
+    words: &mut Words<'_>,
+    levels: usize,
+) -> Result<DefaultTree, Reason> {
+    match head {
+        "list" => default_list(alloc, words, levels),
+        "record" => {
+            let slots = default_slots(alloc, words, levels)?;
+            Ok(DefaultTree::Fields(slots, Vec::new(alloc)))
+        }
+        "chosen" => {
+            let place = words.place()?;
+            let below = level_below(levels)?;
+            let head = words.word()?;
+            let chosen = default_tree(alloc, head, words, below)?;
+            Ok(DefaultTree::Alternative(place, Box::new(alloc, chosen)?))
+        }
+        head => Ok(DefaultTree::Plain(default_value(alloc, head, words)?)),
+    }
+}
+
+/// The list that words say.
+#[cycle(reading)]
+fn default_list(
+    alloc: Global,
+    words: &mut Words<'_>,
+    levels: usize,
+) -> Result<DefaultTree, Reason> {
+    let count = words.count()?;
+    let mut values = Vec::new(alloc);
+    for _ in 0..count {
+        let below = level_below(levels)?;
+        let head = words.word()?;
+        values.push(default_tree(alloc, head, words, below)?)?;
+    }
+    if values.is_empty() {
+        return Ok(DefaultTree::Plain(DefaultValue::NoElements));
+    }
+    Ok(DefaultTree::Elements(values))
+}
+
+/// The components of the record that words say, each absent or there.
+#[cycle(reading)]
+fn default_slots(
+    alloc: Global,
+    words: &mut Words<'_>,
+    levels: usize,
+) -> Result<Vec<DefaultTree>, Reason> {
+    let count = words.count()?;
+    let mut slots = Vec::new(alloc);
+    for _ in 0..count {
+        let below = level_below(levels)?;
+        match words.word()? {
+            "absent" => slots.push(DefaultTree::Absent)?,
+            head => slots.push(default_tree(alloc, head, words, below)?)?,
+        }
+    }
+    Ok(slots)
+}
+
+/// How many levels are left below one.
+fn level_below(levels: usize) -> Result<usize, Reason>
+    ensures { IfOk result (λ below. below + 1 ≡ levels) }
+{
+    match levels.checked_sub(1) {
+        Some(below) => Ok(below),
+        None => Err(Reason::NestedTooDeep),
+    }
+}
+
+/// The value that words say which holds none, and the first of which was read.
 pub fn default_value(
     alloc: Global,
     head: &str,
@@ -27,8 +104,6 @@ pub fn default_value(
         "bits" => DefaultValue::Bits(words.bits(alloc)?),
         "characters" => DefaultValue::Characters(characters(alloc, words)?),
         "oid" => DefaultValue::Octets(identifier(alloc, words)?),
-        "list" if words.count()? == 0 => DefaultValue::NoElements,
-        "list" | "record" | "chosen" => return Err(Reason::NotHeld),
         _ => return Err(Reason::UnknownValue),
     };
     Ok(value)

@@ -10,4 +10,6 @@ mod tables;
 #[cfg(test)]
 mod times;
 #[cfg(test)]
+mod values;
+#[cfg(test)]
 mod versions;

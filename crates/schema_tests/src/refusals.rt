@@ -30,7 +30,7 @@ const TEXTS: [(&[u8], &str); 6] = [
 ];
 
 /// Numbers of lines of the example, what stands there in their place, and what is said.
-const LINES: [(usize, &str, &str); 46] = [
+const LINES: [(usize, &str, &str); 48] = [
     (
         1,
         "per_schema 1 1 7 2",
@@ -110,7 +110,13 @@ const LINES: [(usize, &str, &str); 46] = [
     (
         3,
         "sequence 1 - more c0 d 3 list 1 list 0",
-        "line 3: this isn't data yet",
+        "line 3: a default is no value of its type",
+    ),
+    (3, "sequence 1 - more c0 d 3 list 1", "line 3: a word lacks"),
+    (
+        3,
+        "sequence 1 - more c0 d 3 list 1 absent",
+        "line 3: there is no such value",
     ),
     (
         3,
@@ -212,6 +218,29 @@ fn lines(rt: HostRuntime) -> Result<(), Fail> {
             Err(error) => format!(in rt.alloc(); "{error}")?,
         };
         assert_eq!(rt; told.as_str(), said, "{line}");
+    }
+    Ok(())
+}
+
+/// Defaults that hold as many values as there are levels, which are no values of their type, and one more.
+#[test]
+fn levels_of_a_default(rt: HostRuntime) -> Result<(), Fail> {
+    let said = [
+        (255, "line 3: a default is no value of its type"),
+        (256, "line 3: a value is nested too deep"),
+    ];
+    for (levels, said) in said {
+        let mut line = format!(in rt.alloc(); "sequence 1 - more c0 d 3")?;
+        for _ in 0..levels {
+            line.push_str(" chosen root 0")?;
+        }
+        line.push_str(" null")?;
+        let text = with_line(rt.alloc(), 3, line.as_str())?;
+        let told = match load(rt.alloc(), text.as_bytes()) {
+            Ok(_) => format!(in rt.alloc(); "taken")?,
+            Err(error) => format!(in rt.alloc(); "{error}")?,
+        };
+        assert_eq!(rt; told.as_str(), said);
     }
     Ok(())
 }

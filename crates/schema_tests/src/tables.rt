@@ -1,8 +1,8 @@
 //! Tables of schema files.
 
-use crate::example::{EXAMPLE, with_line};
+use crate::example::{EXAMPLE, HOLDERS, with_line};
 use rasn_constraints::constraints::{Bounded, Extensible};
-use rasn_dynamic::types::{DefaultValue, Kind, Presence, Record, Simple, Types};
+use rasn_dynamic::types::{DefaultTree, DefaultValue, Kind, Presence, Record, Simple, Types};
 use rasn_schema::items::Place;
 use rasn_types::types::{Class, Integer, Tag};
 use schema_file::load::load;
@@ -34,7 +34,12 @@ fn example(rt: HostRuntime) -> Result<(), Fail> {
     let Some(more) = message.root.get(2) else {
         return Err(Fail::from("no list"));
     };
-    assert!(rt; matches!(more.presence, Presence::Default(DefaultValue::NoElements)));
+    assert!(rt;
+        matches!(
+            more.presence,
+            Presence::Default(DefaultTree::Plain(DefaultValue::NoElements))
+        )
+    );
     let Some(group) = additions.first() else {
         return Err(Fail::from("no addition"));
     };
@@ -131,7 +136,7 @@ fn defaults(rt: HostRuntime) -> Result<(), Fail> {
     let types = load(rt.alloc(), DEFAULTS.as_bytes())?;
     let record = record(&types)?;
     let told = |at: usize| match &record.root.get(at)?.presence {
-        Presence::Default(value) => Some(value),
+        Presence::Default(DefaultTree::Plain(value)) => Some(value),
         _ => None,
     };
     assert!(rt;
@@ -152,5 +157,85 @@ fn defaults(rt: HostRuntime) -> Result<(), Fail> {
         matches!(told(6), Some(DefaultValue::Bits(bits)) if bits.len() == 4 && bits.is_set(1))
     );
     assert!(rt; matches!(told(7), Some(DefaultValue::Bits(bits)) if bits.len() == 3));
+    Ok(())
+}
+
+/// The number that a default is, where it is one.
+fn number(told: Option<&DefaultTree>) -> Option<&Integer> {
+    match told {
+        Some(DefaultTree::Plain(DefaultValue::Integer(number))) => Some(number),
+        _ => None,
+    }
+}
+
+/// What a default says of a SET is in the order of its tags, and of a SEQUENCE its additions are apart.
+#[test]
+fn defaults_that_hold_values(rt: HostRuntime) -> Result<(), Fail> {
+    let types = load(rt.alloc(), HOLDERS.as_bytes())?;
+    let record = record(&types)?;
+    let told = |at: usize| match &record.root.get(at)?.presence {
+        Presence::Default(value) => Some(value),
+        _ => None,
+    };
+    let Some(DefaultTree::Elements(elements)) = told(0) else {
+        return Err(Fail::from("no list"));
+    };
+    assert!(rt; number(elements.get(1)) == Some(&Integer::from(2)));
+    let Some(DefaultTree::Fields(root, _)) = told(1) else {
+        return Err(Fail::from("no SET"));
+    };
+    assert!(rt;
+        matches!(
+            root.first(),
+            Some(DefaultTree::Plain(DefaultValue::Boolean(true)))
+        )
+    );
+    assert!(rt; number(root.get(1)) == Some(&Integer::from(5)));
+    let Some(DefaultTree::Fields(root, additions)) = told(2) else {
+        return Err(Fail::from("no SEQUENCE"));
+    };
+    assert_eq!(rt; (root.len(), additions.len()), (1, 2));
+    assert!(rt; matches!(additions.first(), Some(DefaultTree::Absent)));
+    assert!(rt; number(additions.get(1)) == Some(&Integer::from(7)));
+    let Some(DefaultTree::Alternative(place, chosen)) = told(3) else {
+        return Err(Fail::from("no alternative"));
+    };
+    let chosen: &DefaultTree = chosen;
+    assert!(rt; *place == Place::Added(0) && matches!(chosen, DefaultTree::Elements(_)));
+    let Some(default) = told(2) else {
+        return Err(Fail::from("no default"));
+    };
+    let value = default.value(rt.alloc())?;
+    assert!(rt; value.is_default_tree_at(&types.kinds, 3, default));
+    Ok(())
+}
+
+/// Defaults that are no values of their types, in place of those that are.
+const OTHERS: [(&str, &str); 6] = [
+    ("list 2 int 1 int 2", "list 2 int 1 true"),
+    ("record 2 int 5 true", "record 2 true int 5"),
+    ("record 2 int 5 true", "record 1 int 5"),
+    ("record 3 true absent int 7", "record 3 absent absent int 7"),
+    (
+        "record 3 true absent int 7",
+        "record 4 true absent int 7 absent",
+    ),
+    ("chosen added 0 list 1 int 0", "chosen root 0 list 1 int 0"),
+];
+
+#[test]
+fn values_of_other_types(rt: HostRuntime) -> Result<(), Fail> {
+    for (old, new) in OTHERS {
+        let text = String::from_str(rt.alloc(), HOLDERS)?.replace(rt.alloc(), old, new)?;
+        let told = match load(rt.alloc(), text.as_bytes()) {
+            Ok(_) => format!(in rt.alloc(); "taken")?,
+            Err(error) => format!(in rt.alloc(); "{error}")?,
+        };
+        assert_eq!(rt;
+            told.as_str(),
+            "line 3: a default is no value of its type",
+            "{new}"
+        );
+    }
     Ok(())
 }

@@ -2,7 +2,7 @@
 
 use crate::example::with_line;
 use jiff::civil::DateTime;
-use rasn_dynamic::types::{DefaultValue, Kind, Presence, Simple};
+use rasn_dynamic::types::{DefaultTree, DefaultValue, Kind, Presence, Simple};
 use rasn_dynamic::values::Value;
 use schema_file::load::load;
 use std::test::Fail;
@@ -68,7 +68,7 @@ fn default_of_a_time(rt: HostRuntime) -> Result<(), Fail> {
     let Some(component) = record.root.first() else {
         return Err(Fail::from("no component"));
     };
-    let Presence::Default(default) = &component.presence else {
+    let Presence::Default(DefaultTree::Plain(default)) = &component.presence else {
         return Err(Fail::from("no default"));
     };
     assert!(rt; matches!(default, DefaultValue::Characters(_)));

@@ -1,6 +1,6 @@
 //! Which types of schema files are newer versions of which.
 
-use crate::example::{EXAMPLE, with_line};
+use crate::example::{EXAMPLE, HOLDERS, with_line};
 use lawful_types::newer::is_newer;
 use lawful_types::not_newer::{NotNewer, Reason};
 use schema_file::load::load;
@@ -40,6 +40,23 @@ fn more_items(rt: HostRuntime) -> Result<(), Fail> {
         reason: Reason::Items,
     };
     assert_eq!(rt; is_newer(&older, 0, &newer, 0, rt.alloc()), Err(items));
+    Ok(())
+}
+
+/// Defaults that hold values have to be the same in both versions.
+#[test]
+fn defaults_that_hold_values(rt: HostRuntime) -> Result<(), Fail> {
+    let older = load(rt.alloc(), HOLDERS.as_bytes())?;
+    assert_eq!(rt; is_newer(&older, 0, &older, 0, rt.alloc()), Ok(()));
+    let text = String::from_str(rt.alloc(), HOLDERS)?;
+    let text = text.replace(rt.alloc(), "list 2 int 1 int 2", "list 2 int 1 int 3")?;
+    let other = load(rt.alloc(), text.as_bytes())?;
+    let default = NotNewer {
+        newer: 0,
+        older: 0,
+        reason: Reason::Default,
+    };
+    assert_eq!(rt; is_newer(&other, 0, &older, 0, rt.alloc()), Err(default));
     Ok(())
 }
 

@@ -1,4 +1,4 @@
-/* What both C programs share: `PROGRAM (aper|uper) OPERATION KIND COUNT` reads a line of hexadecimal, does the operation
+/* What the C programs share: `PROGRAM (aper|uper) OPERATION KIND COUNT` reads a line of hexadecimal, does the operation
    COUNT times and prints a checksum, or with the operation `check` the canonical octets in hexadecimal. */
 #ifndef BENCH_H
 #define BENCH_H

@@ -1,8 +1,8 @@
-/* The C that asn1c generates, in UPER: `enc` into a buffer of the caller's, `new` into a new one, `dec` into a new value. */
-#include "bench.h"
+/* The C that asn1c generates, over one of libraries.h: `enc` into a buffer of the caller's, `new` into a new one, `dec` into a
+   new value. */
+#include "libraries.h"
 #include <Alt.h>
 #include <Behind.h>
-#include <CAM.h>
 #include <Four.h>
 #include <Fours.h>
 #include <Octets.h>
@@ -55,12 +55,6 @@ static uint64_t of_alt(const void *value)
     return alt->present == Alt_PR_inner ? of_octets(&alt->choice.inner.octets) : 0;
 }
 
-static uint64_t of_cam(const void *value)
-{
-    const CAM_t *cam = value;
-    return (uint64_t)cam->header.stationID & 255;
-}
-
 static const struct kind {
     const char *name;
     asn_TYPE_descriptor_t *type;
@@ -78,7 +72,7 @@ static const struct kind {
     {"list", &asn_DEF_Fours, of_fours},
     {"group", &asn_DEF_Outer, of_outer},
     {"choice", &asn_DEF_Alt, of_alt},
-    {"cam", &asn_DEF_CAM, of_cam},
+    MESSAGE,
 };
 
 static const struct kind *kind_named(const char *name)
@@ -91,7 +85,7 @@ static const struct kind *kind_named(const char *name)
 static void *decoded(const struct kind *kind, const uint8_t *octets, size_t length)
 {
     void *value = NULL;
-    asn_dec_rval_t answer = uper_decode_complete(NULL, kind->type, &value, opaque((void *)octets), length);
+    asn_dec_rval_t answer = decode_complete(NULL, kind->type, &value, opaque((void *)octets), length);
     if (answer.code != RC_OK) {
         fprintf(stderr, "asn1c refuses the octets\n");
         exit(1);
@@ -101,7 +95,7 @@ static void *decoded(const struct kind *kind, const uint8_t *octets, size_t leng
 
 static size_t encoded(const struct kind *kind, void *value, uint8_t *octets, size_t room)
 {
-    asn_enc_rval_t answer = uper_encode_to_buffer(kind->type, opaque(value), octets, room);
+    asn_enc_rval_t answer = encode_to_buffer(kind->type, opaque(value), octets, room);
     if (answer.encoded < 0) {
         fprintf(stderr, "asn1c refuses the value\n");
         exit(1);
@@ -112,10 +106,10 @@ static size_t encoded(const struct kind *kind, void *value, uint8_t *octets, siz
 static uint64_t encoded_anew(const struct kind *kind, void *value)
 {
     void *octets;
-    ssize_t length = uper_encode_to_new_buffer(kind->type, NULL, opaque(value), &octets);
+    ssize_t length = encode_to_new_buffer(kind->type, NULL, opaque(value), &octets);
     if (length < 0) exit(1);
     uint64_t sum = digest(octets, (size_t)length);
-    free(octets);
+    give_back(octets);
     return sum;
 }
 
@@ -130,7 +124,8 @@ static uint64_t decoded_anew(const struct kind *kind, const uint8_t *octets, siz
 int main(int count, char **words)
 {
     if (count != 5) return 2;
-    if (strcmp(words[1], "uper")) return UNKNOWN;
+    if (strcmp(words[1], VARIANT)) return UNKNOWN;
+    prepare();
     const char *operation = words[2];
     const struct kind *kind = kind_named(words[3]);
     uint64_t times = strtoull(words[4], NULL, 10), sum = 0;

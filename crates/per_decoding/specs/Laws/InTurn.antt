@@ -11,7 +11,7 @@ use Rattle.rasn_traits.specs.Additions.{extended}
 use Rattle.rasn_traits.specs.AdditionsRead.{AdditionsWell, FaultyAddition, FaultyAdditions, ReadsAddition}
 use Rattle.rasn_traits.specs.AdditionsRead.{ReadsAdditions, faulty_added, faulty_addition, faulty_further}
 use Rattle.rasn_traits.specs.AdditionsRead.{faulty_lacking, reads_added, reads_further, reads_lacking, reads_no_more}
-use Rattle.rasn_traits.specs.Amounts.{Amount, one_value}
+use Rattle.rasn_traits.specs.Amounts.{Amount, one_value, only_values}
 use Rattle.rasn_traits.specs.BagsRead.{BagsWell}
 use Rattle.rasn_traits.specs.Calls.{DecodesWell}
 use Rattle.rasn_traits.specs.Choices.{ChoicesWell}
@@ -42,11 +42,11 @@ use Rattle.per_decoding.specs.Laws.Errors as Plain_errors
 use Rattle.per_decoding.specs.Laws.Relations as Plain
 use Rattle.per_decoding.specs.Laws.Scopes as Plain_scopes
 use Rattle.per_decoding.specs.Laws.Sets as Plain_sets
-use Rattle.per_decoding.specs.Rules.{Amidst, Awaits, decoder_rules, plain_rules}
+use Rattle.per_decoding.specs.Rules.{Amidst, Awaits, AwaitsValues, decoder_rules, plain_rules}
 use Rattle.per_decoding.specs.Scopes.{Closes, Opens, OutsideRecord}
 use Rattle.per_decoding.specs.State.{Marks, Source, Spells, State, noting, noting_bit, with_bits, with_turn}
-use Rattle.per_decoding.specs.Turns.{CountsAs, Turn, awaiting, is_complete, misplaced, next, past, uncounted}
-use Rattle.per_decoding.specs.Turns.{within_list}
+use Rattle.per_decoding.specs.Turns.{CountsAs, Turn, awaiting, in_list, is_between, is_complete, is_counted}
+use Rattle.per_decoding.specs.Turns.{misplaced, next, past, uncounted, within_list}
 
 -- what is still to come, told anew
 pub turned : {x : Turn} (t : State) → t.turn ≡ x → with_turn x t ≡ t
@@ -290,6 +290,7 @@ all_past (suc n) = all_past n
 came_all : (n : ℕ) (x : Turn) → CountsAs n x → is_complete (past n x) ≡ true
 came_all n uncounted h = ap is_complete (uncounted_past n)
 came_all n (awaiting m) h = subst (λ k. is_complete (past n (awaiting k)) ≡ true) (sym h) (all_past n)
+came_all n (in_list m) h = absurd h
 came_all n misplaced h = absurd h
 
 pub record_complete : {ps qs : Parts} {i : State} {rs xs : List (Option Value)} {j : State} → CountsAs (count ps) i.turn
@@ -384,36 +385,55 @@ cant_end_one came i j w c other h =
     (omega (arith, r.bits, w.bits)) (omega (arith, r.additions, w.additions)))
 
 -- nothing came that would have begun in a failed decoder
+left_live : {a : Amount} {i j : State} → CameRead decoder_rules a i j → i.failed ≡ false → j.failed ≡ false
+left_live read_nothing l = l
+left_live (read_value h k) l = left_live k (ap (λ z. z.failed) h.same ∙ h.live)
+left_live (read_bit {b = true} h k) l = left_live k (ap (λ z. z.failed) h.same ∙ h.live)
+left_live (read_bit {b = false} h k) l = left_live k (ap (λ z. z.failed) h.same ∙ h.live)
+left_live {i = i} (read_addition {c = c} {r = q} {m = m} h k) l =
+    let n = Plain.adds_keeps c i q m h in left_live k (n.failed ∙ n.live)
+
 pub awaits_live : (due came : Amount) (i j : State) → Awaits due i → CameRead decoder_rules came i j → j.failed ≡ false
 awaits_live due came i j w c = left_live c w.live
-  where
-    left_live : {a : Amount} {i j : State} → CameRead decoder_rules a i j → i.failed ≡ false → j.failed ≡ false
-    left_live read_nothing l = l
-    left_live (read_value h k) l = left_live k (ap (λ z. z.failed) h.same ∙ h.live)
-    left_live (read_bit {b = true} h k) l = left_live k (ap (λ z. z.failed) h.same ∙ h.live)
-    left_live (read_bit {b = false} h k) l = left_live k (ap (λ z. z.failed) h.same ∙ h.live)
-    left_live {i = i} (read_addition {c = c} {r = q} {m = m} h k) l =
-        let n = Plain.adds_keeps c i q m h in left_live k (n.failed ∙ n.live)
+
+-- in a list no more values came than were awaited, nor fewer
+in_list_as_many : (n m : ℕ) → is_between (past n (in_list m)) ≡ true → n ≡ m
+in_list_as_many zero zero h = refl
+in_list_as_many zero (suc m) h = absurd cc
+in_list_as_many (suc n) zero h = let e : false ≡ true = ap is_between (sym (misplaced_past n)) ∙ h in absurd cc
+in_list_as_many (suc n) (suc m) h = ap suc (in_list_as_many n m h)
+
+-- where anything else came, the list isn't gone on in
+pub cant_go_on : (n : ℕ) (came : Amount) (i j : State) → AwaitsValues n i → CameRead decoder_rules came i j
+    → (came ≡ only_values n → ⊥) → is_between j.turn ≡ true → ⊥
+cant_go_on n came i j w c other h =
+    let r = since c in
+    other (same_amount came (only_values n)
+    (in_list_as_many came.components n (subst (λ z. is_between (past came.components z) ≡ true) w.turn
+    (subst (λ z. is_between z ≡ true) r.turn h)))
+    (omega (arith, r.bits, ap length w.presences)) (omega (arith, r.additions, w.expected)))
+
+pub awaits_values_live : (n : ℕ) (came : Amount) (i j : State) → AwaitsValues n i → CameRead decoder_rules came i j
+    → j.failed ≡ false
+awaits_values_live n came i j w c = left_live c w.live
 
 -- within a list no scope around it can end that counts what comes
-abbrev is_counted : Turn → Bool
-is_counted uncounted = false
-is_counted (awaiting n) = true
-is_counted misplaced = true
-
 counted_next : (x : Turn) → is_counted x ≡ true → is_counted (next x) ≡ true
 counted_next uncounted h = h
 counted_next (awaiting zero) h = refl
 counted_next (awaiting (suc n)) h = refl
+counted_next (in_list zero) h = refl
+counted_next (in_list (suc n)) h = refl
 counted_next misplaced h = refl
 
 counted_past : (n : ℕ) (x : Turn) → is_counted x ≡ true → is_counted (past n x) ≡ true
 counted_past zero x h = h
 counted_past (suc n) x h = counted_past n (next x) (counted_next x h)
 
-not_within : (x : Turn) → is_counted x ≡ true → is_complete (within_list x) ≡ false
+pub not_within : (x : Turn) → is_counted x ≡ true → is_complete (within_list x) ≡ false
 not_within uncounted h = absurd (let e : false ≡ true = h in cc)
 not_within (awaiting n) h = refl
+not_within (in_list n) h = refl
 not_within misplaced h = refl
 
 pub cant_end_within : (due came : Amount) (i s j : State) → Awaits due i → CameRead decoder_rules came i s → Amidst s j
@@ -421,7 +441,7 @@ pub cant_end_within : (due came : Amount) (i s j : State) → Awaits due i → C
 cant_end_within due came i s j w c a =
     let counts : is_counted i.turn ≡ true = ap is_counted w.components in
     let at : is_counted s.turn ≡ true = ap is_counted ((since c).turn) ∙ counted_past came.components i.turn counts in
-    ap is_complete a.within ∙ not_within (next s.turn) (counted_next s.turn at)
+    a.within (counted_next s.turn at)
 
 -- both complete and not
 pub contradicts : {A : Type 0} {b : Bool} → b ≡ false → b ≡ true → A

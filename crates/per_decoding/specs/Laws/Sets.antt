@@ -1,11 +1,12 @@
 -- The law of a decoder's SETs: a SET is read as the SEQUENCE of its components in ascending order of their tags is
 -- (X.691 21.1).
-use Rattle.std.proofs.Common.{subst, ℕ, Bool, true}
+use Rattle.std.proofs.Common.{subst, sym, ℕ, Bool, true, inl, inr}
 use Rattle.rasn_types.specs.Bits.{Bits}
 use Rattle.rasn_types.specs.Values.{Value}
 use Rattle.rasn_schema.specs.Canonised.{canonised, canonised_slots}
 use Rattle.rasn_schema.specs.Records.{record_value}
 use Rattle.rasn_schema.specs.Schemas.{Schema, Parts, by_tag}
+use Rattle.rasn_schema.proofs.Canonised.{bits_ordered}
 use Rattle.rasn_traits.specs.Additions.{extended}
 use Rattle.rasn_traits.specs.Sets.{SetsWell}
 use Rattle.per_core.specs.Basic.{basic}
@@ -15,7 +16,8 @@ use Rattle.per_core.proofs.Took.{took_map}
 use Rattle.per_core.proofs.SetReadings.{in_order, out_of_order, read_as_listed}
 use Rattle.per_read.specs.declared.error.DecodeErrorKind.{DecodeErrorKind}
 use Rattle.per_read.specs.declared.error.DecodeErrorKind.TheVariants.{AlreadyFailed}
-use Rattle.per_decoding.specs.Faults.{IsInBits, IsOf, at_once, in_set}
+use Rattle.per_read.specs.Fields.{IsOfField}
+use Rattle.per_decoding.specs.Faults.{IsInBits, IsOf, IsOfHead, at_once, in_set}
 use Rattle.per_decoding.specs.Rules.{plain_rules}
 use Rattle.per_decoding.specs.Laws.Spelled.{spelled}
 use Rattle.per_decoding.specs.State.{State}
@@ -38,11 +40,18 @@ in_turn_took a ps marker qs v {s} b =
     let q = in_turn_spelled a ps marker qs v (place s) b.front b.spelled in
     (q.0, record { front = b.front; joins = b.joins; spelled = q.1 })
 
+-- of their extension bit and presence bits the same is said, since they have as many
+head_in_turn : (a : Settings) (ps : Parts) (marker : Bool) (s : Bits) (k : DecodeErrorKind)
+    → IsOfHead a ps marker s k → IsOfHead a (canonised ps) marker s k
+head_in_turn a ps marker s k (inl h) = inl h
+head_in_turn a ps marker s k (inr (b, (m, took, h))) =
+    inr (b, (m, took, subst (λ (n : ℕ). IsOfField n m k) (sym (bits_ordered ps)) h))
+
 -- a fault of the SET is one of that SEQUENCE
 pub fault_in_turn : {a : Settings} {k : DecodeErrorKind} {ps qs : Parts} {marker : Bool} {s : Bits}
     → IsInBits a k (Schema.sequence by_tag ps marker qs) s
     → IsInBits a k (extended (canonised ps) marker qs) s
-fault_in_turn (at_once h) = at_once h
+fault_in_turn {a} {k} {ps} {marker = marker} {s} (at_once h) = at_once (head_in_turn a ps marker s k h)
 fault_in_turn (in_set h) = h
 
 -- a fault of the SEQUENCE of a SET's components in order is one of the SET

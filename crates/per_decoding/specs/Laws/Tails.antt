@@ -17,7 +17,9 @@ use Rattle.per_core.proofs.Agree.{Agree, weaken, when_agree, empty_agree}
 use Rattle.per_core.proofs.Records.{bitmap_agree}
 use Rattle.per_core.proofs.Took.{took_then, then_took, took_map, took_nothing, nothing_took, took_agree}
 use Rattle.per_read.proofs.Fields.{when_took}
+use Rattle.per_read.specs.Bitmaps.{IsOfBitmap}
 use Rattle.per_read.specs.Kinds.{IsTested, NoneIn}
+use Rattle.per_read.proofs.OfBitmaps.{bitmap_tested, unknown_tested}
 use Rattle.per_read.specs.declared.error.DecodeError.{DecodeError}
 use Rattle.per_read.specs.declared.error.DecodeErrorKind.{DecodeErrorKind}
 use Rattle.per_read.specs.declared.error.DecodeErrorKind.TheVariants.{AlreadyFailed}
@@ -303,7 +305,7 @@ next_stands a k tree p c qs s e done counted (out_of_turn i n) = absurd (n done)
 next_stands a k tree p c qs s e done counted (not_expected i n) = absurd (omega arith)
 next_stands a k tree p c qs s e done counted (at_bitmap x i n) =
     subst (λ z. IsInTail a k (part tree p c qs) z s.bits) (sym x)
-    (in_bitmap i (subst (λ z. NoneIn (IsBitmap z) s.bits) e n))
+    (in_bitmap (subst (λ z. IsOfBitmap z s.bits k) e i) (subst (λ z. NoneIn (IsBitmap z) s.bits) e n))
 next_stands a k tree p c qs s e done counted (in_open {m = m} h o) =
     behind_bitmap h.flags (subst (λ z. Took (Shown z s.extension h.flags) s.bits m.bits) e h.taken)
     (in_addition h.next (subst (λ z. IsInOpen z k c m.bits) e o))
@@ -347,5 +349,6 @@ tested_new AlreadyFailed h = absurd h
 tested_new _ h = tt
 
 pub ending_new : (a : Settings) (k : DecodeErrorKind) (x : Extension) (s : Bits) → IsInTail a k no_parts x s → IsNew k
-ending_new a k x s (in_bitmap i n) = tested_new k i
-ending_new a k x s (behind_bitmap flags h (in_unknown i n)) = tested_new k i
+ending_new a k x s (in_bitmap i n) = tested_new k (bitmap_tested a s k i)
+ending_new a k x s (behind_bitmap {m = m} flags h (in_unknown {flags = left} i n)) =
+    tested_new k (unknown_tested left a m k i)

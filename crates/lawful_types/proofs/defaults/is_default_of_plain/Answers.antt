@@ -1,4 +1,3 @@
-use Rattle.std.proofs.Common.{◌∙◌}
 use Rattle.rasn_schema.specs.Lawful.{is_value}
 use Rattle.lawful_types.proofs.defaults.is_default_of_plain.Goals as goal
 

@@ -1,4 +1,4 @@
-use Rattle.std.proofs.Common.{◌≡◌, true, length, take}
+use Rattle.std.proofs.Common.{◌≡◌, true, take}
 use Rattle.rasn_schema.specs.Lawful.{all_pass}
 use Rattle.lawful_types.specs.Inside.{is_name_inside}
 use Rattle.lawful_types.proofs.places.name_outside.Given as goal

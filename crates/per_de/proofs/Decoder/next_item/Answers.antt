@@ -11,6 +11,7 @@ returns-in_err-follows c =
       law = λ e size mark s vs a. rw (p.1, p.2) (list_refused c.args.self.now c.len-left.result a c.reader-reader.ensures (rw (c.go_on.ensures.stays c.if-go_on.false) at c.next_element-taken.ensures) _ c.answer.new.self c.in_err-follows.ensures);
       falls = search rules;
       live = search rules;
+      beside = search rules;
       behaves = search rules;
     }
 
@@ -20,6 +21,7 @@ returns-then-not-follows c = record {
       (list_ended c.args.self.now c.len-left.result a c.reader-reader.ensures (rw (c.go_on.ensures.stays c.if-go_on.false) at c.next_element-taken.ensures) c.answer.new.self _ (c.len-left.ensures ∙ ap length c.bits.ensures) (rw c.if-not-follows.true at c.in_ok-follows.ensures) (search rules));
   falls = search rules;
   live = search rules;
+  beside = search rules;
   behaves = search rules;
 }
 
@@ -29,6 +31,7 @@ returns-else-not-follows c = record {
       (element_follows c.args.self.now c.len-left.result a c.reader-reader.ensures (rw (c.go_on.ensures.stays c.if-go_on.false) at c.next_element-taken.ensures) c.answer.new.self (c.len-left.ensures ∙ ap length c.bits.ensures) (rw c.if-not-follows.false at c.in_ok-follows.ensures));
   falls = search rules;
   live = search rules;
+  beside = search rules;
   behaves = search rules;
 }
 
@@ -40,5 +43,6 @@ returns-then-go_on c =
       law = λ e size mark r vs a. element_follows s (length s.bits) a refl taken s refl (refl, whole_left s);
       falls = search rules;
       live = search rules;
+      beside = search rules;
       behaves = search rules;
     }

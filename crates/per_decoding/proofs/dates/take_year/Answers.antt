@@ -2,7 +2,7 @@ use Rattle.std.proofs.Common.{◌≡◌, ℕ, subst, inr, arith}
 use Rattle.per_core.specs.Spellings.{Field}
 use Rattle.per_core.specs.Took.{Took}
 use Rattle.per_read.specs.State.{settings_of}
-use Rattle.per_read.proofs.Calls.{of_short, passes_on, takes_last}
+use Rattle.per_read.proofs.Calls.{passes_on, takes_last}
 use Rattle.per_read.proofs.Fields.{field_below}
 use Rattle.per_decoding.proofs.DatesRead.{any_year, earlier_year, first_year, later_year, no_earlier_year, no_first_year, no_index, no_later_year, no_number_year, short_year}
 use Rattle.per_decoding.proofs.dates.take_year.Goals as goal
@@ -11,7 +11,7 @@ pub returns-in_err-take_bits : goal.returns-in_err-take_bits
 returns-in_err-take_bits c =
     let a = settings_of c.args.reader.now in
     let h = c.in_err-take_bits.ensures in
-    passes_on _ _ c.from_residual.ensures.1 h.kept (inr (short_year a _ _ (of_short _ h.err.0), no_index a h.err.1))
+    passes_on _ _ c.from_residual.ensures.1 h.kept (inr (short_year a _ _ h.err.0, no_index a h.err.1))
 
 pub returns-in-0 : goal.returns-in-0
 returns-in-0 c =

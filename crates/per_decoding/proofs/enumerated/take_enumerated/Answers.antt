@@ -2,8 +2,8 @@ use Rattle.std.proofs.Common.{◌∙◌, ◌<◌, ◌^◌, arith}
 use Rattle.std.proofs.lemmas.Result.{IfOk-weaker, IfErr-weaker}
 use Rattle.per_decoding.specs.Enumerations.{count_of}
 use Rattle.per_read.specs.State.{settings_of}
-use Rattle.per_read.proofs.Calls.{passes_on, of_short}
-use Rattle.per_decoding.proofs.Enumerations.{item_missing, item_there, no_extension, place_faulty, tested_item}
+use Rattle.per_read.proofs.Calls.{passes_on}
+use Rattle.per_decoding.proofs.Enumerations.{item_missing, item_there, no_extension, of_extension, of_places, place_faulty}
 use Rattle.per_decoding.proofs.enumerated.take_enumerated.Goals as goal
 
 pub returns-in_err-extended : goal.returns-in_err-extended
@@ -13,7 +13,7 @@ returns-in_err-extended g c =
     let e = g.E.Enumerated.addeds in
     let ext = g.E.Enumerated.EXTENSIBLE in
     let h = rw c.EXTENSIBLE.ensures at c.in_err-extended.ensures in
-    passes_on _ _ c.from_residual.ensures.1 h.kept (tested_item a r e ext _ _ (of_short _ h.err.0), no_extension a r e ext h.err.1)
+    passes_on _ _ c.from_residual.ensures.1 h.kept (of_places a r e ext _ _ (of_extension a r ext _ _ h.err.0), no_extension a r e ext h.err.1)
 
 pub returns-in_err-place : goal.returns-in_err-place
 returns-in_err-place g c =

@@ -1,6 +1,6 @@
 use Rattle.rasn_constraints.specs.Constraints.{bounds_of}
 use Rattle.per_read.specs.State.{settings_of}
-use Rattle.per_read.proofs.Calls.{takes_last, passes_on, begins, ended, of_short}
+use Rattle.per_read.proofs.Calls.{takes_last, passes_on, begins, ended}
 use Rattle.per_decoding.proofs.Marks.{no_bit, in_root, past_root, faulty_root, faulty_past}
 use Rattle.per_decoding.proofs.integers.take_extensible_integer.Goals as goal
 
@@ -10,7 +10,7 @@ returns-then-not-value g c = rw c.if-not-value.true c.take_root_integer.ensures
 pub returns-in_err-take_bit : goal.returns-in_err-take_bit
 returns-in_err-take_bit g c =
     let h = c.in_err-take_bit.ensures in
-    rw c.if-not-value.false (passes_on _ _ c.from_residual.ensures.1 h.kept (no_bit (settings_of c.args.reader.now) (bounds_of c.args.value.constraint) g.I.IntegerType.range _ (of_short _ h.err.0, ended h.err.1)))
+    rw c.if-not-value.false (passes_on _ _ c.from_residual.ensures.1 h.kept (no_bit (settings_of c.args.reader.now) (bounds_of c.args.value.constraint) g.I.IntegerType.range _ (h.err.0, ended h.err.1)))
 
 pub returns-then-branch : goal.returns-then-branch
 returns-then-branch g c =

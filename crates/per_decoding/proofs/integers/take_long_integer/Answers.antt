@@ -4,14 +4,15 @@ use Rattle.rasn_types.specs.Octets.{signed}
 use Rattle.rasn_constraints.specs.Bounds.{holds}
 use Rattle.per_read.proofs.Calls.{answers, refuses, passes_on}
 use Rattle.per_read.proofs.OneByOne.{no_more}
-use Rattle.per_read.proofs.Refusals.{faulty_map, tested_number}
+use Rattle.per_read.proofs.Refusals.{faulty_map}
+use Rattle.per_decoding.proofs.Marks.{octets_number_said}
 use Rattle.per_read.proofs.Unbounded.{no_length_no_number, no_octets_no_number, out_of_range_no_number, none_there, octets_number, unheld_octets}
 use Rattle.per_decoding.proofs.integers.take_long_integer.Goals as goal
 
 pub returns-in_err-octets : goal.returns-in_err-octets
 returns-in_err-octets g c =
     let h = c.in_err-octets.ensures in
-    passes_on _ _ c.from_residual.ensures.1 h.kept (faulty_map _ (tested_number _ _ _ _ _ _) (no_length_no_number _ _ _) h.err)
+    passes_on _ _ c.from_residual.ensures.1 h.kept (faulty_map _ (octets_number_said _ _ _ _) (no_length_no_number _ _ _) h.err)
 
 pub returns-then-is_empty : goal.returns-then-is_empty
 returns-then-is_empty g c =

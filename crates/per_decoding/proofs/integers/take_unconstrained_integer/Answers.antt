@@ -3,14 +3,14 @@ use Rattle.std.specs.Int.{w128}
 use Rattle.std.proofs.lemmas.Int.{to_z-of_z}
 use Rattle.rasn_constraints.specs.Bounds.{holds}
 use Rattle.per_read.proofs.Calls.{answers, from_start, refuses, passes_on}
-use Rattle.per_read.proofs.Refusals.{tested_number}
+use Rattle.per_decoding.proofs.Marks.{octets_number_said}
 use Rattle.per_read.proofs.Unbounded.{no_length_no_number, octets_number, out_of_range_no_number, unheld_octets}
 use Rattle.per_decoding.proofs.integers.take_unconstrained_integer.Goals as goal
 
 pub returns-in_err-octets : goal.returns-in_err-octets
 returns-in_err-octets g c =
     let h = c.in_err-octets.ensures in
-    passes_on _ _ c.from_residual.ensures.1 h.kept (inr (tested_number _ _ _ _ _ _ h.err.0, no_length_no_number _ _ _ h.err.1))
+    passes_on _ _ c.from_residual.ensures.1 h.kept (inr (octets_number_said _ _ _ _ h.err.0, no_length_no_number _ _ _ h.err.1))
 
 pub returns-in_default : goal.returns-in_default
 returns-in_default g c =

@@ -3,8 +3,8 @@ use Rattle.std.proofs.lemmas.Result.{IfOk-weaker, IfErr-weaker}
 use Rattle.rasn_schema.specs.Enumerations.{addeds_of, is_extensible}
 use Rattle.per_decoding.specs.Enumerations.{count_of, placed_item}
 use Rattle.per_read.specs.State.{settings_of}
-use Rattle.per_read.proofs.Calls.{passes_on, of_short}
-use Rattle.per_decoding.proofs.Enumerations.{item_missing, item_there, no_extension, place_faulty, tested_item}
+use Rattle.per_read.proofs.Calls.{passes_on}
+use Rattle.per_decoding.proofs.Enumerations.{item_missing, item_there, no_extension, of_extension, of_places, place_faulty}
 use Rattle.per_decoding.proofs.items.take_item.Goals as goal
 
 pub returns-in_err-extended : goal.returns-in_err-extended
@@ -13,7 +13,7 @@ returns-in_err-extended c =
     let e = addeds_of c.args.addeds in
     let ext = is_extensible c.args.addeds in
     let h = rw c.has_marker.ensures at c.in_err-extended.ensures in
-    passes_on _ _ c.from_residual.ensures.1 h.kept (tested_item (settings_of c.args.reader.now) r e ext _ _ (of_short _ h.err.0), no_extension (settings_of c.args.reader.now) r e ext h.err.1)
+    passes_on _ _ c.from_residual.ensures.1 h.kept (of_places (settings_of c.args.reader.now) r e ext _ _ (of_extension (settings_of c.args.reader.now) r ext _ _ h.err.0), no_extension (settings_of c.args.reader.now) r e ext h.err.1)
 
 pub returns-in_err-place : goal.returns-in_err-place
 returns-in_err-place c =

@@ -1,22 +1,20 @@
-use Rattle.std.proofs.Common.{refl, sym, ◌≡◌, ◌∙◌, true, false}
+use Rattle.std.proofs.Common.{◌∙◌}
 use Rattle.std.proofs.lemmas.Result.{err_from_is_err_and}
-use Rattle.per_enc.specs.Rules.{noting}
-use Rattle.per_enc.proofs.OpenBags.{bag_left}
-use Rattle.per_enc.proofs.Noting.{behaves_begun, written_noted}
+use Rattle.per_enc.proofs.ListsInTurn.{bag_closed, bag_untimely, bag_without_scope}
 use Rattle.per_enc.proofs.EncoderEncoder.close_set_of.Goals as goal
+use Rattle.per_enc.proofs.EncoderEncoder.close_set_of.Goals.{in-Some, in_default}
+
+pub returns-in_err-check_between : goal.returns-in_err-check_between
+returns-in_err-check_between g c =
+    let p = err_from_is_err_and c.from_residual.result c.from_residual.ensures.1 in
+    rw (p.1, p.2) (bag_untimely c.args.bag.0 c.args.bag.1 c.args.self.now _ _ c.in_err-check_between.ensures.err c.in_err-check_between.ensures.fails c.in_err-check_between.ensures.kept)
 
 pub returns : goal.returns
-returns g c = record {
-  law = rw (← c.self.view_is) (λ f x h. written_noted x (record { writer = c.close.new.writer; set = c.args.bag.1 }) _ _ c.close.result (c.close.ensures.law f (noting x).writer h.opened) h.waits);
-  early = rw (← c.self.view_is) (λ f x v vs h. c.close.ensures.early f (noting x).writer v vs h.opened);
-  behaves = rw (← c.self.view_is) (behaves_begun c.in_ok-check_unfailed.ensures.ok c.close.ensures.behaves.fails c.close.ensures.behaves.kept);
-}
-
-pub returns-in_err-check_unfailed : goal.returns-in_err-check_unfailed
-returns-in_err-check_unfailed g c =
-    let p = err_from_is_err_and c.from_residual.result c.from_residual.ensures.1 in
-    record {
-      law = rw (← c.self.view_is) (λ f x h. absurd (let d : true ≡ false = sym c.in_err-check_unfailed.ensures.failed ∙ bag_left f x _ c.args.bag _ h in cc));
-      early = rw (← c.self.view_is) (λ f x v vs h. absurd (let d : true ≡ false = sym c.in_err-check_unfailed.ensures.failed ∙ bag_left f x _ c.args.bag _ h in cc));
-      behaves = rw (p.1, p.2, ← c.self.view_is) (record { again = λ q. c.in_err-check_unfailed.ensures.err; fails = c.in_err-check_unfailed.ensures.failed; kept = refl });
-    }
+returns g c =
+    let m = c.self.view_is ∙ c.in_ok-check_between.ensures.stays in
+    elim c.match-scope.branch [
+      | in-Some w ↦ rw (← m, w.self-inside-is, w.leave.ensures) (bag_closed c.args.bag.0.0 c.args.bag.0.1 w.in-Some.scope c.args.bag.1 (record { writer = c.self.inside.writer; set = c.self.inside.set }) c.close-closed.new.writer c.close-closed.result w.in-Some.is
+          (rw (← m) at c.in_ok-check_between.ensures.begun) (rw (← m) at c.in_ok-check_between.ensures.between) c.close-closed.ensures)
+      | in_default w ↦ rw (← m, w.self-inside-is) (bag_without_scope c.args.bag.0.0 c.args.bag.0.1 c.args.bag.1 (record { writer = c.self.inside.writer; set = c.self.inside.set }) c.close-closed.new.writer c.close-closed.result w.in_default.is
+          (rw (← m) at c.in_ok-check_between.ensures.begun) (rw (← m) at c.in_ok-check_between.ensures.between) c.close-closed.ensures)
+    ]

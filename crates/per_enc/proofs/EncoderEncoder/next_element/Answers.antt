@@ -1,22 +1,22 @@
-use Rattle.std.proofs.Common.{refl, sym, ◌≡◌, ◌∙◌, true, false}
+use Rattle.std.proofs.Common.{◌∙◌}
 use Rattle.std.proofs.lemmas.Result.{err_from_is_err_and}
-use Rattle.per_enc.specs.Rules.{noting}
-use Rattle.per_enc.proofs.Around.{element_awaited}
-use Rattle.per_enc.proofs.Noting.{behaves_begun}
+use Rattle.per_enc.proofs.ListsInTurn.{element_next, element_untimely}
 use Rattle.per_enc.proofs.EncoderEncoder.next_element.Goals as goal
 
-pub returns : goal.returns
-returns g c = record {
-  law = rw (← c.self.view_is) (λ f x v vs h. element_awaited f x v vs c.args.list.now.0 c.next_element.new.list c.args.list.now.1 (record { writer = c.self.inside.writer; set = c.self.inside.set }) (record { writer = c.next_element.new.writer; set = c.self.inside.set }) c.next_element.result refl c.next_element.ensures.next h);
-  late = rw (← c.self.view_is) (λ f x h. c.next_element.ensures.next.late f (noting x).writer h.opened);
-  behaves = rw (← c.self.view_is) (behaves_begun c.in_ok-check_unfailed.ensures.ok c.next_element.ensures.next.behaves.fails c.next_element.ensures.next.behaves.kept);
-}
-
-pub returns-in_err-check_unfailed : goal.returns-in_err-check_unfailed
-returns-in_err-check_unfailed g c =
+pub returns-in_err-check_between : goal.returns-in_err-check_between
+returns-in_err-check_between g c =
     let p = err_from_is_err_and c.from_residual.result c.from_residual.ensures.1 in
-    record {
-      law = rw (← c.self.view_is) (λ f x v vs h. absurd (let d : true ≡ false = sym c.in_err-check_unfailed.ensures.failed ∙ h.opened.remains.left in cc));
-      late = rw (← c.self.view_is) (λ f x h. absurd (let d : true ≡ false = sym c.in_err-check_unfailed.ensures.failed ∙ h.opened.remains.left in cc));
-      behaves = rw (p.1, p.2, ← c.self.view_is) (record { again = λ q. c.in_err-check_unfailed.ensures.err; fails = c.in_err-check_unfailed.ensures.failed; kept = refl });
-    }
+    rw (p.1, p.2) (element_untimely c.args.list.now.0 c.args.list.now.0 c.args.list.now.1 c.args.self.now _ _ c.in_err-check_between.ensures.err c.in_err-check_between.ensures.fails c.in_err-check_between.ensures.kept)
+
+pub returns-in_err-next_element : goal.returns-in_err-next_element
+returns-in_err-next_element g c =
+    let p = err_from_is_err_and c.from_residual-in_err-next_element.result c.from_residual-in_err-next_element.ensures.1 in
+    let m = c.self.view_is ∙ c.in_ok-check_between.ensures.stays in
+    rw (p.1, p.2, ← m) (element_next c.args.list.now.0.0 c.next_element.new.list c.args.list.now.0.1 c.args.list.now.1 (record { writer = c.self.inside.writer; set = c.self.inside.set }) (record { writer = c.next_element.new.writer; set = c.self.inside.set }) _
+    (rw (← m) at c.in_ok-check_between.ensures.begun) (rw (← m) at c.in_ok-check_between.ensures.between) tt c.in_err-next_element.ensures)
+
+pub returns : goal.returns
+returns g c =
+    let m = c.self.view_is ∙ c.in_ok-check_between.ensures.stays in
+    rw (← m) (element_next c.args.list.now.0.0 c.next_element.new.list c.args.list.now.0.1 c.args.list.now.1 (record { writer = c.self.inside.writer; set = c.self.inside.set }) (record { writer = c.next_element.new.writer; set = c.in_list.result }) _
+    (rw (← m) at c.in_ok-check_between.ensures.begun) (rw (← m) at c.in_ok-check_between.ensures.between) c.in_list.ensures c.in_ok-next_element.ensures)

@@ -1,12 +1,9 @@
 use Rattle.std.proofs.Common.{◌∙◌, arith, refl, sym}
-use Rattle.per_core.specs.Basic.{basic}
-use Rattle.per_core.specs.Counts.{list_items}
 use Rattle.per_read.specs.Lists.{list_rule}
 use Rattle.per_read.specs.State.{settings_of}
 use Rattle.per_read.proofs.Calls.{errs}
-use Rattle.per_read.proofs.Miscounts.{tested_size}
 use Rattle.per_read.proofs.Parts.{small_length}
-use Rattle.per_read.proofs.OpenLists.{amid_fragment, empty_length, none_length}
+use Rattle.per_read.proofs.OpenLists.{amid_fragment, empty_length, none_length, says_length}
 use Rattle.per_read.proofs.Reader.begin_fragment.Goals as goal
 
 pub overflow_cast-list : goal.overflow_cast-list
@@ -17,7 +14,7 @@ returns-in_err-length c =
     let h = c.in_err-length.ensures in
     rw (errs _ _ c.from_residual.ensures.1) (record {
       law = λ size mark e start before amid. record {
-        says = tested_size (settings_of c.args.self.now) size mark list_items (basic (settings_of c.args.self.now) e) start _ h.err.0;
+        says = says_length (list_rule (settings_of c.args.self.now) size mark e) _ (omega (arith, c.if-list-gt0.false)) c.if-not-list.false h.err.0 amid;
         none = none_length (list_rule (settings_of c.args.self.now) size mark e) (omega (arith, c.if-list-gt0.false)) c.if-not-list.false h.err.1 amid;
       };
       ended = tt;

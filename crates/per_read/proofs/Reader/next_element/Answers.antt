@@ -1,9 +1,9 @@
-use Rattle.std.proofs.Common.{◌≡◌, ◌<◌, ◌≤◌, ◌^◌, ◌+◌, suc, arith}
+use Rattle.std.proofs.Common.{◌≡◌, ◌<◌, ◌≤◌, ◌^◌, ◌+◌, inr, refl, suc, arith}
 use Rattle.per_core.proofs.Readings.{one_reading}
 use Rattle.per_read.specs.Lists.{list_rule}
 use Rattle.per_read.specs.State.{settings_of}
 use Rattle.per_read.proofs.Calls.{errs}
-use Rattle.per_read.proofs.OpenLists.{amid_item, list_ends, list_miscounted, none_uncounted}
+use Rattle.per_read.proofs.OpenLists.{amid_item, list_ends, list_miscounted, none_uncounted, uncounted}
 use Rattle.per_read.proofs.Reader.next_element.Goals as goal
 
 pub returns-in_err-begin_fragment : goal.returns-in_err-begin_fragment
@@ -46,7 +46,7 @@ returns-in_default-checked_add c =
     let many : 2 ^ 64 ≤ c.begin_fragment.new.list.count + 1 = omega (arith, c.in_default-checked_add.ensures) in
     record {
       law = λ size mark e start before amid. record {
-        says = tt;
+        says = inr (inr (refl, uncounted (list_rule a size mark e) c.in-Some.left some many (h.law size mark e start before amid)));
         none = none_uncounted (list_rule a size mark e) c.in-Some.left some many (h.law size mark e start before amid);
       };
       fewer = tt;

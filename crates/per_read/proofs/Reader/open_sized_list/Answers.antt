@@ -3,6 +3,7 @@ use Rattle.rasn_constraints.specs.Constraints.{start_of, end_of}
 use Rattle.per_core.specs.Basic.{basic}
 use Rattle.per_read.specs.State.{settings_of}
 use Rattle.per_read.proofs.Calls.{errs}
+use Rattle.per_read.proofs.OfLists.{of_list_count}
 use Rattle.per_read.proofs.Openings.{amid_counted, amid_free, leaves_all, none_counted}
 use Rattle.per_core.proofs.ConstrainedLengths.{constrained_is, free_is}
 use Rattle.per_read.proofs.Reader.open_sized_list.Goals as goal
@@ -15,7 +16,7 @@ returns-in_err-left c =
     let h = c.in_err-left.ensures in
     let a = settings_of c.args.self.now in
     let bounds = constrained_is (start_of c.args.size) (end_of c.args.size) _ _ (sym c.constrained_size.ensures ∙ c.in-Some.is) in
-    rw (errs _ _ c.from_residual.ensures.1) (record { ok = tt; err = (h.err.0, λ e. none_counted a (basic a e) c.args.size bounds h.err.1); leaves = tt; kept = h.kept })
+    rw (errs _ _ c.from_residual.ensures.1) (record { ok = tt; err = (of_list_count a c.args.self.now.bits _ bounds h.err.0, λ e. none_counted a (basic a e) c.args.size bounds h.err.1); leaves = tt; kept = h.kept })
 
 pub returns : goal.returns
 returns c =

@@ -2,6 +2,7 @@ use Rattle.std.proofs.lemmas.Int.{to_z-of_z}
 use Rattle.per_read.specs.State.{settings_of}
 use Rattle.per_read.proofs.Calls.{answers, passes_on}
 use Rattle.per_read.proofs.Under.{above_took, between_took}
+use Rattle.per_read.proofs.OfFields.{as_many}
 use Rattle.per_read.proofs.Reader.take_between.Goals as goal
 
 pub returns-in_err-offset : goal.returns-in_err-offset
@@ -10,7 +11,7 @@ returns-in_err-offset c =
     let g = c.ranges.upper in
     let d = simp to_z-of_z at c.distance_above.ensures in
     let h = c.in_err-offset.ensures.err in
-    passes_on _ _ c.from_residual.ensures.1 c.in_err-offset.ensures.kept (h.0, λ z t b. h.1 _ t (between_took (settings_of c.args.self.now) c.args.lower c.args.upper z d b))
+    passes_on _ _ c.from_residual.ensures.1 c.in_err-offset.ensures.kept (as_many (settings_of c.args.self.now) c.args.self.now.bits _ d h.0, λ z t b. h.1 _ t (between_took (settings_of c.args.self.now) c.args.lower c.args.upper z d b))
 
 pub returns : goal.returns
 returns c =

@@ -1,6 +1,6 @@
 use Rattle.rasn_constraints.specs.Constraints.{size_between}
 use Rattle.per_read.specs.State.{settings_of}
-use Rattle.per_read.proofs.Calls.{takes_last_items, passes_on_items, begins, ended, of_short}
+use Rattle.per_read.proofs.Calls.{takes_last_items, passes_on_items, begins, ended}
 use Rattle.per_read.proofs.Miscounts.{no_bit, in_size, past_size, faulty_in, faulty_past}
 use Rattle.per_read.proofs.Reader.take_extensible_items.Goals as goal
 
@@ -11,7 +11,7 @@ pub returns-in_err-take_bit : goal.returns-in_err-take_bit
 returns-in_err-take_bit g c =
     let h = c.in_err-take_bit.ensures in
     rw c.if-not-size.false (passes_on_items _ _ c.from_residual.ensures.1 h.kept
-    (no_bit (settings_of c.args.self.now) (g.C.Collector.item c.args.items.now) (size_between c.args.size.constraint) _ (of_short _ h.err.0, ended h.err.1)))
+    (no_bit (settings_of c.args.self.now) (g.C.Collector.item c.args.items.now) (size_between c.args.size.constraint) _ (h.err.0, ended h.err.1)))
 
 pub returns-then-branch : goal.returns-then-branch
 returns-then-branch g c =

@@ -1,11 +1,9 @@
 use Rattle.std.proofs.Common.{false, refl}
-use Rattle.per_core.specs.Items.{counted_of}
 use Rattle.rasn_constraints.specs.Bounds.{any_size}
-use Rattle.per_read.specs.Items.{coded}
 use Rattle.per_read.specs.State.{settings_of}
 use Rattle.per_read.proofs.Calls.{takes_last_items}
 use Rattle.per_read.proofs.Refusals.{faulty_map}
-use Rattle.per_read.proofs.Miscounts.{tested_size}
+use Rattle.per_read.proofs.OfFields.{of_items}
 use Rattle.per_read.proofs.Reader.take_items.Goals as goal
 
 pub returns-in-Some : goal.returns-in-Some
@@ -16,4 +14,4 @@ returns-in-None g c =
     let i = g.C.Collector.item c.args.items.now in
     let x = c.args.self.now in
     rw c.in-None.is (takes_last_items c.take_unconstrained_items.ensures refl (λ n b. b)
-    (λ k. faulty_map k (tested_size (settings_of x) any_size false (counted_of i) (coded i) x.bits k) (λ none. none)))
+    (λ k. faulty_map k (of_items (settings_of x) any_size false i x.bits k) (λ none. none)))

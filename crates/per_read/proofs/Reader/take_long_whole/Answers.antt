@@ -3,14 +3,15 @@ use Rattle.std.proofs.lemmas.Bool.Decides.{nat_tests}
 use Rattle.per_read.specs.State.{settings_of}
 use Rattle.per_read.proofs.Calls.{answers, refuses, passes_on}
 use Rattle.per_read.proofs.OneByOne.{no_more}
-use Rattle.per_read.proofs.Refusals.{faulty_map, tested_octets}
+use Rattle.per_read.proofs.OfFields.{of_octets}
+use Rattle.per_read.proofs.Refusals.{faulty_map}
 use Rattle.per_read.proofs.Unbounded.{none_there}
 use Rattle.per_read.proofs.Under.{no_length_no_whole, no_octets_no_whole, octets_whole}
 use Rattle.per_read.proofs.Reader.take_long_whole.Goals as goal
 
 pub returns-in_err-octets : goal.returns-in_err-octets
 returns-in_err-octets c =
-    passes_on _ _ c.from_residual.ensures.1 c.in_err-octets.ensures.kept (faulty_map _ (tested_octets _ _ _) (no_length_no_whole _ _) c.in_err-octets.ensures.err)
+    passes_on _ _ c.from_residual.ensures.1 c.in_err-octets.ensures.kept (faulty_map _ (of_octets _ _ _) (no_length_no_whole _ _) c.in_err-octets.ensures.err)
 
 pub returns-then-is_empty : goal.returns-then-is_empty
 returns-then-is_empty c =

@@ -1,13 +1,13 @@
 use Rattle.std.proofs.Common.{◌<◌, Some, inr, sym, arith, length}
 use Rattle.per_read.proofs.Calls.{answers, from_start, passes_on}
 use Rattle.per_read.proofs.Naturals.{no_length_no_natural, natural_of}
-use Rattle.per_read.proofs.Refusals.{tested_octets}
+use Rattle.per_read.proofs.OfFields.{of_octets}
 use Rattle.per_read.proofs.Reader.take_semi_constrained_whole.Goals as goal
 
 pub returns-in_err-octets : goal.returns-in_err-octets
 returns-in_err-octets c =
     let h = c.in_err-octets.ensures in
-    passes_on _ _ c.from_residual.ensures.1 h.kept (inr (tested_octets _ _ _ h.err.0, no_length_no_natural _ _ h.err.1))
+    passes_on _ _ c.from_residual.ensures.1 h.kept (inr (of_octets _ _ _ h.err.0, no_length_no_natural _ _ h.err.1))
 
 pub returns-in-Some : goal.returns-in-Some
 returns-in-Some c =

@@ -1,17 +1,20 @@
-use Rattle.std.proofs.Common.{◌≡◌, ◌∙◌, ◌+◌, ◌*◌, ◌<◌, inr, ap, arith, length, length-append, subst, ℕ}
+use Rattle.std.proofs.Common.{◌≡◌, ◌∙◌, ◌+◌, ◌*◌, ◌<◌, inr, refl, ap, arith, length, length-append, subst, ℕ}
 use Rattle.per_core.specs.Basic.{OneByOne}
 use Rattle.per_core.specs.Items.{bits_of, counted_of}
 use Rattle.per_core.specs.Spellings.{Field}
+use Rattle.per_read.specs.Fields.{in_items, in_length, too_many}
 use Rattle.per_read.specs.Items.{TookItems}
 use Rattle.per_read.proofs.Calls.{answers_items, passes_on_items}
-use Rattle.per_read.proofs.Parts.{small_length, items_go_on, items_end, no_items_length, no_items_short, stopped}
+use Rattle.per_read.proofs.OfFields.{as_lacking}
+use Rattle.per_read.proofs.Parts.{small_length, items_go_on, items_end, no_items_length, no_items_short}
+use Rattle.per_read.proofs.Refusals.{faulty_map}
 use Rattle.per_read.proofs.Reader.take_unconstrained_items.Goals as goal
 
 pub returns-in_err-length : goal.returns-in_err-length
 returns-in_err-length g c =
     let h = c.loop-length.invariant in
     let t = c.in_err-length.ensures in
-    passes_on_items _ _ c.from_residual.ensures.1 (t.kept ∙ h.1) (inr (t.err.0, no_items_length h.0 (counted_of (g.C.Collector.item c.args.items.now)) (rw h.1 at t.err.1)))
+    passes_on_items _ _ c.from_residual.ensures.1 (t.kept ∙ h.1) (inr (h.0.refusal _ (in_length (rw h.1 at t.err.0)), no_items_length h.0 (counted_of (g.C.Collector.item c.args.items.now)) (rw h.1 at t.err.1)))
 
 pub overflow_cast-more : goal.overflow_cast-more
 overflow_cast-more g c = omega (arith, (small_length _ c.in_ok-length.ensures.ok).0, c.count-more.ensures)
@@ -22,7 +25,7 @@ returns-in-None g c =
     let t = c.in_ok-length.ensures in
     record {
       ok = tt;
-      err = inr (tt, no_items_short h.0 (counted_of (g.C.Collector.item c.args.items.now)) c.in_ok-length.length _ (rw h.1 at t.ok) (λ few. absurd (omega (arith, few, c.in-None.ensures, c.count-more.ensures))));
+      err = inr (h.0.refusal _ (too_many c.in_ok-length.length (rw h.1 at t.ok) (omega (arith, c.in-None.ensures, c.count-more.ensures)) refl), no_items_short h.0 (counted_of (g.C.Collector.item c.args.items.now)) c.in_ok-length.length _ (rw h.1 at t.ok) (λ few. absurd (omega (arith, few, c.in-None.ensures, c.count-more.ensures))));
       kept = t.kept ∙ h.1;
     }
 
@@ -33,7 +36,10 @@ returns-in_err-take_bare_items g c =
     let b = c.in_err-take_bare_items.ensures in
     let m = c.take_unconstrained_length.new.self.bits in
     passes_on_items _ _ c.from_residual-in_err-take_bare_items.ensures.1 (b.kept ∙ t.kept ∙ h.1)
-    (stopped _ (λ short. no_items_short h.0 (counted_of (g.C.Collector.item c.args.items.now)) c.in_ok-length.length _ (rw h.1 at t.ok)
+    (faulty_map _
+    (λ f. h.0.refusal _ (in_items c.in_ok-length.length (rw h.1 at t.ok)
+    (as_lacking (ap (λ z. bits_of z * c.count-more.result) h.2 ∙ ap (λ (n : ℕ). bits_of (g.C.Collector.item c.args.items.now) * n) c.count-more.ensures) f)))
+    (λ short. no_items_short h.0 (counted_of (g.C.Collector.item c.args.items.now)) c.in_ok-length.length _ (rw h.1 at t.ok)
     (λ few. subst (λ (n : ℕ). length m < bits_of (g.C.Collector.item c.args.items.now) * n) c.count-more.ensures (subst (λ z. length m < bits_of z * c.count-more.result) h.2 short))) b.err)
 
 pub returns-in-Last : goal.returns-in-Last

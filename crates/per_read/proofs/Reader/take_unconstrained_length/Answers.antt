@@ -1,3 +1,4 @@
+use Rattle.std.proofs.Common.{inl, inr}
 use Rattle.per_core.proofs.Took.{took_then}
 use Rattle.per_read.specs.Lengths.{CountOf}
 use Rattle.per_read.proofs.Calls.{passes_on, takes_last}
@@ -8,9 +9,9 @@ use Rattle.per_read.proofs.Reader.take_unconstrained_length.Goals as goal
 pub returns-in_err-take_padding : goal.returns-in_err-take_padding
 returns-in_err-take_padding c =
     let h = c.in_err-take_padding.ensures in
-    passes_on _ _ c.from_residual.ensures.1 h.kept (h.err.0, no_padding CountOf h.err.1)
+    passes_on _ _ c.from_residual.ensures.1 h.kept (inl h.err.0, no_padding CountOf h.err.1)
 
 pub returns : goal.returns
 returns c =
     let p = c.in_ok-take_padding.ensures in
-    takes_last c.take_determinant.ensures p.kept (λ l a. took_then p.ok a) (λ k h. (h.0, no_length p.ok h.1))
+    takes_last c.take_determinant.ensures p.kept (λ l a. took_then p.ok a) (λ k h. (inr (_, p.ok, h.0), no_length p.ok h.1))

@@ -4,14 +4,14 @@ use Rattle.std.proofs.lemmas.Int.{to_z-of_z}
 use Rattle.per_read.specs.State.{settings_of}
 use Rattle.per_read.specs.declared.numbers.ReadNumber.TheVariants.{Held}
 use Rattle.per_read.proofs.Calls.{answers, from_start, passes_on}
-use Rattle.per_read.proofs.Refusals.{tested_octets}
+use Rattle.per_read.proofs.OfFields.{of_octets}
 use Rattle.per_read.proofs.Under.{no_length_no_whole, octets_whole}
 use Rattle.per_read.proofs.Reader.take_unconstrained_whole.Goals as goal
 
 pub returns-in_err-octets : goal.returns-in_err-octets
 returns-in_err-octets c =
     let h = c.in_err-octets.ensures in
-    passes_on _ _ c.from_residual.ensures.1 h.kept (inr (tested_octets _ _ _ h.err.0, no_length_no_whole _ _ h.err.1))
+    passes_on _ _ c.from_residual.ensures.1 h.kept (inr (of_octets _ _ _ h.err.0, no_length_no_whole _ _ h.err.1))
 
 pub signed-requires : goal.signed-requires
 signed-requires c =

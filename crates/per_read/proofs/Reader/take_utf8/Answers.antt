@@ -7,13 +7,13 @@ use Rattle.per_core.specs.Took.{Took}
 use Rattle.per_read.specs.State.{settings_of}
 use Rattle.per_read.proofs.Calls.{answers, refuses, passes_on}
 use Rattle.per_read.proofs.Refusals.{faulty_map}
-use Rattle.per_read.proofs.Texts.{tested_text, none_of_text, text_took, no_text}
+use Rattle.per_read.proofs.Texts.{octets_text, none_of_text, text_took, no_text}
 use Rattle.per_read.proofs.Reader.take_utf8.Goals as goal
 
 pub returns-in_err-octets : goal.returns-in_err-octets
 returns-in_err-octets c =
     let h = c.in_err-octets.ensures in
-    passes_on _ _ c.from_residual.ensures.1 h.kept (faulty_map _ (tested_text _ _ _ _) (none_of_text _ _) h.err)
+    passes_on _ _ c.from_residual.ensures.1 h.kept (faulty_map _ (octets_text _ _ _ _) (none_of_text _ _) h.err)
 
 pub returns-in-Ok : goal.returns-in-Ok
 returns-in-Ok c =

@@ -1,5 +1,7 @@
-use Rattle.std.proofs.Common.{true, false, inr}
-use Rattle.per_read.proofs.Calls.{begins, ended, of_short, passes_on, takes_last}
+use Rattle.std.proofs.Common.{true, false, inl, inr}
+use Rattle.per_read.proofs.Calls.{begins, ended, passes_on, takes_last}
+use Rattle.per_read.proofs.OfFields.{in_marked}
+use Rattle.per_read.specs.Bitmaps.{IsOfLargeBitmap, IsOfSmallBitmap}
 use Rattle.per_read.specs.State.{settings_of}
 use Rattle.per_read.proofs.Maps.{flags_behind, large_gathers, large_took, no_bitmap, no_large, no_small, small_took}
 use Rattle.per_read.proofs.bitmaps.take_bitmap.Goals as goal
@@ -7,7 +9,7 @@ use Rattle.per_read.proofs.bitmaps.take_bitmap.Goals as goal
 pub returns-in_err-take_bit : goal.returns-in_err-take_bit
 returns-in_err-take_bit c =
     let h = c.in_err-take_bit.ensures in
-    passes_on _ _ c.from_residual.ensures.1 h.kept (inr (of_short _ h.err.0, no_bitmap _ (ended h.err.1)))
+    passes_on _ _ c.from_residual.ensures.1 h.kept (inr (inl h.err.0, no_bitmap _ (ended h.err.1)))
 
 pub returns-then-branch : goal.returns-then-branch
 returns-then-branch c =
@@ -23,4 +25,4 @@ returns-else-branch c =
     let bit = c.in_ok-take_bit.ensures in
     let e = begins bit.ok c.if-branch.false in
     takes_last c.take_small_bitmap.ensures bit.kept (λ v t. record { flags = t.flags; are = flags_behind false v t.flags _ e t.are; held = small_took a e t.flags _ t.held })
-    (λ k h. inr (of_short k h.0, no_small a e h.1))
+    (λ k h. inr (in_marked IsOfSmallBitmap (IsOfLargeBitmap a) k e h.0, no_small a e h.1))

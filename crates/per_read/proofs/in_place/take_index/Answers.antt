@@ -3,14 +3,14 @@ use Rattle.per_read.proofs.Calls.{answers, refuses, passes_on}
 use Rattle.per_read.proofs.InPlace.{index_of}
 use Rattle.per_read.proofs.Naturals.{no_length_no_natural, no_octets_no_natural}
 use Rattle.per_read.proofs.OneByOne.{no_more}
-use Rattle.per_read.proofs.Refusals.{tested_octets}
+use Rattle.per_read.proofs.OfFields.{of_octets}
 use Rattle.per_read.proofs.Unbounded.{none_there}
 use Rattle.per_read.proofs.in_place.take_index.Goals as goal
 
 pub returns-in_err-count : goal.returns-in_err-count
 returns-in_err-count c =
     let h = c.in_err-count.ensures in
-    passes_on _ _ c.from_residual.ensures.1 h.kept (tested_octets _ _ _ h.err.0, no_length_no_natural _ _ h.err.1)
+    passes_on _ _ c.from_residual.ensures.1 h.kept (of_octets _ _ _ h.err.0, no_length_no_natural _ _ h.err.1)
 
 pub returns-then-count-eq0 : goal.returns-then-count-eq0
 returns-then-count-eq0 c =

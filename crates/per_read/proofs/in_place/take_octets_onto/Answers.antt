@@ -1,6 +1,8 @@
-use Rattle.std.proofs.Common.{◌≡◌, ◌∙◌, ◌+◌, ◌*◌, ◌<◌, ap, arith, length, length-append, subst, ℕ}
+use Rattle.std.proofs.Common.{◌≡◌, ◌∙◌, ◌+◌, ◌*◌, ◌<◌, ap, refl, arith, length, length-append, subst, ℕ}
 use Rattle.per_core.specs.Counts.{octet_items}
+use Rattle.per_read.specs.Fields.{in_items, in_length, too_many}
 use Rattle.per_read.proofs.Calls.{answers_items, passes_on_items}
+use Rattle.per_read.proofs.OfFields.{as_lacking}
 use Rattle.per_read.proofs.Parts.{small_length, items_go_on, items_end, no_items_length, no_items_short}
 use Rattle.per_read.proofs.in_place.take_octets_onto.Goals as goal
 
@@ -8,7 +10,7 @@ pub returns-in_err-length : goal.returns-in_err-length
 returns-in_err-length c =
     let h = c.loop-length.invariant in
     let t = c.in_err-length.ensures in
-    passes_on_items _ _ c.from_residual.ensures.1 (t.kept ∙ h.1) (t.err.0, no_items_length h.0 octet_items (rw h.1 at t.err.1))
+    passes_on_items _ _ c.from_residual.ensures.1 (t.kept ∙ h.1) (h.0.refusal _ (in_length (rw h.1 at t.err.0)), no_items_length h.0 octet_items (rw h.1 at t.err.1))
 
 pub overflow_cast-more : goal.overflow_cast-more
 overflow_cast-more c = omega (arith, (small_length _ c.in_ok-length.ensures.ok).0, c.count-more.ensures)
@@ -19,7 +21,7 @@ returns-in-None c =
     let t = c.in_ok-length.ensures in
     record {
       ok = tt;
-      err = (tt, no_items_short h.0 octet_items c.in_ok-length.length _ (rw h.1 at t.ok) (λ few. absurd (omega (arith, few, c.in-None.ensures, c.count-more.ensures))));
+      err = (h.0.refusal _ (too_many c.in_ok-length.length (rw h.1 at t.ok) (omega (arith, c.in-None.ensures, c.count-more.ensures)) refl), no_items_short h.0 octet_items c.in_ok-length.length _ (rw h.1 at t.ok) (λ few. absurd (omega (arith, few, c.in-None.ensures, c.count-more.ensures))));
       kept = t.kept ∙ h.1;
     }
 
@@ -30,7 +32,7 @@ returns-in_err-take_bare_octets_onto c =
     let b = c.in_err-take_bare_octets_onto.ensures in
     let m = c.take_unconstrained_length.new.self.bits in
     passes_on_items _ _ c.from_residual-in_err-take_bare_octets_onto.ensures.1 (b.kept ∙ t.kept ∙ h.1)
-    (b.err.0, no_items_short h.0 octet_items c.in_ok-length.length _ (rw h.1 at t.ok) (λ few. subst (λ (n : ℕ). length m < 8 * n) c.count-more.ensures b.err.1))
+    (h.0.refusal _ (in_items c.in_ok-length.length (rw h.1 at t.ok) (as_lacking (ap (λ (n : ℕ). 8 * n) c.count-more.ensures) b.err.0)), no_items_short h.0 octet_items c.in_ok-length.length _ (rw h.1 at t.ok) (λ few. subst (λ (n : ℕ). length m < 8 * n) c.count-more.ensures b.err.1))
 
 pub returns-in-Last : goal.returns-in-Last
 returns-in-Last c =

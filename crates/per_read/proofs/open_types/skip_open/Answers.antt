@@ -1,7 +1,9 @@
 use Rattle.std.proofs.Common.{◌≡◌, ◌∙◌, ◌+◌, ◌*◌, ◌<◌, refl, ap, arith, length, length-append, subst, ℕ}
 use Rattle.per_core.specs.Counts.{octet_items}
 use Rattle.per_core.proofs.Took.{took_map}
-use Rattle.per_read.proofs.Calls.{answers, of_short, passes_on}
+use Rattle.per_read.specs.Fields.{in_items, in_length, too_many}
+use Rattle.per_read.proofs.Calls.{answers, passes_on}
+use Rattle.per_read.proofs.OfFields.{as_lacking}
 use Rattle.per_read.proofs.Parts.{items_begin, items_end, items_go_on, no_items_length, no_items_short, small_length}
 use Rattle.per_read.proofs.Opened.{no_open}
 use Rattle.per_read.proofs.Pieces.{Anything, skipped}
@@ -15,7 +17,7 @@ pub returns-in_err-length : goal.returns-in_err-length
 returns-in_err-length c =
     let h = c.loop-length.invariant in
     let t = c.in_err-length.ensures in
-    passes_on _ _ c.from_residual.ensures.1 (t.kept ∙ h.1) (t.err.0, λ u. no_open _ _ (no_items_length h.0 octet_items (rw h.1 at t.err.1)))
+    passes_on _ _ c.from_residual.ensures.1 (t.kept ∙ h.1) (h.0.refusal _ (in_length (rw h.1 at t.err.0)), λ u. no_open _ _ (no_items_length h.0 octet_items (rw h.1 at t.err.1)))
 
 pub overflow_cast-more : goal.overflow_cast-more
 overflow_cast-more c = omega (arith, (small_length _ c.in_ok-length.ensures.ok).0, c.count-more.ensures)
@@ -26,7 +28,7 @@ returns-in-None c =
     let t = c.in_ok-length.ensures in
     record {
       ok = tt;
-      err = (tt, λ u. no_open _ _ (no_items_short h.0 octet_items c.in_ok-length.length _ (rw h.1 at t.ok) (λ few. absurd (omega (arith, few, c.in-None.ensures, c.count-more.ensures)))));
+      err = (h.0.refusal _ (too_many c.in_ok-length.length (rw h.1 at t.ok) (omega (arith, c.in-None.ensures, c.count-more.ensures)) refl), λ u. no_open _ _ (no_items_short h.0 octet_items c.in_ok-length.length _ (rw h.1 at t.ok) (λ few. absurd (omega (arith, few, c.in-None.ensures, c.count-more.ensures)))));
       kept = t.kept ∙ h.1;
     }
 
@@ -37,7 +39,7 @@ returns-in_err-take_front c =
     let b = c.in_err-take_front.ensures in
     let m = c.take_unconstrained_length.new.self.bits in
     passes_on _ _ c.from_residual-in_err-take_front.ensures.1 (b.kept ∙ t.kept ∙ h.1)
-    (of_short _ b.err.0, λ u. no_open _ _ (no_items_short h.0 octet_items c.in_ok-length.length _ (rw h.1 at t.ok) (λ few. subst (λ (n : ℕ). length m < 8 * n) c.count-more.ensures (no_front b.err.1))))
+    (h.0.refusal _ (in_items c.in_ok-length.length (rw h.1 at t.ok) (as_lacking (ap (λ (n : ℕ). 8 * n) c.count-more.ensures) b.err.0)), λ u. no_open _ _ (no_items_short h.0 octet_items c.in_ok-length.length _ (rw h.1 at t.ok) (λ few. subst (λ (n : ℕ). length m < 8 * n) c.count-more.ensures (no_front b.err.1))))
 
 pub returns-in-Last : goal.returns-in-Last
 returns-in-Last c =

@@ -1,9 +1,9 @@
-use Rattle.std.proofs.Common.{◌≡◌, false, suc, List, ◌∷◌, arith, rules}
+use Rattle.std.proofs.Common.{◌≡◌, refl, false, suc, List, ◌∷◌, arith, rules}
 use Rattle.rasn_types.specs.Values.{Value}
 use Rattle.rasn_traits.specs.Lists.{ListForm}
 use Rattle.per_write.specs.Lists.{IsOpenList, count_left}
 use Rattle.per_write.specs.State.{State}
-use Rattle.per_write.proofs.Elements.{begins_left, element_next, fragment_begun_at, none_begun}
+use Rattle.per_write.proofs.Elements.{begins_beside, begins_left, element_next, fragment_begun_at, none_begun}
 use Rattle.per_write.proofs.lists.next_element.Goals as goal
 use Rattle.per_write.proofs.lists.next_element.Goals.{then-list-eq0+in_ok-list, else-list-eq0}
 
@@ -33,4 +33,8 @@ returns-in-Some g c =
       };
       over = λ o. let none = still_over o in absurd (omega (arith, left, none));
       left = unfailed;
+      beside = elim c.if-list-eq0.branch [
+        | then-list-eq0+in_ok-list w ↦ rw (w.writer-is) (begins_beside c.args.writer.now w.begin_fragment.new.writer w.unwrap_or.result w.in_ok-list.field-0 w.in_ok-list.ensures.ok)
+        | else-list-eq0 w ↦ rw (w.writer-is) refl
+      ];
     }

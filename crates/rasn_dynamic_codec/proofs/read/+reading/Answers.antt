@@ -8,7 +8,7 @@ use Rattle.rasn_schema.specs.Schemas.{default, optional}
 use Rattle.rasn_traits.specs.Scopes.{FaultyPart, ReadsPart, reads_left_out}
 use Rattle.rasn_traits.proofs.Optionals.{bit_refused, value_read}
 use Rattle.rasn_traits.proofs.Reading.{addition_lacks, both_read, inside_left, record_addition_failed, record_ended, record_endless, record_root_failed}
-use Rattle.rasn_dynamic.specs.Types.{behind, contained_at, default_value, grouped, in_root, is_not_required, of_size, parts_at, record_schema, schema_at, choice_of}
+use Rattle.rasn_dynamic.specs.Types.{behind, contained_at, tree_value, grouped, in_root, is_not_required, of_size, parts_at, record_schema, schema_at, choice_of}
 use Rattle.rasn_dynamic.specs.declared.types.Kind.TheVariants.{Record as RecordKind, Simple as SimpleKind}
 use Rattle.rasn_dynamic.specs.declared.values.Value.TheVariants.{Absent}
 use Rattle.rasn_schema.specs.Bags.{set_at}
@@ -113,7 +113,7 @@ put_default-returns-in_err-value g t c =
     rw (p.1, p.2) (record { answer = Err _; put = refl; owed = c.in_err-value.ensures })
 
 pub put_default-returns : goal.put_default-returns
-put_default-returns g t c = component_put g.met.D.Decoder.lawful (default (default_value c.args.otherwise.now)) _ _ _ _ _ _ _ _ c.in_ok-value.ensures c.put.ensures.held c.put.ensures.behind
+put_default-returns g t c = component_put g.met.D.Decoder.lawful (default (tree_value c.args.otherwise.now)) _ _ _ _ _ _ _ _ c.in_ok-value.ensures c.put.ensures.held c.put.ensures.behind
 
 pub put_record-returns-in_err-value : goal.put_record-returns-in_err-value
 put_record-returns-in_err-value g t c =
@@ -634,7 +634,7 @@ pub decode_default-returns-then-not-there : goal.decode_default-returns-then-not
 decode_default-returns-then-not-there g t c =
     let r = g.D.Decoder.rules in
     let x = c.args.decoder.now in
-    let d = default_value c.args.otherwise.now in
+    let d = tree_value c.args.otherwise.now in
     let b = c.in_ok-there.ensures.behaves in
     let h = c.made.ensures in
     record {
@@ -646,7 +646,7 @@ pub decode_default-returns : goal.decode_default-returns
 decode_default-returns g t c =
     let r = g.D.Decoder.rules in
     let x = c.args.decoder.now in
-    let d = default (default_value c.args.otherwise.now) in
+    let d = default (tree_value c.args.otherwise.now) in
     let w = c.decode_value.ensures in
     let b = c.in_ok-there.ensures.behaves in
     let s = schema_at c.args.kinds.now c.args.place in
@@ -666,7 +666,7 @@ decode_addition-returns-in-Default g t c =
     let h = c.made.ensures in
     let n = none_given g.D.Decoder.rules _ _ _ _ (sym c.if-is_there.false ∙ c.is_there.ensures) w.law in
     rw c.in-Default.is (record {
-      law = default_added g.met.D.Decoder.lawful (default_value c.in-Default.otherwise) _ _ x c.decode_open.new.decoder c.made.new.decoder c.made.result n h.law;
+      law = default_added g.met.D.Decoder.lawful (tree_value c.in-Default.otherwise) _ _ x c.decode_open.new.decoder c.made.new.decoder c.made.result n h.law;
       behaves = record { again = λ q. absurd (w.behaves.again q); fails = h.fails; kept = h.kept ∙ w.behaves.kept };
     })
 
@@ -677,3 +677,6 @@ decode_kind-returns-in-Simple g t c =
     let n = g.D.Decoder.rules.levels c.args.decoder.now in
     let there = plain_there ts c.args.place (SimpleKind s) (c.requires ∙ ap Some c.in-Simple.is) (λ j e. absurd (cc)) in
     reads_same _ _ _ _ _ (there n ∙ simple_plain ts s n) c.decode_leaf.ensures
+
+pub decode_elements-next_element_in_turn-requires : goal.decode_elements-next_element_in_turn-requires
+decode_elements-next_element_in_turn-requires g t c = record { in_turn = record { element = _; size = _; mark = _; before = _; taken = _; stands = c.loop-values.invariant.amid } }

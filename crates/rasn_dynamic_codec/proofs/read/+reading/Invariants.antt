@@ -84,7 +84,7 @@ invariant-decode_elements-loop-values g l =
     let d = g.D.Decoder in
     record {
       deeper : d.rules.levels l.fn.decoder ≡ suc (d.rules.levels l.decoder);
-      amid : d.amid (schema_at l.kinds l.of (d.rules.levels l.decoder)) (size_of (of_size l.size)) (is_size_marked (of_size l.size)) l.fn.decoder (map value_of l.values.items) l.list l.decoder;
+      amid : d.amid_elements (schema_at l.kinds l.of (d.rules.levels l.decoder)) (size_of (of_size l.size)) (is_size_marked (of_size l.size)) l.fn.decoder (map value_of l.values.items) l.list l.decoder;
       kept : d.rules.codec l.decoder ≡ d.rules.codec l.fn.decoder;
     }
 

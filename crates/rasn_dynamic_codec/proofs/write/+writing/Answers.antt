@@ -12,7 +12,7 @@ use Rattle.rasn_traits.specs.Scopes.{presents_fields}
 use Rattle.rasn_traits.proofs.Writing.{record_addition_refused, record_ended, record_root_refused}
 use Rattle.rasn_dynamic_codec.proofs.Given.{contents_closed, contents_refused, group_closed, group_refused, group_surplus, is_group_of, octets_refused, settled_written, value_closed, value_refused}
 use Rattle.rasn_dynamic_codec.proofs.Members.{awaits_member, bags}
-use Rattle.rasn_dynamic_codec.proofs.Elements.{awaits_element, closed, element_refused, lists, next_refused, opened, unopened}
+use Rattle.rasn_dynamic_codec.proofs.Elements.{awaits_element, before_element, behind_elements, closed, element_refused, lists, next_refused, opened, unopened}
 use Rattle.rasn_traits.specs.Moments.{date_at}
 use Rattle.rasn_dynamic.specs.declared.values.Value.TheVariants.{rolls-Bag, rolls-Elements, rolls-Fields, rolls-Alternative}
 use Rattle.rasn_dynamic.specs.Types.{behind, contained_at, grouped, in_root, is_not_required, of_size, parts_at, plain_at, record_schema, required_in, schema_at, simple_schema, alternative_counts, choice_of}
@@ -36,15 +36,15 @@ pub encode_elements-returns-in_err-list : goal.encode_elements-returns-in_err-li
 encode_elements-returns-in_err-list g t c =
     let p = err_from_is_err_and c.from_residual.result c.from_residual.ensures.1 in
     record {
-      law = rw (p.1, p.2) (unopened lists g.E.Encoder.rules g.E.Encoder.amid _ _ _ levels_of value_of c.args.values.now c.args.encoder.now _ c.open_list.new.self (rw c.new-constraints.ensures at c.in_err-list.ensures.law));
+      law = rw (p.1, p.2) (unopened lists g.E.Encoder.rules g.E.Encoder.amid_elements _ _ _ levels_of value_of c.args.values.now c.args.encoder.now _ c.open_elements.new.self (rw c.new-constraints.ensures at c.in_err-list.ensures.law));
       behaves = search rules;
     }
 
-pub encode_elements-returns-in_err-next_element : goal.encode_elements-returns-in_err-next_element
-encode_elements-returns-in_err-next_element g t c =
-    let p = err_from_is_err_and c.from_residual-in_err-next_element.result c.from_residual-in_err-next_element.ensures.1 in
+pub encode_elements-returns-in_err-next_element_in_turn : goal.encode_elements-returns-in_err-next_element_in_turn
+encode_elements-returns-in_err-next_element_in_turn g t c =
+    let p = err_from_is_err_and c.from_residual-in_err-next_element_in_turn.result c.from_residual-in_err-next_element_in_turn.ensures.1 in
     record {
-      law = rw (p.1, p.2) (next_refused c.loop-value.invariant _ _ c.next_element.new.self c.loop-value-test.true c.value-item.is c.in_err-next_element.ensures.law);
+      law = rw (p.1, p.2) (next_refused c.loop-value.invariant _ _ c.next_element_in_turn.new.self c.loop-value-test.true c.value-item.is c.in_err-next_element_in_turn.ensures.law);
       behaves = search rules;
     }
 
@@ -52,14 +52,14 @@ pub encode_elements-returns-in_err-encode_value : goal.encode_elements-returns-i
 encode_elements-returns-in_err-encode_value g t c =
     let p = err_from_is_err_and c.from_residual-in_err-encode_value.result c.from_residual-in_err-encode_value.ensures.1 in
     record {
-      law = rw (p.1, p.2) (element_refused c.loop-value.invariant _ _ _ c.encode_value.new.encoder _ c.loop-value-test.true c.value-item.is (awaits_element c.in_ok-next_element.ensures) c.in_err-encode_value.ensures.law);
+      law = rw (p.1, p.2) (element_refused c.loop-value.invariant _ _ _ c.encode_value.new.encoder _ c.loop-value-test.true c.value-item.is (awaits_element c.in_ok-next_element_in_turn.ensures) c.in_err-encode_value.ensures.law);
       behaves = search rules;
     }
 
 pub encode_elements-returns : goal.encode_elements-returns
 encode_elements-returns g t c =
     record {
-      law = closed c.loop-value.invariant _ _ c.loop-value-test.false c.close_list.ensures.law;
+      law = closed c.loop-value.invariant _ _ c.loop-value-test.false c.close_elements.ensures.law;
       behaves = search rules;
     }
 
@@ -232,6 +232,12 @@ encode_list-encode_elements-requires g t c =
 
 pub encode_elements-encode_value-requires : goal.encode_elements-encode_value-requires
 encode_elements-encode_value-requires g t c = grind (arith, common_steps, deepest_at c.args.values.now _ _ c.loop-value-test.true c.value-item.is)
+
+pub encode_elements-next_element_in_turn-requires : goal.encode_elements-next_element_in_turn-requires
+encode_elements-next_element_in_turn-requires g t c = record { in_turn = before_element c.loop-value.invariant _ c.loop-value-test.true c.value-item.is }
+
+pub encode_elements-close_elements-requires : goal.encode_elements-close_elements-requires
+encode_elements-close_elements-requires g t c = record { in_turn = behind_elements c.loop-value.invariant c.loop-value-test.false }
 
 pub encode_components-encode_component-requires : goal.encode_components-encode_component-requires
 encode_components-encode_component-requires g t c = grind (arith, common_steps, deepest_at c.args.values.now _ _ c.loop-index-test.true c.index-values-index.is)
@@ -437,15 +443,15 @@ pub encode_members-returns-in_err-bag : goal.encode_members-returns-in_err-bag
 encode_members-returns-in_err-bag g t c =
     let p = err_from_is_err_and c.from_residual.result c.from_residual.ensures.1 in
     record {
-      law = rw (p.1, p.2) (unopened bags g.E.Encoder.rules g.E.Encoder.amid_bag _ _ _ levels_of value_of c.args.values.now c.args.encoder.now _ c.open_set_of.new.self (rw c.new-constraints.ensures at c.in_err-bag.ensures.law));
+      law = rw (p.1, p.2) (unopened bags g.E.Encoder.rules g.E.Encoder.amid_members _ _ _ levels_of value_of c.args.values.now c.args.encoder.now _ c.open_members.new.self (rw c.new-constraints.ensures at c.in_err-bag.ensures.law));
       behaves = search rules;
     }
 
-pub encode_members-returns-in_err-next_member : goal.encode_members-returns-in_err-next_member
-encode_members-returns-in_err-next_member g t c =
-    let p = err_from_is_err_and c.from_residual-in_err-next_member.result c.from_residual-in_err-next_member.ensures.1 in
+pub encode_members-returns-in_err-next_member_in_turn : goal.encode_members-returns-in_err-next_member_in_turn
+encode_members-returns-in_err-next_member_in_turn g t c =
+    let p = err_from_is_err_and c.from_residual-in_err-next_member_in_turn.result c.from_residual-in_err-next_member_in_turn.ensures.1 in
     record {
-      law = rw (p.1, p.2) (next_refused c.loop-value.invariant _ _ c.next_member.new.self c.loop-value-test.true c.value-item.is c.in_err-next_member.ensures.law);
+      law = rw (p.1, p.2) (next_refused c.loop-value.invariant _ _ c.next_member_in_turn.new.self c.loop-value-test.true c.value-item.is c.in_err-next_member_in_turn.ensures.law);
       behaves = search rules;
     }
 
@@ -453,16 +459,22 @@ pub encode_members-returns-in_err-encode_value : goal.encode_members-returns-in_
 encode_members-returns-in_err-encode_value g t c =
     let p = err_from_is_err_and c.from_residual-in_err-encode_value.result c.from_residual-in_err-encode_value.ensures.1 in
     record {
-      law = rw (p.1, p.2) (element_refused c.loop-value.invariant _ _ _ c.encode_value.new.encoder _ c.loop-value-test.true c.value-item.is (awaits_member c.in_ok-next_member.ensures) c.in_err-encode_value.ensures.law);
+      law = rw (p.1, p.2) (element_refused c.loop-value.invariant _ _ _ c.encode_value.new.encoder _ c.loop-value-test.true c.value-item.is (awaits_member c.in_ok-next_member_in_turn.ensures) c.in_err-encode_value.ensures.law);
       behaves = search rules;
     }
 
 pub encode_members-returns : goal.encode_members-returns
 encode_members-returns g t c =
     record {
-      law = closed c.loop-value.invariant _ _ c.loop-value-test.false c.close_set_of.ensures.law;
+      law = closed c.loop-value.invariant _ _ c.loop-value-test.false c.close_members.ensures.law;
       behaves = search rules;
     }
+
+pub encode_members-next_member_in_turn-requires : goal.encode_members-next_member_in_turn-requires
+encode_members-next_member_in_turn-requires g t c = record { in_turn = before_element c.loop-value.invariant _ c.loop-value-test.true c.value-item.is }
+
+pub encode_members-close_members-requires : goal.encode_members-close_members-requires
+encode_members-close_members-requires g t c = record { in_turn = behind_elements c.loop-value.invariant c.loop-value-test.false }
 
 pub encode_component-returns-in-Group : goal.encode_component-returns-in-Group
 encode_component-returns-in-Group g t c = λ q. rw c.in-Group.is c.encode_optional-in-Group.ensures
@@ -671,7 +683,7 @@ encode_default-returns-in_err-set_presence g t c =
     let p = err_from_is_err_and c.from_residual.result c.from_residual.ensures.1 in
     let o = c.in_err-set_presence.ensures in
     λ q. rw (p.1, p.2) (record {
-      law = record { at = λ n le. default_unmarked g.E.Encoder.rules c.args.otherwise.now _ c.args.encoder.now c.set_presence.new.self c.set_presence.new.self (slot_of c.args.value.now) c.is_default_at-differs.result _ _ (c.is_default_at-differs.ensures n) refl q o.law };
+      law = record { at = λ n le. default_unmarked g.E.Encoder.rules c.args.otherwise.now _ c.args.encoder.now c.set_presence.new.self c.set_presence.new.self (slot_of c.args.value.now) c.is_default_tree_at-differs.result _ _ (c.is_default_tree_at-differs.ensures.at n le) refl q o.law };
       fails = o.behaves.fails;
       kept = o.behaves.kept;
     })
@@ -680,7 +692,7 @@ pub encode_default-returns-then-not-differs : goal.encode_default-returns-then-n
 encode_default-returns-then-not-differs g t c =
     let o = c.in_ok-set_presence.ensures in
     λ q. record {
-      law = record { at = λ n le. default_left g.E.Encoder.rules c.args.otherwise.now _ c.args.encoder.now c.set_presence.new.self (slot_of c.args.value.now) c.is_default_at-differs.result _ (c.is_default_at-differs.ensures n) refl (ap not c.if-not-differs.true) q o.law };
+      law = record { at = λ n le. default_left g.E.Encoder.rules c.args.otherwise.now _ c.args.encoder.now c.set_presence.new.self (slot_of c.args.value.now) c.is_default_tree_at-differs.result _ (c.is_default_tree_at-differs.ensures.at n le) refl (ap not c.if-not-differs.true) q o.law };
       fails = tt;
       kept = o.behaves.kept;
     }
@@ -690,7 +702,7 @@ encode_default-returns g t c =
     let o = c.in_ok-set_presence.ensures in
     let w = c.encode_value.ensures in
     λ q. record {
-      law = record { at = λ n le. default_there g.E.Encoder.rules c.args.otherwise.now g.met.E.Encoder.lawful _ c.args.encoder.now c.set_presence.new.self c.encode_value.new.encoder (slot_of c.args.value.now) c.is_default_at-differs.result _ c.encode_value.result (c.is_default_at-differs.ensures n) refl (ap not c.if-not-differs.false) q o.law (w.law.at n le) };
+      law = record { at = λ n le. default_there g.E.Encoder.rules c.args.otherwise.now g.met.E.Encoder.lawful _ c.args.encoder.now c.set_presence.new.self c.encode_value.new.encoder (slot_of c.args.value.now) c.is_default_tree_at-differs.result _ c.encode_value.result (c.is_default_tree_at-differs.ensures.at n le) refl (ap not c.if-not-differs.false) q o.law (w.law.at n le) };
       fails = w.behaves.fails;
       kept = w.behaves.kept ∙ o.behaves.kept;
     }
@@ -698,11 +710,11 @@ encode_default-returns g t c =
 pub encode_addition-returns-in-Default : goal.encode_addition-returns-in-Default
 encode_addition-returns-in-Default g t c = λ q. rw c.in-Default.is (c.encode_differing.ensures (sym c.is_there.ensures ∙ c.if-not-is_there.false))
 
-pub encode_differing-returns-then-is_default_at : goal.encode_differing-returns-then-is_default_at
-encode_differing-returns-then-is_default_at g t c =
+pub encode_differing-returns-then-is_default_tree_at : goal.encode_differing-returns-then-is_default_tree_at
+encode_differing-returns-then-is_default_tree_at g t c =
     let w = c.skip_addition.ensures in
     λ q. record {
-      law = record { at = λ n le. default_skipped g.E.Encoder.rules c.args.otherwise.now _ c.args.encoder.now c.skip_addition.new.self (slot_of c.args.value.now) c.is_default_at.result c.skip_addition.result (c.is_default_at.ensures n) c.if-is_default_at.true q w.law };
+      law = record { at = λ n le. default_skipped g.E.Encoder.rules c.args.otherwise.now _ c.args.encoder.now c.skip_addition.new.self (slot_of c.args.value.now) c.is_default_tree_at.result c.skip_addition.result (c.is_default_tree_at.ensures.at n le) c.if-is_default_tree_at.true q w.law };
       fails = w.behaves.fails;
       kept = w.behaves.kept;
     }
@@ -711,7 +723,7 @@ pub encode_differing-returns : goal.encode_differing-returns
 encode_differing-returns g t c =
     let w = c.encode_open.ensures in
     λ q. record {
-      law = record { at = λ n le. default_open g.E.Encoder.rules c.args.otherwise.now _ c.args.encoder.now c.encode_open.new.encoder (slot_of c.args.value.now) c.is_default_at.result c.encode_open.result (c.is_default_at.ensures n) c.if-is_default_at.false q (w.law.at n le) };
+      law = record { at = λ n le. default_open g.E.Encoder.rules c.args.otherwise.now _ c.args.encoder.now c.encode_open.new.encoder (slot_of c.args.value.now) c.is_default_tree_at.result c.encode_open.result (c.is_default_tree_at.ensures.at n le) c.if-is_default_tree_at.false q (w.law.at n le) };
       fails = w.fails;
       kept = w.kept;
     }

@@ -89,9 +89,9 @@ invariant-encode_additions-loop-index g l = Onward g.E.Encoder.rules (additions 
 -- the elements from a place on are still to be written
 abbrev pub invariant-encode_elements-loop-value : goal.invariant-encode_elements-loop-value
 invariant-encode_elements-loop-value g l =
-    Amidst lists g.E.Encoder.rules g.E.Encoder.amid (schema_at l.kinds l.of) (size_of (of_size l.size)) (is_size_marked (of_size l.size)) levels_of value_of l.values l.fn.encoder l.value-index l.list l.encoder
+    Amidst lists g.E.Encoder.rules g.E.Encoder.amid_elements (schema_at l.kinds l.of) (size_of (of_size l.size)) (is_size_marked (of_size l.size)) levels_of value_of l.values l.fn.encoder l.value-index l.list l.encoder
 
 -- the members from a place on are still to be written
 abbrev pub invariant-encode_members-loop-value : goal.invariant-encode_members-loop-value
 invariant-encode_members-loop-value g l =
-    Amidst bags g.E.Encoder.rules g.E.Encoder.amid_bag (schema_at l.kinds l.of) (size_of (of_size l.size)) (is_size_marked (of_size l.size)) levels_of value_of l.values l.fn.encoder l.value-index l.bag l.encoder
+    Amidst bags g.E.Encoder.rules g.E.Encoder.amid_members (schema_at l.kinds l.of) (size_of (of_size l.size)) (is_size_marked (of_size l.size)) levels_of value_of l.values l.fn.encoder l.value-index l.bag l.encoder

@@ -9,7 +9,7 @@ invariant-loop-values g l =
     let d = g.Self.Decoder in
     record {
       deeper : d.rules.levels l.fn.self ≡ suc (d.rules.levels l.self);
-      amid : d.amid (t.schema t.CONSTRAINTS (d.rules.levels l.self)) (size_of l.constraints) (is_size_marked l.constraints) l.fn.self (map t.value l.values.items) l.list l.self;
+      amid : d.amid_elements (t.schema t.CONSTRAINTS (d.rules.levels l.self)) (size_of l.constraints) (is_size_marked l.constraints) l.fn.self (map t.value l.values.items) l.list l.self;
       kept : d.rules.codec l.self ≡ d.rules.codec l.fn.self;
     }
 

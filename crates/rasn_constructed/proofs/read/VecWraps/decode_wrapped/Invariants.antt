@@ -9,7 +9,7 @@ invariant-loop-values g l =
     let d = g.D.Decoder in
     record {
       deeper : d.rules.levels l.fn.decoder ≡ suc (d.rules.levels l.decoder);
-      amid : d.amid (t.schema t.CONSTRAINTS (d.rules.levels l.decoder)) (size_of l.constraints) (is_size_marked l.constraints) l.fn.decoder (map t.value l.values.items) l.list l.decoder;
+      amid : d.amid_elements (t.schema t.CONSTRAINTS (d.rules.levels l.decoder)) (size_of l.constraints) (is_size_marked l.constraints) l.fn.decoder (map t.value l.values.items) l.list l.decoder;
       kept : d.rules.codec l.decoder ≡ d.rules.codec l.fn.decoder;
     }
 
