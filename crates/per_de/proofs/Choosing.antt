@@ -3,12 +3,14 @@ use Rattle.std.proofs.Common.{◌≡◌, ◌⊎◌, inl, inr, refl, sym, ◌∙�
 use Rattle.std.specs.Prelude.{Err}
 use Rattle.rasn_types.specs.Bits.{Bits}
 use Rattle.rasn_types.specs.Values.{Side, root, added}
-use Rattle.rasn_schema.specs.Choices.{AreVariants, VariantShape, alternative_at, alternative_in, choice_schema, go_by, one_level_in, place_of, tags_of, variants_behind, variants_on}
+use Rattle.rasn_schema.specs.Choices.{AreVariants, VariantShape, alternative_at, choice_schema, go_by, one_level_in, place_of, tags_of, variants_behind, variants_on}
 use Rattle.rasn_schema.specs.Schemas
 use Rattle.rasn_schema.specs.Schemas.{Schema, Parts, no_parts, part}
 use Rattle.rasn_schema.proofs.Both.{distinct_before, distinct_behind}
 use Rattle.rasn_schema.proofs.Places.{found_at}
-use Rattle.rasn_traits.specs.Calls.{Refuses}
+use Rattle.rasn_schema.specs.declared.items.Place.{Place}
+use Rattle.rasn_traits.specs.Calls.{DecoderRules, Refuses}
+use Rattle.rasn_traits.specs.Choices.{IsAlternative, IsChosen, index_in, side_of}
 use Rattle.per_core.specs.Basic.{Octets}
 use Rattle.per_core.specs.Spellings.{Settings}
 use Rattle.per_core.specs.Took.{Took}
@@ -43,11 +45,6 @@ pub index_below : (a : Settings) (r e : ℕ) (ext : Bool) (d : Side) (i : ℕ) {
 index_below a r e ext root i h = let q = then_took h in q.2.spelled.below
 index_below a r e ext added i h = let q = then_took h in q.2.spelled.known
 
--- so is it below the variants of the list
-pub below_variants : (vs : List VariantShape) (xs : Option (List VariantShape)) (d : Side) (k r e : ℕ) → length vs ≡ r → length (variants_behind xs) ≡ e → k < many_on d r e → k < length (variants_on d vs xs)
-below_variants vs xs root k r e f h l = omega (arith, f, l)
-below_variants vs xs added k r e f h l = omega (arith, h, l)
-
 -- what is refused of a choice at the levels inside is refused at those outside
 pub at_level : (choice : ℕ → Schema) (s : State) (m : ℕ) (err : DecodeError) → s.levels ≡ suc m → (err ≡ refusal OutOfMemory s) ⊎ Refuses (Spells (choice m)) (Fault (choice m)) err s
     → (err ≡ refusal OutOfMemory s) ⊎ Refuses (Spells (one_level_in choice s.levels)) (Fault (one_level_in choice s.levels)) err s
@@ -59,14 +56,23 @@ there_at no_parts i h = absurd (omega arith)
 there_at (part t p s ps) zero h = (s, refl)
 there_at (part t p s ps) (suc i) h = there_at ps i (omega arith)
 
-pub alternative_there : (ps : Parts) (marker : Bool) (qs : Parts) (d : Side) (i : ℕ) → i < many_on d (length (tags_of ps)) (length (tags_of qs)) → (s : Schema) × (alternative_in (choice_schema ps marker qs) d i ≡ Some s)
-alternative_there ps marker qs root i h = there_at ps i h
-alternative_there ps marker qs added i h = there_at qs i h
-
 -- the place of the tag at an index
 pub place_found : (vs : List VariantShape) (xs : Option (List VariantShape)) (d : Side) (i : ℕ) (t : Schemas.Tag) → AreVariants vs xs → slice_get (go_by (variants_on d vs xs)) i ≡ Some t → place_of t (variants_on d vs xs) ≡ Some i
 place_found vs xs root i t v e = found_at (go_by vs) i 0 t (distinct_before (go_by vs) (go_by (variants_behind xs)) v.distinct) e ∙ ap Some (let n : 0 + i ≡ i = omega arith in n)
 place_found vs xs added i t v e = found_at (go_by (variants_behind xs)) i 0 t (distinct_behind (go_by vs) (go_by (variants_behind xs)) v.distinct) e ∙ ap Some (let n : 0 + i ≡ i = omega arith in n)
+
+-- the alternative at a place is the one that goes by the tag there
+pub goes_by : {E S O : Type 0} (rules : DecoderRules E S) (opens : Schema → Side → ℕ → S → O → S → Type 0) (choice : ℕ → Schema) (vs : List VariantShape) (xs : Option (List VariantShape)) (t : Schemas.Tag) (p : Place) (s : S) (o : O) (i : S)
+    → AreVariants vs xs → slice_get (go_by (variants_on (side_of p) vs xs)) (index_in p) ≡ Some t → IsAlternative rules opens choice vs xs p s o i → IsChosen rules opens choice vs xs t s o i
+goes_by rules opens choice vs xs t p s o i v e h = record {
+  deeper = h.deeper;
+  side = side_of p;
+  index = index_in p;
+  place = place_found vs xs (side_of p) (index_in p) t v e;
+  schema = h.schema;
+  there = h.there;
+  opened = h.opened;
+}
 
 -- the bits outside of an alternative's open type are those in front of it
 outer_source : (d : Side) (u i : State) (o : Option Addition) → StandsFrom d u (outside_contents_of i.source o) i → source_behind i.source o ≡ u.source
@@ -110,9 +116,6 @@ module _ (ps : Parts) (marker : Bool) (qs : Parts) (r e : ℕ) (few : r ≡ leng
 
     index_taken : Took (index_form (settings_of s) (length (tags_of ps)) (length (tags_of qs)) marker (d, k)) s.bits u.bits
     index_taken = index_moved (d, k) (subst (λ z. Took (index_form (settings_of x) r e marker (d, k)) x.bits z) (sym bits_left) index.0)
-
-    pub below : k < many_on d (length (tags_of ps)) (length (tags_of qs))
-    below = index_below (settings_of s) (length (tags_of ps)) (length (tags_of qs)) marker d k index_taken
 
     pub opens_choice : (i : State) (held : Option Addition) → StandsFrom d u (outside_contents_of i.source held) i → OpensChoice (choice_schema ps marker qs) d k s (outside_choice_of i.source (record { scope = o; contents = held })) i
     opens_choice i held f = record {

@@ -2,10 +2,7 @@
 use Rattle.std.proofs.Common.{◌≡◌, ◌⊎◌, inl, inr, refl, sym, ◌∙◌, ap, subst, ℕ, suc, Bool, true, false, [], length, Option, Some, None, List}
 use Rattle.std.specs.Prelude.{◌↔◌, Result, Ok, Err, IfErr, IfOk, IsErrAnd, OnErr, OnOk}
 use Rattle.rasn_types.specs.Values.{Side, Value, root, added, nothing}
-use Rattle.rasn_types.specs.declared.types.Tag.{Tag}
 use Rattle.rasn_constraints.specs.Bounds.{Size}
-use Rattle.rasn_schema.specs.Choices.{VariantShape}
-use Rattle.rasn_schema.specs.Fields.{tag_of}
 use Rattle.rasn_schema.specs.Lawful.{presence_bits}
 use Rattle.rasn_schema.specs.Lists.{list_at, list_value}
 use Rattle.rasn_schema.specs.Schemas
@@ -15,7 +12,6 @@ use Rattle.rasn_traits.specs.Additions.{extended}
 use Rattle.rasn_traits.specs.AdditionsRead.{AdditionOpenedToRead, ReadsNoAddition}
 use Rattle.rasn_traits.specs.Amounts.{Amount, amount_of, one_value}
 use Rattle.rasn_traits.specs.Calls.{Behaves, Reads, Refuses, freely_read}
-use Rattle.rasn_traits.specs.Choices.{IsChosen, OpenedToChoose}
 use Rattle.rasn_traits.specs.Contents.{OpenedContentsToRead}
 use Rattle.rasn_traits.specs.Counted.{PlacedToRead, index_in, side_of}
 use Rattle.rasn_traits.specs.Lists.{HasElement, ListOpenedToRead, ListUnread}
@@ -149,27 +145,6 @@ record_awaits parts additions marker m t i o n k l live f cs bs adds h j =
       additions = h.1.counts ∙ sym (adds t.levels) ∙ adds j;
     })
 
--- a choice is opened
-module _ (choice : ℕ → Schema) (vs : List VariantShape) (xs : Option (List VariantShape)) (s m t i : State) where
-  pub choice_opened : (tag : Tag) (o : Alternative) (turn : Kept.Turn) → m ≡ noting s → turn_of turn ≡ m.turn → i ≡ with_turn (awaiting 1) t
-      → OpenedToChoose plain_rules is_choice_open choice vs xs m (Ok (tag, o)) t
-      → OpenedToChoose decoder_rules is_choice_in_turn choice vs xs s (Ok (tag, record { scope = o; turn = turn })) i
-  choice_opened tag o turn e w f h =
-      subst (λ z. IsChosen decoder_rules is_choice_in_turn choice vs xs (tag_of tag) s (record { scope = o; turn = turn }) z) (sym f) (record {
-        deeper = ap (λ z. z.levels) (sym e) ∙ h.deeper;
-        side = h.side;
-        index = h.index;
-        place = h.place;
-        schema = h.schema;
-        there = h.there;
-        opened = entered _ (λ a b. choice_keeps (choice t.levels) h.side h.index _ a b) 1 (next s.turn) s m t (awaiting 1) (turn_of turn) e w refl h.opened;
-      })
-
-  -- it isn't
-  pub choice_unopened : (e : DecodeError) → m ≡ noting s → OpenedToChoose plain_rules is_choice_open choice vs xs m (Err e) t
-      → OpenedToChoose decoder_rules is_choice_in_turn choice vs xs s (Err e) i
-  choice_unopened e f h = unread s (subst (λ z. OpenedToChoose plain_rules is_choice_open choice vs xs z (Err e) t) f h)
-
 -- one value is awaited in a scope of one
 pub one_awaited : (t i : State) → t.failed ≡ false → t.presences ≡ [] → t.expected ≡ 0 → i ≡ with_turn (awaiting 1) t → Awaits one_value i
 one_awaited t i live p n f = subst (λ z. Awaits one_value z) (sym f) (record { live = live; components = refl; bits = ap length p; additions = n })
@@ -180,11 +155,6 @@ choice_empty root m None i l p n h = (ap (λ z. z.failed) h ∙ l, ap (λ z. z.p
 choice_empty root m (Some w) i l p n h = absurd h
 choice_empty added m None i l p n h = absurd h
 choice_empty added m (Some w) i l p n h = (ap (λ z. z.failed) h.enters.same ∙ l, ap (λ z. z.presences) h.enters.same, ap (λ z. z.expected) h.enters.same)
-
-pub choice_awaits : (c : Schema) (d : Side) (k : ℕ) (s : State) (w : OutsideChoice) (t i : State) → OpensChoice c d k s w t → i ≡ with_turn (awaiting 1) t → Awaits one_value i
-choice_awaits c d k s w t i h f =
-    let q = choice_empty d h.middle w.contents t (ap (λ z. z.failed) h.enters.same ∙ h.live) (ap (λ z. z.presences) h.enters.same) (ap (λ z. z.expected) h.enters.same) h.stands in
-    one_awaited t i q.0 q.1 q.2 f
 
 -- an addition is opened
 pub addition_opened : (s t i : State) (o : Addition) (turn : Kept.Turn) → turn_of turn ≡ s.turn → i ≡ with_turn (awaiting 1) t → OpensAddition s (outside_addition_of t.source o) t
@@ -304,10 +274,6 @@ behaves_err T U s m t e f h =
 -- a scope that was entered hasn't failed
 pub record_live : (c : Schema) (w : OutsideRecord) (m t : State) → m.failed ≡ false → Opens c m w t → t.failed ≡ false
 record_live c w m t live h = ap (λ z. z.failed) h.enters.same ∙ live
-
-pub choice_live : (c : Schema) (d : Side) (k : ℕ) (w : OutsideChoice) (m t : State) → OpensChoice c d k m w t → t.failed ≡ false
-choice_live c d k w m t h =
-    (choice_empty d h.middle w.contents t (ap (λ z. z.failed) h.enters.same ∙ h.live) (ap (λ z. z.presences) h.enters.same) (ap (λ z. z.expected) h.enters.same) h.stands).0
 
 pub addition_live : (w : OutsideAddition) (s t : State) → OpensAddition s w t → t.failed ≡ false
 addition_live w s t h = ap (λ z. z.failed) h.same ∙ ap (λ z. z.failed) h.asks.same ∙ h.asks.live

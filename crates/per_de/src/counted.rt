@@ -2,9 +2,9 @@
 
 ghost use Rattle.rasn_schema.specs.Enumerations.{addeds_of, is_extensible, items_of};
 ghost use Rattle.rasn_traits.specs.Calls.{Reads, freely_read};
-ghost use Rattle.rasn_traits.specs.Counted.{item_at};
-ghost use Rattle.per_decoding.specs.Rules.{plain_rules};
-ghost use Rattle.per_de.specs.InTurn.{EntersPlaced, EntersRecord};
+ghost use Rattle.rasn_traits.specs.Counted.{OpensPlacedToRead, item_at};
+ghost use Rattle.per_decoding.specs.Rules.{decoder_rules, plain_rules};
+ghost use Rattle.per_de.specs.InTurn.{EntersPlaced, EntersRecord, is_choice_in_turn};
 ghost use Rattle.per_de.specs.Steps.{TakesIndex};
 
 use crate::source::Extension;
@@ -61,16 +61,12 @@ impl<'input> CountedDecoder for Decoder<'input> {
         self.close_in_turn(outside)
     }
 
-    fn open_alternative(
+    fn open_alternative_of(
         &mut self,
         _tag: Tag,
         alternatives: ItemCounts,
     ) -> Result<(Place, Around<Alternative<'input>>), DecodeError> {
-        self.begin_value()?;
-        let turn = self.turn();
-        let (place, scope) = self.enter_alternative(alternatives)?;
-        self.set_turn(Turn::Awaiting(1));
-        Ok((place, Around { scope, turn }))
+        self.begin_alternative(alternatives)
     }
 }
 
@@ -136,6 +132,22 @@ impl<'input> Decoder<'input> {
             expected: additions.unwrap_or(0),
             levels,
         }))
+    }
+
+    /// Reads the index of a CHOICE of so many alternatives, a component of what is around it, and enters the open type
+    /// of one behind the extension marker: one value is to come.
+    #[inline(always)]
+    pub(crate) fn begin_alternative(
+        &mut self,
+        alternatives: ItemCounts,
+    ) -> Result<(Place, Around<Alternative<'input>>), DecodeError>
+        ensures { OpensPlacedToRead decoder_rules is_choice_in_turn alternatives self.old result self.new }
+    {
+        self.begin_value()?;
+        let turn = self.turn();
+        let (place, scope) = self.enter_alternative(alternatives)?;
+        self.set_turn(Turn::Awaiting(1));
+        Ok((place, Around { scope, turn }))
     }
 
     /// Reads the index of a CHOICE of so many alternatives, and enters the open type of one behind the extension

@@ -8,13 +8,13 @@ ghost use Rattle.std.specs.Cow.{cow_slice_items, IsBorrowedSlice, IsOwnedSlice};
 ghost use Rattle.rasn_types.specs.Bits.{unpack};
 ghost use Rattle.rasn_types.specs.Values.{octets, whole};
 ghost use Rattle.rasn_types.specs.declared.types.Codec.TheVariants.{Aper, Uper};
-ghost use Rattle.rasn_schema.specs.Choices.{go_by, is_extensible, variants_behind, variants_on};
-ghost use Rattle.rasn_schema.specs.Enumerations.{addeds_of, is_extensible as is_marked};
+ghost use Rattle.rasn_schema.specs.Choices.{go_by, variants_on};
 ghost use Rattle.rasn_schema.specs.Extensions.{fields_behind};
 ghost use Rattle.rasn_schema.specs.Fields.{tag_of};
 ghost use Rattle.rasn_schema.specs.Forms.{number_schema, octet_schema, size_of, is_size_marked};
 ghost use Rattle.rasn_schema.specs.Schemas.{Schema};
 ghost use Rattle.rasn_traits.specs.Calls.{Reads, freely_read};
+ghost use Rattle.rasn_traits.specs.Choices.{IsPlaceOf, index_in, side_of};
 ghost use Rattle.per_read.specs.declared.error.DecodeErrorKind.TheVariants.{AlreadyFailed};
 ghost use Rattle.per_decoding.specs.ChoiceIndexes.{index_of};
 ghost use Rattle.per_read.specs.Lists.{most};
@@ -37,13 +37,12 @@ ghost use Rattle.per_de.specs.Lending.{AreCountedOnce, AreLent, CanBeLent, ComeA
 ghost use Rattle.per_de.specs.Sources.{bits_of, extension_in, place_left, span_of, up_to, unread_of};
 ghost use Rattle.per_de.specs.Sources.{AreOctetsOf, IsWithin};
 ghost use Rattle.per_de.specs.Steps.{AsksNext, EndsContents, EntersOpen, HasTwoLevels, IsRootRead};
-ghost use Rattle.per_de.specs.Steps.{ClosesContents, EntersAlternative, TakesIndex};
+ghost use Rattle.per_de.specs.Steps.{ClosesContents, EntersAlternative};
 ghost use Rattle.per_de.specs.Turns.{is_failed, turn_in, turn_of};
 ghost use Rattle.per_de.specs.Steps.{TakesBit, TakesBitmap, TakesExtensionBit, TakesFlags, TakesPresences};
 
 use per_bits::{BitList, BitReader};
 use per_core::lengths::FRAGMENT;
-use per_decoding::choices::{take_choice_index, take_root_index};
 use per_decoding::dates::take_date;
 use per_decoding::enumerated::{take_enumerated, take_root_item};
 use per_decoding::identifiers::take_object_identifier;
@@ -64,6 +63,7 @@ use rasn_schema::items::Place;
 use rasn_schema::schema::IntegerType;
 use rasn_strings::civil::{CivilDate, GeneralizedMoment, UtcMoment};
 use rasn_strings::strings::StaticPermittedAlphabet;
+use rasn_traits::counted::alternative_counts;
 use rasn_traits::decoder;
 use rasn_types::bit_string::BitString;
 use rasn_types::octet_strings::{Any, GeneralString, GraphicString, TeletexString, Utf8String};
@@ -773,36 +773,6 @@ impl<'input> Decoder<'input> {
         }
     }
 
-    /// Takes the index of a CHOICE (X.691 23.5 to 23.8), and answers the place of its alternative.
-    #[inline(always)]
-    fn take_index<C: Choice>(&mut self) -> Result<Place, DecodeError>
-        ensures { TakesIndex (length C.VARIANTS) (length (variants_behind C.EXTENDED_VARIANTS))
-            (is_extensible C.EXTENDED_VARIANTS) self.old result self.new }
-    {
-        let variants = C::VARIANTS;
-        let mut reader = self.reader();
-        let taken = take_root_index(&mut reader, variants.len(), added_count::<C>());
-        let left = reader.bits().len();
-        let Some(place) = taken else {
-            return self.take_any_index::<C>();
-        };
-        self.advance(left);
-        Ok(place)
-    }
-
-    /// Takes the index of a CHOICE in whichever form it is written.
-    #[inline(never)]
-    fn take_any_index<C: Choice>(&mut self) -> Result<Place, DecodeError>
-        ensures { TakesIndex (length C.VARIANTS) (length (variants_behind C.EXTENDED_VARIANTS))
-            (is_extensible C.EXTENDED_VARIANTS) self.old result self.new }
-    {
-        let variants = C::VARIANTS;
-        let mut reader = self.reader();
-        let taken = take_choice_index(&mut reader, variants.len(), added_count::<C>());
-        let left = reader.bits().len();
-        self.answer(taken, left)
-    }
-
     /// Enters the open type of an alternative that stands behind the extension marker (X.691 23.8), and answers what
     /// waits outside it. One of the root has none.
     #[inline(always)]
@@ -842,22 +812,10 @@ fn addition_count<C: Constructed>() -> usize
     }
 }
 
-/// How many alternatives a type has behind its extension marker, where it has one.
-#[inline(always)]
-fn added_count<C: Choice>() -> Option<usize>
-    ensures count { addeds_of result ≡ length (variants_behind C.EXTENDED_VARIANTS) }
-    ensures marked { is_marked result ≡ is_extensible C.EXTENDED_VARIANTS }
-{
-    match C::EXTENDED_VARIANTS {
-        Some(variants) => Some(variants.len()),
-        None => None,
-    }
-}
-
 /// The tag by which the alternative at a place goes.
 fn tag_at<C: Choice>(place: Place) -> Tag
-    requires { (index_of place).1 < length (variants_on (index_of place).0 C.VARIANTS C.EXTENDED_VARIANTS) }
-    ensures { slice_get (go_by (variants_on (index_of place).0 C.VARIANTS C.EXTENDED_VARIANTS)) (index_of place).1
+    requires { IsPlaceOf C.VARIANTS C.EXTENDED_VARIANTS place }
+    ensures { slice_get (go_by (variants_on (side_of place) C.VARIANTS C.EXTENDED_VARIANTS)) (index_in place)
         ≡ Some (tag_of result) }
 {
     match place {
@@ -1234,11 +1192,15 @@ impl<'input> decoder::Decoder for Decoder<'input> {
     fn open_choice<C: Choice>(
         &mut self,
     ) -> Result<(Tag, Around<Alternative<'input>>), DecodeError> {
-        self.begin_value()?;
-        let turn = self.turn();
-        let (tag, scope) = self.enter_choice::<C>()?;
-        self.set_turn(Turn::Awaiting(1));
-        Ok((tag, Around { scope, turn }))
+        let (place, outside) = self.begin_alternative(alternative_counts::<C>())?;
+        Ok((tag_at::<C>(place), outside))
+    }
+
+    #[inline(always)]
+    fn open_alternative<C: Choice>(
+        &mut self,
+    ) -> Result<(Place, Around<Alternative<'input>>), DecodeError> {
+        self.begin_alternative(alternative_counts::<C>())
     }
 
     #[inline(always)]

@@ -1,10 +1,8 @@
 //! Scopes as they are entered and left where nothing is counted, and those of records that count their components.
 
 ghost use Rattle.std.specs.Prelude.{◌≡◌, false};
-ghost use Rattle.rasn_schema.specs.Choices.{choices_of};
 ghost use Rattle.rasn_schema.specs.Forms.{is_size_marked, size_of};
 ghost use Rattle.rasn_traits.specs.AdditionsRead.{AdditionOpenedToRead};
-ghost use Rattle.rasn_traits.specs.Choices.{OpenedToChoose};
 ghost use Rattle.rasn_traits.specs.Contents.{OpenedContentsToRead};
 ghost use Rattle.rasn_traits.specs.Lists.{ListOpenedToRead};
 ghost use Rattle.rasn_traits.specs.Optionals.{ReadsBit};
@@ -13,7 +11,7 @@ ghost use Rattle.per_decoding.specs.Rules.{decoder_rules, plain_rules};
 ghost use Rattle.per_decoding.specs.Scopes.{with_outside_record};
 ghost use Rattle.per_decoding.specs.State.{with_turn};
 ghost use Rattle.per_de.specs.InTurn.{GoesOn, LeavesChoice, LeavesOpen, LeavesRecord, OpensCounted, Owes, are_open};
-ghost use Rattle.per_de.specs.InTurn.{closes_in_turn, is_addition_open, is_choice_open, unended_in_turn};
+ghost use Rattle.per_de.specs.InTurn.{closes_in_turn, is_addition_open, unended_in_turn};
 ghost use Rattle.per_de.specs.Lists.{IsOpenList, outer_of};
 ghost use Rattle.per_de.specs.Sources.{flags_in};
 ghost use Rattle.per_de.specs.Steps.{SkipsRest, SkipsUnknown};
@@ -21,13 +19,11 @@ ghost use Rattle.per_de.specs.Turns.{turn_of};
 
 use crate::source::Flags;
 use crate::turns::{Around, Turn};
-use crate::{Addition, Alternative, Decoder, ListScope, OpenedList, Scope, tag_at};
+use crate::{Addition, Alternative, Decoder, ListScope, OpenedList, Scope};
 use per_read::bitmaps::skip_unknown;
 use per_read::error::{DecodeError, DecodeErrorKind};
-use rasn_schema::choices::Choice;
 use rasn_schema::constraints::Constraints;
 use rasn_schema::fields::Constructed;
-use rasn_types::types::Tag;
 use std::mem;
 
 impl<'input> Decoder<'input> {
@@ -81,24 +77,6 @@ impl<'input> Decoder<'input> {
             Some(true) => Ok(Some(self.enter_open_type()?)),
             _ => Ok(None),
         }
-    }
-
-    /// Reads the index of a CHOICE, and enters the open type of an alternative behind the extension marker, whatever
-    /// was counted.
-    #[inline(always)]
-    pub(crate) fn enter_choice<C: Choice>(
-        &mut self,
-    ) -> Result<(Tag, Alternative<'input>), DecodeError>
-        ensures { Owes (OpenedToChoose plain_rules is_choice_open
-            (choices_of C.alternatives C.EXTENDED_VARIANTS C.added) C.VARIANTS C.EXTENDED_VARIANTS
-            self.old result self.new) self.old result self.new }
-    {
-        self.check_unfailed()?;
-        let levels = self.level_inside()?;
-        let place = self.take_index::<C>()?;
-        let scope = self.enter(Scope::without_record(levels));
-        let contents = self.open_alternative(place)?;
-        Ok((tag_at::<C>(place), Alternative { scope, contents }))
     }
 
     /// Leaves an open type of which one value was read, whatever was counted.

@@ -13,7 +13,8 @@ use Rattle.rasn_schema.specs.declared.items.ItemCounts.{ItemCounts}
 use Rattle.rasn_schema.specs.declared.items.Place.{Place}
 use Rattle.rasn_schema.specs.declared.items.Place.TheVariants.{Root, Added}
 use Rattle.rasn_traits.specs.Calls.{Written}
-use Rattle.rasn_traits.specs.Counted.{IsChoiceOf, PassesPlaced, PlacedOpened, index_in, side_of}
+use Rattle.rasn_traits.specs.Choices.{PassesAlternative, index_in, side_of}
+use Rattle.rasn_traits.specs.Counted.{IsChoiceOf, PlacedOpened}
 use Rattle.per_core.specs.Canon.{canon, chosen, extension_bit, members}
 use Rattle.per_core.specs.Counts.{constrained_whole, open_bits, small}
 use Rattle.per_core.specs.Writers.{Writer, ◌▹◌}
@@ -41,7 +42,7 @@ entered_well c (Root k) x i o h = (ap (λ (z : State). z.failed) h.enters.same �
 entered_well c (Added k) x i o h = (ap (λ (z : State). z.failed) h.enters.same ∙ h.written.left, ap (λ (z : State). z.codec) h.enters.same ∙ h.written.same)
 
 -- what passes out of it
-passes : (c : ItemCounts) (p : Place) (x i : Encoding) (o : OutsideChoice) (s : Schema) → IsChoiceOf c s → OpensPlacedOf c p (noting x).writer o i.writer → PassesPlaced encoding_rules s (side_of p) (index_in p) x i
+passes : (c : ItemCounts) (p : Place) (x i : Encoding) (o : OutsideChoice) (s : Schema) → IsChoiceOf c s → OpensPlacedOf c p (noting x).writer o i.writer → PassesAlternative encoding_rules s (side_of p) (index_in p) x i
 passes c p x i o (Schema.choice ps qs marker) k h =
     let w = entered_well c p (noting x).writer i.writer o h in
     record {

@@ -1,8 +1,13 @@
 //! The encoder of types that are data: records by counts, items and alternatives by counts and places.
 
+ghost use Rattle.std.specs.Prelude.{◌≡◌, true};
+ghost use Rattle.rasn_traits.specs.Counted.{OpensPlaced, stands_in};
+ghost use Rattle.per_enc.specs.PlacedChoices.{OpensPlaced as OpensPlacedWithin};
+ghost use Rattle.per_enc.specs.Rules.{encoding_rules};
+
 use crate::Encoder;
 use crate::choices::OutsideChoice;
-use crate::placed::{close_placed, open_placed, put_item};
+use crate::placed::{open_placed, put_item};
 use per_write::error::{EncodeError, EncodeErrorKind};
 use per_write::{EnclosingSet, OutsideAddition, Scope};
 use rasn_schema::items::{ItemCounts, Place};
@@ -11,12 +16,6 @@ use rasn_types::types::{Identifier, Tag};
 use std::alloc::Allocator;
 
 impl<A: Allocator + Clone> CountedEncoder for Encoder<A> {
-    ghost use Rattle.per_enc.specs.PlacedChoices.{OpensPlaced};
-
-    type Placed = (OutsideChoice<A>, EnclosingSet<A>);
-
-    ghost opens_placed = { OpensPlaced };
-
     #[inline(always)]
     fn encode_item(
         &mut self,
@@ -69,27 +68,14 @@ impl<A: Allocator + Clone> CountedEncoder for Encoder<A> {
         self.writer.close_record(fields)
     }
 
-    fn open_alternative(
+    fn open_alternative_of(
         &mut self,
         _tag: Tag,
         alternatives: ItemCounts,
         place: Place,
         _identifier: Identifier,
     ) -> Result<(OutsideChoice<A>, EnclosingSet<A>), EncodeError> {
-        let set = self.begin_outer_value()?;
-        let choice = open_placed(&mut self.writer, alternatives, place)?;
-        self.set = EnclosingSet::awaiting(1);
-        Ok((choice, set))
-    }
-
-    fn close_alternative(
-        &mut self,
-        outside: (OutsideChoice<A>, EnclosingSet<A>),
-    ) -> Result<(), EncodeError> {
-        self.check_scope()?;
-        let (choice, set) = outside;
-        self.set = set;
-        close_placed(&mut self.writer, choice)
+        self.enter_alternative(alternatives, place)
     }
 
     fn close_group_of(
@@ -111,5 +97,23 @@ impl<A: Allocator + Clone> CountedEncoder for Encoder<A> {
     fn refuse_out_of_memory(&mut self) -> Result<(), EncodeError> {
         self.writer.check_unfailed()?;
         Err(self.writer.refuse(EncodeErrorKind::OutOfMemory))
+    }
+}
+
+impl<A: Allocator + Clone> Encoder<A> {
+    /// Opens a CHOICE of so many alternatives to write the one at a place, in which one value is to come.
+    #[inline(always)]
+    pub(crate) fn enter_alternative(
+        &mut self,
+        alternatives: ItemCounts,
+        place: Place,
+    ) -> Result<(OutsideChoice<A>, EnclosingSet<A>), EncodeError>
+        requires { stands_in alternatives place ≡ true }
+        ensures { OpensPlaced encoding_rules OpensPlacedWithin alternatives place self.old result self.new }
+    {
+        let set = self.begin_outer_value()?;
+        let choice = open_placed(&mut self.writer, alternatives, place)?;
+        self.set = EnclosingSet::awaiting(1);
+        Ok((choice, set))
     }
 }

@@ -16,6 +16,7 @@ use crate::choices::{OutsideChoice, checked_place, close_choice, open_choice};
 use crate::dates::put_date;
 use crate::enumerated::put_enumerated;
 use crate::identifiers::put_object_identifier;
+use crate::placed::close_placed;
 use crate::times::{put_generalized_time, put_utc_time};
 pub use options::EncoderOptions;
 use per_bits::BitList;
@@ -26,9 +27,11 @@ use per_write::{EnclosingSet, OutsideAddition, OutsideUnplaced, Scope, Writer};
 use rasn_schema::choices::Choice;
 use rasn_schema::enumerated::Enumerated;
 use rasn_schema::fields::{AdditionGroup, Constructed};
+use rasn_schema::items::Place;
 use rasn_schema::schema::{Constraints, IntegerType};
 use rasn_strings::civil::{CivilDate, GeneralizedMoment, UtcMoment};
 use rasn_strings::strings::StaticPermittedAlphabet;
+use rasn_traits::counted::alternative_counts;
 use rasn_traits::encoder;
 use rasn_types::bit_string::BitString;
 use rasn_types::octet_strings::{Any, GeneralString, GraphicString, TeletexString};
@@ -132,6 +135,7 @@ impl<A: Allocator + Clone> Encoder<A> {
 impl<A: Allocator + Clone> encoder::Encoder for Encoder<A> {
     ghost use Rattle.per_enc.specs.Laws.Relations.{presents_well};
     ghost use Rattle.per_enc.specs.Laws.Sets.{sets_written};
+    ghost use Rattle.per_enc.specs.PlacedChoices.{OpensPlaced};
     ghost use Rattle.per_enc.specs.Scopes.{AwaitsValues, IsOpenBag, IsOpenElements, IsOpenList, IsOpenMembers, Opens};
     ghost use Rattle.per_enc.specs.Scopes.{OpensChoice, OpensContents, OpensFields, OpensOpenType};
 
@@ -158,6 +162,8 @@ impl<A: Allocator + Clone> encoder::Encoder for Encoder<A> {
     ghost opens_addition = { OpensOpenType };
 
     ghost opens_choice = { OpensChoice };
+
+    ghost opens_alternative = { OpensPlaced };
 
     ghost opens_contents = { OpensContents };
 
@@ -493,6 +499,25 @@ impl<A: Allocator + Clone> encoder::Encoder for Encoder<A> {
         let (choice, set) = outside;
         self.set = set;
         close_choice(&mut self.writer, variants.len(), place, choice)
+    }
+
+    fn open_alternative<C: Choice>(
+        &mut self,
+        _tag: Tag,
+        place: Place,
+        _identifier: Identifier,
+    ) -> Result<(OutsideChoice<A>, EnclosingSet<A>), EncodeError> {
+        self.enter_alternative(alternative_counts::<C>(), place)
+    }
+
+    fn close_alternative(
+        &mut self,
+        outside: (OutsideChoice<A>, EnclosingSet<A>),
+    ) -> Result<(), EncodeError> {
+        self.check_scope()?;
+        let (placed, set) = outside;
+        self.set = set;
+        close_placed(&mut self.writer, placed)
     }
 
     fn open_contents(

@@ -7,7 +7,7 @@ ghost use Rattle.std.specs.Prelude.{◌≡◌};
 pub use crate::extents::OpenAhead;
 use crate::path::{Path, Step};
 use crate::trail::{Frame, RecordFrame, Trail};
-use crate::turns::{Elements, counts_of, place_among, step_to};
+use crate::turns::{Elements, place_among, step_to};
 use rasn_schema::choices::Choice;
 use rasn_schema::enumerated::Enumerated;
 use rasn_schema::fields::Constructed;
@@ -15,6 +15,7 @@ use rasn_schema::items::{ItemCounts, Place};
 use rasn_schema::schema::{Constraints, IntegerType};
 use rasn_strings::civil::{CivilDate, GeneralizedMoment, UtcMoment};
 use rasn_strings::strings::StaticPermittedAlphabet;
+use rasn_traits::counted::alternative_counts;
 use rasn_traits::decoder::Decoder;
 use rasn_types::bit_string::BitString;
 use rasn_types::octet_strings::{Any, GeneralString, GraphicString, TeletexString, Utf8String};
@@ -368,7 +369,7 @@ impl<D: Positioned> Decoder for Located<D> {
 
     fn open_choice<C: Choice>(&mut self) -> Result<(Tag, D::Alternative), D::Error> {
         self.trail.begin();
-        let alternatives = counts_of::<C>();
+        let alternatives = alternative_counts::<C>();
         let open = self.inner.alternative_ahead(alternatives);
         let answer = self.inner.open_choice::<C>();
         if let Ok(opened) = &answer {
@@ -378,6 +379,19 @@ impl<D: Positioned> Decoder for Located<D> {
                 None => None,
             };
             self.enter_alternative(step_to::<C>(among), place, open);
+        }
+        self.seen(answer)
+    }
+
+    fn open_alternative<C: Choice>(&mut self) -> Result<(Place, D::Alternative), D::Error> {
+        self.trail.begin();
+        let alternatives = alternative_counts::<C>();
+        let open = self.inner.alternative_ahead(alternatives);
+        let answer = self.inner.open_alternative::<C>();
+        if let Ok(opened) = &answer {
+            let place = opened.0;
+            let among = Some(place_among(alternatives, place));
+            self.enter_alternative(step_to::<C>(among), Some(place), open);
         }
         self.seen(answer)
     }

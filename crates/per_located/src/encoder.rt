@@ -5,14 +5,16 @@ mod counted;
 ghost use Rattle.std.specs.Prelude.{◌≡◌};
 
 use crate::path::Path;
-use crate::turns::Elements;
+use crate::turns::{Elements, place_among, step_to};
 use crate::write_trail::{ChoiceFrame, Frame, RecordFrame, WriteTrail};
 use rasn_schema::choices::Choice;
 use rasn_schema::enumerated::Enumerated;
 use rasn_schema::fields::{AdditionGroup, Constructed};
+use rasn_schema::items::Place;
 use rasn_schema::schema::{Constraints, IntegerType};
 use rasn_strings::civil::{CivilDate, GeneralizedMoment, UtcMoment};
 use rasn_strings::strings::StaticPermittedAlphabet;
+use rasn_traits::counted::alternative_counts;
 use rasn_traits::encoder::Encoder;
 use rasn_types::bit_string::BitString;
 use rasn_types::octet_strings::{Any, GeneralString, GraphicString, TeletexString};
@@ -127,6 +129,8 @@ impl<E: Encoder + Drop> Encoder for Located<E> {
     ghost opens_addition = { E.opens_addition };
 
     ghost opens_choice = { E.opens_choice };
+
+    ghost opens_alternative = { E.opens_alternative };
 
     ghost opens_contents = { E.opens_contents };
 
@@ -456,6 +460,23 @@ impl<E: Encoder + Drop> Encoder for Located<E> {
     ) -> Result<(), E::Error> {
         self.trail.pause();
         let answer = self.inner.close_choice::<C>(alternative, chosen);
+        self.left(answer)
+    }
+
+    fn open_alternative<C: Choice>(
+        &mut self,
+        tag: Tag,
+        place: Place,
+        identifier: Identifier,
+    ) -> Result<E::Alternative, E::Error> {
+        self.trail.begin(tag);
+        let answer = self.inner.open_alternative::<C>(tag, place, identifier);
+        let among = place_among(alternative_counts::<C>(), place);
+        self.entered(answer, Frame::Alternative(step_to::<C>(Some(among))))
+    }
+
+    fn close_alternative(&mut self, alternative: E::Alternative) -> Result<(), E::Error> {
+        let answer = self.inner.close_alternative(alternative);
         self.left(answer)
     }
 

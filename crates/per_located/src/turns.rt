@@ -119,19 +119,6 @@ impl Elements {
     }
 }
 
-/// How many alternatives a choice has.
-pub(crate) fn counts_of<C: Choice>() -> ItemCounts {
-    let variants = C::VARIANTS;
-    let addeds = match C::EXTENDED_VARIANTS {
-        Some(variants) => Some(variants.len()),
-        None => None,
-    };
-    ItemCounts {
-        roots: variants.len(),
-        addeds,
-    }
-}
-
 /// The place of an alternative among all of them, those behind the extension marker last.
 pub(crate) fn place_among(alternatives: ItemCounts, place: Place) -> usize {
     match place {

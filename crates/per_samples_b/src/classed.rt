@@ -50,12 +50,16 @@ impl Alternatives for Classed {
 }
 
 impl CodedAlternatives for Classed {
-    fn encode_alternative<E: Encoder>(&self, encoder: &mut E) -> Result<Tag, E::Error> {
+    fn place(&self) -> Place {
+        alternatives!(place_of_alternative self)
+    }
+
+    fn encode_alternative<E: Encoder>(&self, encoder: &mut E) -> Result<(), E::Error> {
         alternatives!(encode_own_alternative self encoder)
     }
 
-    fn decode_alternative<D: Decoder>(decoder: &mut D, tag: Tag) -> Result<Self, D::Error> {
-        alternatives!(decode_own_alternative decoder tag)
+    fn decode_alternative<D: Decoder>(decoder: &mut D, place: Place) -> Result<Self, D::Error> {
+        alternatives!(decode_own_alternative decoder place)
     }
 }
 

@@ -193,7 +193,7 @@ fn put_counted<E: CountedEncoder>(encoder: &mut E, part: Counted) -> Result<(), 
                 roots: 1,
                 addeds: None,
             };
-            let outside = encoder.open_alternative(Tag::EOC, alone, Place::Root(0), NONE)?;
+            let outside = encoder.open_alternative_of(Tag::EOC, alone, Place::Root(0), NONE)?;
             put_truths(encoder, count)?;
             encoder.close_alternative(outside)
         }

@@ -25,8 +25,8 @@
 //! 1 "b" B: bool [];
 //! ```
 //!
-//! `variants`, `tags_of_choice`, `alternative_bounds`, `encode_alternative` and `decode_alternative` are for authors.
-//! What the others write is part of these.
+//! `variants`, `tags_of_choice`, `alternative_bounds`, `place_of_alternative`, `encode_alternative` and
+//! `decode_alternative` are for authors. What the others write is part of these.
 
 /// The tags and names of the alternatives of a list, as `VariantLists`.
 #[macro_export]
@@ -118,7 +118,36 @@ macro_rules! alternative_bounds_in_turn {
     ($root:tt $done:tt $($list:tt)*) => { $crate::wrong_alternative!($($list)*) };
 }
 
-/// Writes the alternative of a list that is chosen. Their constraints are in the constant `BOUNDS`.
+/// Where the alternative of a list stands that is chosen.
+#[macro_export]
+macro_rules! place_of_alternative {
+    ([$of:ident] $($list:tt)*) => { $crate::with_places!(places_of_alternatives Root [$of]; $($list)*) };
+}
+
+/// The alternatives of a list and where each stands, behind those that are done.
+#[macro_export]
+macro_rules! places_of_alternatives {
+    ($places:tt $side:ident [$of:ident $($done:tt)*];) => { match $of { $($done)* } };
+    ($places:tt $side:ident $done:tt; ...; $($rest:tt)*) => {
+        $crate::with_places!(places_of_alternatives Added $done; $($rest)*)
+    };
+    ([$place:literal $($places:tt)*] $side:ident [$of:ident $($done:tt)*];
+        $tag:tt $(of $tree:ident)? $name:literal $variant:ident; $($rest:tt)*
+    ) => {
+        $crate::places_of_alternatives!([$($places)*] $side [$of $($done)*
+            Self::$variant => $crate::Place::$side($place),
+        ]; $($rest)*)
+    };
+    ([$place:literal $($places:tt)*] $side:ident [$of:ident $($done:tt)*];
+        $tag:tt $(of $tree:ident)? $name:literal $variant:ident: $type:ty [$($bounds:tt)*]; $($rest:tt)*
+    ) => {
+        $crate::places_of_alternatives!([$($places)*] $side [$of $($done)*
+            Self::$variant(_) => $crate::Place::$side($place),
+        ]; $($rest)*)
+    };
+}
+
+/// Writes the value of the alternative of a list that is chosen. Their constraints are in the constant `BOUNDS`.
 #[macro_export]
 macro_rules! encode_alternative {
     ([$of:ident $encoder:ident] $($list:tt)*) => {{
@@ -128,21 +157,12 @@ macro_rules! encode_alternative {
     }};
 }
 
-/// Reads the alternative of a list that goes by a tag. Their constraints are in the constant `BOUNDS`.
+/// Reads the alternative of a list that stands at a place. Their constraints are in the constant `BOUNDS`.
 #[macro_export]
 macro_rules! decode_alternative {
-    ([$decoder:ident $by:ident] $(
-        $tag:literal $name:literal $variant:ident $(: $type:ty [$($bounds:tt)*])?;
-    )*) => {{
+    ([$decoder:ident $place:ident] $($list:tt)*) => {{
         let limits = BOUNDS;
-        let place = $crate::by_place::place_before::<Self>($by);
-        $crate::with_places!(alternatives_to_read read [$decoder $by limits place];
-            $($tag $name $variant $(: $type [$($bounds)*])?;)*
-        )
-    }};
-    ([$decoder:ident $by:ident] $($list:tt)*) => {{
-        let limits = BOUNDS;
-        $crate::marked_alternatives_to_read!([$decoder $by limits] []; $($list)*)
+        $crate::alternatives_on_sides!([$decoder $place limits] []; $($list)*)
     }};
 }
 
@@ -180,54 +200,52 @@ macro_rules! alternatives_to_write {
     };
 }
 
-/// The alternatives to read of one side of a marker, or of a list without one, behind those that are done.
+/// The alternatives to read of a list, by the side of the marker on which one stands, behind those before it.
 #[macro_export]
-macro_rules! alternatives_to_read {
-    ([$last:literal $($places:tt)*] $read:ident
-        [$decoder:ident $by:ident $limits:ident $place:ident $($done:tt)*];
-        $tag:literal $name:literal $variant:ident $(: $type:ty [$($bounds:tt)*])?;
-    ) => {
-        match $place {
-            $($done)*
-            _ => {
-                $crate::by_place::is_last($place, $last);
-                $crate::alternative_to_read!($decoder $by $limits $read $last $variant $($type)?)
-            }
-        }
-    };
-    ([$next:literal $($places:tt)*] $read:ident
-        [$decoder:ident $by:ident $limits:ident $place:ident $($done:tt)*];
-        $tag:literal $name:literal $variant:ident $(: $type:ty [$($bounds:tt)*])?; $($rest:tt)+
-    ) => {
-        $crate::alternatives_to_read!([$($places)*] $read [$decoder $by $limits $place
-            $($done)*
-            $next => $crate::alternative_to_read!($decoder $by $limits $read $next $variant $($type)?),
-        ]; $($rest)+)
-    };
-}
-
-/// The alternatives to read of a list with a marker, behind those before it.
-#[macro_export]
-macro_rules! marked_alternatives_to_read {
-    ([$decoder:ident $by:ident $limits:ident] [$($root:tt)*]; ...;) => {{
-        let place = $crate::by_place::place_before::<Self>($by);
-        $crate::with_places!(alternatives_to_read read [$decoder $by $limits place]; $($root)*)
+macro_rules! alternatives_on_sides {
+    ([$decoder:ident $place:ident $limits:ident] [$($root:tt)+]; $(...;)?) => {{
+        let index = $crate::by_place::index_before::<Self>($place);
+        $crate::with_places!(alternatives_to_read read [$decoder $limits index]; $($root)+)
     }};
-    ([$decoder:ident $by:ident $limits:ident] [$($root:tt)*]; ...; $($added:tt)+) => {
-        match $crate::by_place::stands_at::<Self>($by) {
-            $crate::Place::Root(place) => {
-                $crate::with_places!(alternatives_to_read read [$decoder $by $limits place]; $($root)*)
+    ([$decoder:ident $place:ident $limits:ident] [$($root:tt)+]; ...; $($added:tt)+) => {
+        match $place {
+            $crate::Place::Root(index) => {
+                $crate::with_places!(alternatives_to_read read [$decoder $limits index]; $($root)+)
             }
-            $crate::Place::Added(place) => {
-                $crate::with_places!(alternatives_to_read read_behind [$decoder $by $limits place]; $($added)+)
+            $crate::Place::Added(index) => {
+                $crate::with_places!(alternatives_to_read read_behind [$decoder $limits index]; $($added)+)
             }
         }
     };
     ($with:tt [$($root:tt)*];
-        $tag:literal $name:literal $variant:ident $(: $type:ty [$($bounds:tt)*])?; $($rest:tt)+
+        $tag:tt $(of $tree:ident)? $name:literal $variant:ident $(: $type:ty [$($bounds:tt)*])?; $($rest:tt)*
     ) => {
-        $crate::marked_alternatives_to_read!($with [
-            $($root)* $tag $name $variant $(: $type [$($bounds)*])?;
+        $crate::alternatives_on_sides!($with [
+            $($root)* $tag $(of $tree)? $name $variant $(: $type [$($bounds)*])?;
+        ]; $($rest)*)
+    };
+}
+
+/// The alternatives to read of one side of a marker, or of a list without one, behind those that are done.
+#[macro_export]
+macro_rules! alternatives_to_read {
+    ([$last:literal $($places:tt)*] $read:ident [$decoder:ident $limits:ident $index:ident $($done:tt)*];
+        $tag:tt $(of $tree:ident)? $name:literal $variant:ident $(: $type:ty [$($bounds:tt)*])?;
+    ) => {
+        match $index {
+            $($done)*
+            _ => {
+                $crate::by_place::is_last($index, $last);
+                $crate::alternative_to_read!($decoder $tag $limits $read $last $variant $($type)?)
+            }
+        }
+    };
+    ([$next:literal $($places:tt)*] $read:ident [$decoder:ident $limits:ident $index:ident $($done:tt)*];
+        $tag:tt $(of $tree:ident)? $name:literal $variant:ident $(: $type:ty [$($bounds:tt)*])?; $($rest:tt)+
+    ) => {
+        $crate::alternatives_to_read!([$($places)*] $read [$decoder $limits $index
+            $($done)*
+            $next => $crate::alternative_to_read!($decoder $tag $limits $read $next $variant $($type)?),
         ]; $($rest)+)
     };
 }
@@ -235,12 +253,12 @@ macro_rules! marked_alternatives_to_read {
 /// The alternative at a place, to read, by a function for those before the marker or behind it.
 #[macro_export]
 macro_rules! alternative_to_read {
-    ($decoder:ident $by:ident $limits:ident $read:ident $place:literal $variant:ident) => {{
-        $crate::by_place::$read::<(), _>($decoder, $by, $limits, $place)?;
+    ($decoder:ident $tag:tt $limits:ident $read:ident $place:literal $variant:ident) => {{
+        $crate::by_place::$read::<(), _>($decoder, $crate::own_tag!($tag), $limits, $place)?;
         Ok(Self::$variant)
     }};
-    ($decoder:ident $by:ident $limits:ident $read:ident $place:literal $variant:ident $type:ty) => {{
-        let value = $crate::by_place::$read::<$type, _>($decoder, $by, $limits, $place)?;
+    ($decoder:ident $tag:tt $limits:ident $read:ident $place:literal $variant:ident $type:ty) => {{
+        let value = $crate::by_place::$read::<$type, _>($decoder, $crate::own_tag!($tag), $limits, $place)?;
         Ok(Self::$variant(value))
     }};
 }

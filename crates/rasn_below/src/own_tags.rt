@@ -18,8 +18,8 @@
 //! }
 //! ```
 //!
-//! `own_variants`, `own_tags_of_choice`, `own_alternative_bounds`, `encode_own_alternative` and
-//! `decode_own_alternative` are for authors. What the others write is part of these.
+//! `own_variants`, `own_tags_of_choice`, `own_alternative_bounds` and `encode_own_alternative` are for authors, beside
+//! `place_of_alternative` and `decode_own_alternative`. What the others write is part of these.
 
 ghost use Rattle.std.specs.Prelude.{◌≡◌, true};
 ghost use Rattle.rasn_schema.specs.Choices.{go_by};
@@ -62,12 +62,10 @@ macro_rules! encode_own_alternative {
     }};
 }
 
-/// Reads the alternative of a list that goes by a tag. Their constraints are in the constant `BOUNDS`.
+/// Reads the alternative of a list that stands at a place. Their constraints are in the constant `BOUNDS`.
 #[macro_export]
 macro_rules! decode_own_alternative {
-    ([$decoder:ident $by:ident] $($list:tt)*) => {
-        $crate::without_tags!(decode_alternative [$decoder $by] []; $($list)*)
-    };
+    ($with:tt $($list:tt)*) => { $crate::decode_alternative!($with $($list)*) };
 }
 
 /// A tag: a context-specific one by its number, one of another class as ASN.1 writes it, as `[APPLICATION 1]`, or one

@@ -15,6 +15,6 @@ pub use crate::{
     bounds, constraints, decode_alternative, decode_components, decode_each_component,
     decode_own_alternative, decode_set_components, encode_alternative, encode_components,
     encode_each_component, encode_own_alternative, encode_set_components, fields, item_at,
-    item_lists, own_alternative_bounds, own_tags_of_choice, own_variants, place_of_item,
-    tags_of_choice, variants,
+    item_lists, own_alternative_bounds, own_tags_of_choice, own_variants, place_of_alternative,
+    place_of_item, tags_of_choice, variants,
 };

@@ -1,3 +1,4 @@
 pub mod Decoded
 pub mod Elements
 pub mod Contained
+mod FirstPlace

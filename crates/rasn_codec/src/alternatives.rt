@@ -2,36 +2,46 @@
 
 ghost use Rattle.rasn_schema.specs.Choices.{choices_of};
 ghost use Rattle.rasn_schema.specs.Components.{added_parts, chosen_value, root_parts};
-ghost use Rattle.rasn_schema.specs.Fields.{tag_of};
-ghost use Rattle.rasn_traits.specs.Choices.{TakesAlternative, WritesChosen};
+ghost use Rattle.rasn_traits.specs.Choices.{IsPlaceOf, StandsAtPlace, TakesAt, WritesChosen};
 
-use crate::codec::{Decoder, DecoderExt, Encoder, FromTag};
+use crate::codec::{Decoder, Encoder, FromTag};
 use crate::kinds::{DecodeKind, EncodeKind};
 use rasn_schema::alternatives::{Alternatives, ChoiceKind};
+use rasn_schema::choices::Choice;
+use rasn_schema::items::Place;
 use rasn_schema::kinds::OfKind;
-use rasn_schema::schema::Constraints;
 use rasn_types::types::{Identifier, Tag};
 
 /// The alternatives of a CHOICE that can be encoded and decoded.
 pub trait CodedAlternatives: Alternatives + Sized + Drop {
-    /// Writes the value of the alternative, and answers the tag that this goes by.
-    fn encode_alternative<E: Encoder>(&self, encoder: &mut E) -> Result<Tag, E::Error>
+    /// Where the alternative stands.
+    fn place(&self) -> Place
+        ensures { StandsAtPlace Self.ALTERNATIVES.before Self.ALTERNATIVES.behind (Self.chosen self.now) result };
+
+    /// Writes the value of the alternative.
+    fn encode_alternative<E: Encoder>(&self, encoder: &mut E) -> Result<(), E::Error>
         ensures { WritesChosen E.rules
             (choices_of (root_parts Self.alternatives.0) Self.ALTERNATIVES.behind (added_parts Self.alternatives.0))
-            Self.ALTERNATIVES.before Self.ALTERNATIVES.behind (Self.chosen self.now) (Self.depth self.now)
-            encoder.old result encoder.new };
+            (Self.chosen self.now) (Self.depth self.now) encoder.old result encoder.new };
 
-    /// Reads the alternative that goes by a tag. The tag is one of `ALTERNATIVES`.
-    fn decode_alternative<D: Decoder>(decoder: &mut D, tag: Tag) -> Result<Self, D::Error>
-        ensures { TakesAlternative D.rules
+    /// Reads the alternative at a place.
+    fn decode_alternative<D: Decoder>(decoder: &mut D, place: Place) -> Result<Self, D::Error>
+        requires { IsPlaceOf Self.ALTERNATIVES.before Self.ALTERNATIVES.behind place }
+        ensures { TakesAt D.rules
             (choices_of (root_parts Self.alternatives.0) Self.ALTERNATIVES.behind (added_parts Self.alternatives.0))
-            Self.ALTERNATIVES.before Self.ALTERNATIVES.behind (tag_of tag) (λ x. chosen_value (Self.chosen x))
-            decoder.old result decoder.new };
+            place (λ x. chosen_value (Self.chosen x)) decoder.old result decoder.new };
 }
 
 impl<T: CodedAlternatives + OfKind<Kind = ChoiceKind>> FromTag for T {
     fn from_tag<D: Decoder>(decoder: &mut D, tag: Tag) -> Result<T, D::Error> {
-        T::decode_alternative(decoder, tag)
+        let added = T::EXTENDED_VARIANTS;
+        match T::VARIANTS.place_of(&added, tag) {
+            Some(place) => T::decode_alternative(decoder, place),
+            None => {
+                decoder.decode_null(tag)?;
+                Err(decoder.required_extension_not_present(tag))
+            }
+        }
     }
 }
 
@@ -42,14 +52,21 @@ impl<T: CodedAlternatives + OfKind<Kind = ChoiceKind>> EncodeKind<T> for ChoiceK
         tag: Tag,
         identifier: Identifier,
     ) -> Result<(), E::Error> {
-        let outside = encoder.open_choice::<T>(tag, identifier)?;
-        let chosen = value.encode_alternative(encoder)?;
-        encoder.close_choice::<T>(outside, chosen)
+        let place = value.place();
+        let outside = encoder.open_alternative::<T>(tag, place, identifier)?;
+        value.encode_alternative(encoder)?;
+        encoder.close_alternative(outside)
     }
 }
 
 impl<T: CodedAlternatives + OfKind<Kind = ChoiceKind>> DecodeKind<T> for ChoiceKind {
     fn decode_value<D: Decoder>(decoder: &mut D, _: Tag) -> Result<T, D::Error> {
-        decoder.decode_choice(&Constraints::NONE)
+        let (place, outside) = decoder.open_alternative::<T>()?;
+        let decoded = T::decode_alternative(decoder, place);
+        if decoded.is_err() {
+            return decoded;
+        }
+        decoder.close_choice(outside)?;
+        decoded
     }
 }

@@ -16,8 +16,8 @@ use Rattle.rasn_schema.specs.declared.items.ItemCounts.{ItemCounts}
 use Rattle.rasn_schema.specs.declared.items.Place.{Place}
 use Rattle.rasn_schema.specs.declared.items.Place.TheVariants.{Root, Added}
 use Rattle.rasn_traits.specs.Calls.{DecoderRules, DecodesWell, EncoderRules, Refuses, Written}
-use Rattle.rasn_traits.specs.Choices.{ChoicesWell}
-use Rattle.rasn_traits.specs.Counted.{ClosesPlaced, index_in, is_of_kind, IsChoiceOf, PassesPlaced, side_of, stands_in}
+use Rattle.rasn_traits.specs.Choices.{ChoicesWell, ClosesAlternative, PassesAlternative}
+use Rattle.rasn_traits.specs.Counted.{index_in, is_of_kind, IsChoiceOf, side_of, stands_in}
 use Rattle.rasn_traits.proofs.Alternatives.{normal-alternative}
 use Rattle.rasn_traits.proofs.Writing.{at_suc}
 use Rattle.rasn_dynamic.specs.declared.types.Alternative.{Alternative}
@@ -104,13 +104,13 @@ module _ {E X : Type 0} (rules : EncoderRules E X) (choice s : ℕ → Schema) (
   choice_unopened counts of x y e (inr h) = at_suc (λ n le. rw (normal-alternative (choice n) d k (s n) v (there n)) (inr (h (choice n) (normal (s n) v) (of n))))
 
   -- a choice whose alternative is refused
-  pub placed_refused : (x i j y : X) (e : E) → ((n : ℕ) → PassesPlaced rules (choice n) d k x i) → AtDepths s depth (λ c. Written rules c (normal c v) i (Err e) j)
+  pub placed_refused : (x i j y : X) (e : E) → ((n : ℕ) → PassesAlternative rules (choice n) d k x i) → AtDepths s depth (λ c. Written rules c (normal c v) i (Err e) j)
       → AtDepths (one_level_in choice) (suc depth) (λ c. Written rules c (normal c (alternative d k v)) x (Err e) y)
   placed_refused x i j y e h w = at_suc (λ n le. rw (normal-alternative (choice n) d k (s n) v (there n)) (elim (w.at n le) [ inl m ↦ inl ((h n).room e m) | inr q ↦ inr ((h n).of_choice e (s n) (normal (s n) v) (there n) q) ]))
 
   -- a choice whose alternative was presented
   pub placed_closed : {O : Type 0} (opens : Schema → Side → ℕ → X → O → X → Type 0) (x i j : X) (o : O) (u : Unit {0}) → ((n : ℕ) → opens (choice n) d k x o i) → AtDepths s depth (λ c. Written rules c (normal c v) i (Ok u) j)
-      → (r : Result (Unit {0}) E) (y : X) → ClosesPlaced rules opens o j r y → AtDepths (one_level_in choice) (suc depth) (λ c. Written rules c (normal c (alternative d k v)) x r y)
+      → (r : Result (Unit {0}) E) (y : X) → ClosesAlternative rules opens o j r y → AtDepths (one_level_in choice) (suc depth) (λ c. Written rules c (normal c (alternative d k v)) x r y)
   placed_closed opens x i j o u h w r y f = at_suc (λ n le. rw (normal-alternative (choice n) d k (s n) v (there n)) (f.law x i (choice n) d k (s n) (normal (s n) v) (h n) (there n) (w.at n le)))
 
 -- a choice, as the calls of a decoder read it

@@ -404,7 +404,7 @@ fn decode_choice<D: CountedDecoder>(
         decoder.old result decoder.new }
 {
     let counts = choice.counts();
-    let (place, outside) = decoder.open_alternative(Tag::EOC, counts)?;
+    let (place, outside) = decoder.open_alternative_of(Tag::EOC, counts)?;
     let value = decode_chosen(decoder, kinds, choice, place)?;
     decoder.close_choice(outside)?;
     Ok(Value::Alternative(place, value))

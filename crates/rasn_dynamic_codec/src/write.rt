@@ -426,14 +426,14 @@ fn open_chosen<E: CountedEncoder>(
     encoder: &mut E,
     choice: &Choice,
     place: Place,
-) -> Result<Option<(usize, E::Placed)>, E::Error>
-    ensures { OpensChosen E.rules E.opens_placed choice.now place encoder.old result encoder.new }
+) -> Result<Option<(usize, E::Alternative)>, E::Error>
+    ensures { OpensChosen E.rules E.opens_alternative choice.now place encoder.old result encoder.new }
 {
     let Some(alternative) = choice.at(place) else {
         return Ok(None);
     };
     let counts = choice.counts();
-    let outside = encoder.open_alternative(Tag::EOC, counts, place, Identifier::EMPTY)?;
+    let outside = encoder.open_alternative_of(Tag::EOC, counts, place, Identifier::EMPTY)?;
     Ok(Some((alternative.of, outside)))
 }
 

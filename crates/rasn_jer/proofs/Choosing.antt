@@ -10,14 +10,14 @@ use Rattle.rasn_schema.specs.Records.{record_at}
 use Rattle.rasn_schema.specs.Schemas.{group, listed, Presence, Schema, Parts}
 use Rattle.rasn_traits.specs.Additions.{addition_bit, AdditionClosed, AdditionOpened}
 use Rattle.rasn_traits.specs.Calls.{Written}
-use Rattle.rasn_traits.specs.Choices.{OpenedChoice}
+use Rattle.rasn_traits.specs.Choices.{OpenedAlternative, OpenedChoice}
 use Rattle.json.specs.Json.{Json, object, Members, no_members, member}
 use Rattle.rasn_jer.proofs.Refusing.{bit_there, not_outside}
 use Rattle.rasn_jer.proofs.Writing.{leaf, over_ok}
 use Rattle.rasn_jer.specs.Laws.Relations.{unrefused}
 use Rattle.rasn_jer.specs.Laws.Vacant.{written_busy}
 use Rattle.rasn_jer.specs.Places.{behind, behind_all, inside, is_complete, is_full, past_added, Place, State, unfailed_at, vacant_place, with_addition, with_group, with_value}
-use Rattle.rasn_jer.specs.Rules.{AddedSo, EntersPlace, IsOutside, IsRefused, IsUnclosed, jer_rules, Opens, OpensAddition, Presents, Stays, WritesText}
+use Rattle.rasn_jer.specs.Rules.{AddedSo, EntersChoice, EntersPlace, IsOutside, IsRefused, IsUnclosed, jer_rules, Opens, OpensAddition, Presents, Stays, WritesText}
 use Rattle.rasn_jer.specs.Shown.{in_alternative, IsString, IsThere, is_present, is_required, Shows, shows_contents, shows_alternative, shows_any, shows_bag, shows_bits, shows_item, shows_list, shows_nothing, shows_octets, shows_ordered, shows_record, shows_string, shows_truth, shows_whole}
 use Rattle.rasn_jer.specs.Shown.{addition_left_out, addition_spread, addition_there, additions_end, part_left_out, part_there, parts_end, ShowsAdditions, ShowsParts}
 use Rattle.rasn_jer.specs.Texts.{enclosed, member_text, text_of}
@@ -67,24 +67,26 @@ state_of p f = record { place = p; failed = f }
 pub back : (o : Place) (x : State) → o ≡ x.place → x.failed ≡ false → unfailed_at o ≡ x
 back o x w b = ap₂ state_of w (sym b)
 
+-- what passes out of a choice that is open
+passes : (x i : State) (e : EncodeError) (s : Schema) (v : Value) (ps qs : Parts) (marker : Bool) (d : Side) (k : ℕ) → i ≡ inside Kinds.One → alternative_in (choice_schema ps marker qs) d k ≡ Some s
+    → jer_rules.refuses e i s v → jer_rules.refuses e x (choice_schema ps marker qs) (alternative d k v)
+passes x i e s v ps qs marker d k w a q = elim q [
+  | inl z ↦ absurd (unrefused e i (ap (λ (z : State). z.failed) w) (ap (λ (z : State). is_full z.place) w) z)
+  | inr z ↦ inr (in_alternative a z)
+]
+
 -- a choice is opened
-pub choice_opened : (alternatives behind_it : ℕ → Parts) (marker : Bool) {E : Type 0} (place : Result Place E) (x : State) (r : Result Place EncodeError) (y : State)
-    → EntersPlace place x r y → IfOk place (λ p. p ≡ vacant_place Kinds.One)
-    → OpenedChoice jer_rules (λ s. Opens Kinds.One) (λ n. choice_schema (alternatives n) marker (behind_it n)) x r y
-choice_opened alternatives behind_it marker (Ok p) x (Ok o) y w h = λ n.
-    let within : y ≡ inside Kinds.One = w.entered.2 ∙ ap unfailed_at h in (
-      record { begun = w.entered.0; outer = w.entered.1; within = within },
-      record {
-        room = λ e m. m;
-        of_choice = λ e d k s v a q. elim q [
-          | inl z ↦ absurd (unrefused e y (ap (λ (z : State). z.failed) within) (ap (λ (z : State). is_full z.place) within) z)
-          | inr z ↦ inr (in_alternative a z)
-        ];
-      },
-    )
-choice_opened alternatives behind_it marker (Err n) x (Ok o) y w h = absurd w.entered
-choice_opened alternatives behind_it marker (Ok p) x (Err e) y w h = elim w.entered [ inl m ↦ inl m | inr q ↦ inr (λ n v. inl (subst (λ (z : EncodeError). IsRefused z x) (sym q.0) q.1)) ]
-choice_opened alternatives behind_it marker (Err n) x (Err e) y w h = elim w.entered [ inl m ↦ inl m | inr q ↦ inr (λ n v. inl (subst (λ (z : EncodeError). IsRefused z x) (sym q.0) q.1)) ]
+module _ (alternatives behind_it : ℕ → Parts) (marker : Bool) {N : Type 0} (x : State) where
+  pub choice_opened : (r : Result (Place × N) EncodeError) (y : State) → EntersChoice x r y
+      → OpenedChoice jer_rules (λ (s : Schema) (z : State) (o : Place × N) (i : State). Opens Kinds.One z o.0 i) (λ n. choice_schema (alternatives n) marker (behind_it n)) x r y
+  choice_opened (Ok o) y w = λ n. (w.opened, record { room = λ e m. m; of_choice = λ e d k s v a q. passes x y e s v (alternatives n) (behind_it n) marker d k w.opened.within a q })
+  choice_opened (Err e) y w = elim w.err [ inl m ↦ inl m | inr q ↦ inr (λ n v. inl (subst (λ (z : EncodeError). IsRefused z x) (sym q.0) q.1)) ]
+
+  -- to write the alternative at a place
+  pub alternative_opened : (d : Side) (k : ℕ) (r : Result (Place × N) EncodeError) (y : State) → EntersChoice x r y
+      → OpenedAlternative jer_rules (λ (s : Schema) (d : Side) (k : ℕ) (z : State) (o : Place × N) (i : State). Opens Kinds.One z o.0 i) (λ n. choice_schema (alternatives n) marker (behind_it n)) d k x r y
+  alternative_opened d k (Ok o) y w = λ n. (w.opened, record { room = λ e m. m; of_choice = λ e s v a q. passes x y e s v (alternatives n) (behind_it n) marker d k w.opened.within a q })
+  alternative_opened d k (Err e) y w = elim w.err [ inl m ↦ inl m | inr q ↦ inr (λ n v. inl (subst (λ (z : EncodeError). IsRefused z x) (sym q.0) q.1)) ]
 
 -- the text of an object of one member
 one_member : (name t : List ℕ) (j : Json) → t ≡ text_of j → enclosed 123 (member_text name t) 125 ≡ text_of (object (member name j no_members))
@@ -106,6 +108,14 @@ choice_closed ps qs marker d k s v x i j m o p text items r y h a w e f t q =
       shows = shows_alternative a one.shows;
     })) in
     subst (λ (z : State). Written jer_rules (choice_schema ps marker qs) (alternative d k v) z r y) outside written.law
+
+-- of whatever schema
+pub alternative_closed : {T E : Type 0} (c : Schema) (d : Side) (k : ℕ) (s : Schema) (v : Value) (x i j m : State) (o p : Place) (text : Result T E) (items : T → List ℕ) (r : Result (Unit {0}) EncodeError) (y : State)
+    → Opens Kinds.One x o i → alternative_in c d k ≡ Some s → Presents i s v j
+    → p ≡ j.place → m ≡ unfailed_at o → IfOk text (λ t. (name : List ℕ) × (items t ≡ enclosed 123 (member_text name p.text) 125))
+    → WritesText text items m r y → Written jer_rules c (alternative d k v) x r y
+alternative_closed (Schema.choice ps qs marker) d k s v x i j m o p text items r y h a w e f t q = choice_closed ps qs marker d k s v x i j m o p text items r y h a w e f t q
+alternative_closed _ d k s v x i j m o p text items r y h a w e f t q = absurd cc
 
 pub choice_unclosed : (s : Schema) (v : Value) (i j : State) (e : EncodeError) → i ≡ inside Kinds.One → Presents i s v j → IsUnclosed Kinds.One false j e → ⊥
 choice_unclosed s v i j e h w q = let a = alone i j s v h w in never_unclosed e Kinds.One j a.unfailed a.kind a.complete q

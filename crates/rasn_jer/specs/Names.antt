@@ -8,6 +8,8 @@ use Rattle.rasn_schema.specs.Choices.{place_of, VariantShape, variants_behind}
 use Rattle.rasn_schema.specs.Fields.{Shape, shape_of}
 use Rattle.rasn_schema.specs.Schemas
 use Rattle.rasn_schema.specs.declared.fields.Field.{Field}
+use Rattle.rasn_schema.specs.declared.items.Place.{Place}
+use Rattle.rasn_schema.specs.declared.items.Place.TheVariants.{Root, Added}
 use Rattle.json.specs.Json.{Json, number, string}
 use Rattle.rasn_jer.specs.declared.error.EncodeError.{EncodeError}
 use Rattle.rasn_jer.specs.declared.error.EncodeError.TheVariants.{AlreadyFailed, NoJson, OutOfMemory, OutOfTurn}
@@ -60,9 +62,19 @@ pub record IdentifierOf (names : List (List ℕ)) (t : Schemas.Tag) (vs : List V
   pub of_root : (k : ℕ) → place_of t vs ≡ Some k → name ≡ slice_get names k
   pub of_added : (k : ℕ) → place_of t (variants_behind xs) ≡ Some k → name ≡ slice_get names (length vs + k)
 
+-- a name is an identifier, where there is one
+abbrev pub IsNameBy : Option (List ℕ) → List ℕ → Type 0
+IsNameBy found name = (s : List ℕ) → found ≡ Some s → name ≡ s
+
 -- X.697: an alternative goes by its identifier, where the type gives one
 pub record NamesAlternative (names : List (List ℕ)) (t : Schemas.Tag) (vs : List VariantShape)
     (xs : Option (List VariantShape)) (name : List ℕ) : Type 0 where
   pub found : Option (List ℕ)
   pub is_found : IdentifierOf names t vs xs found
-  pub named : (s : List ℕ) → found ≡ Some s → name ≡ s
+  pub named : IsNameBy found name
+
+-- X.680 29.1: the number of the alternative at a place: those before the extension marker count from 0, and those
+-- behind it go on
+abbrev pub number_of_place : ℕ → Place → ℕ
+number_of_place roots (Root k) = k
+number_of_place roots (Added k) = roots + k

@@ -189,6 +189,12 @@ pub record EntersPlace {E : Type 0} (place : Result Place E) (x : State) (result
   pub entered : Entered result place x y
   pub behaves : BehavesSo x result y
 
+-- A call that opens the place of a choice's alternative, and answers what was open, beside what names the alternative.
+pub record EntersChoice {N : Type 0} (x : State) (result : Result (Place × N) EncodeError) (y : State) : Type 0 where
+  pub opened : IfOk result (λ o. Opens Kinds.One x o.0 y)
+  pub err : IfErr result (λ e. (e ≡ OutOfMemory) ⊎ ((e ≡ AlreadyFailed) × (x.failed ≡ true)))
+  pub behaves : BehavesSo x result y
+
 -- why a place of a kind isn't closed: a call was refused before; it is of another kind, or its one value is lacking; or
 -- outside no value is awaited
 abbrev pub IsUnclosed : Kind → Bool → State → EncodeError → Type 0

@@ -18,12 +18,14 @@ ghost use Rattle.rasn_jer.specs.declared.place.Kind.TheVariants.{One};
 use crate::error::EncodeError;
 use crate::place::{Kind, Names, Place};
 use crate::texts::{
-    bits, chosen_member, day, generalized_time, identifier, item, named_bits, nothing, quoted,
-    scalars, truth, utc_time, whole,
+    AlternativeName, bits, chosen_member, day, generalized_time, identifier, item,
+    name_of_alternative, named_bits, named_member, nothing, quoted, scalars, truth, utc_time,
+    whole,
 };
 use rasn_schema::choices::Choice;
 use rasn_schema::enumerated::Enumerated;
 use rasn_schema::fields::{AdditionGroup, Constructed};
+use rasn_schema::items;
 use rasn_schema::schema::{Constraints, IntegerType};
 use rasn_strings::civil::{CivilDate, GeneralizedMoment, UtcMoment};
 use rasn_strings::strings::StaticPermittedAlphabet;
@@ -90,7 +92,7 @@ impl<A: Allocator + Copy> encoder::Encoder for Encoder<A> {
 
     type Addition = Place<A>;
 
-    type Alternative = Place<A>;
+    type Alternative = (Place<A>, AlternativeName);
 
     type Contents = Place<A>;
 
@@ -106,7 +108,9 @@ impl<A: Allocator + Copy> encoder::Encoder for Encoder<A> {
 
     ghost opens_addition = { OpensAddition };
 
-    ghost opens_choice = { λ s. Opens Kinds.One };
+    ghost opens_choice = { λ s x o i. Opens Kinds.One x o.0 i };
+
+    ghost opens_alternative = { λ s d k x o i. Opens Kinds.One x o.0 i };
 
     ghost opens_contents = { OpensContents };
 
@@ -363,25 +367,51 @@ impl<A: Allocator + Copy> encoder::Encoder for Encoder<A> {
 
     fn open_choice<C: Choice>(
         &mut self,
-        _tag: Tag,
+        tag: Tag,
         _identifier: Identifier,
-    ) -> Result<Place<A>, EncodeError> {
-        let place = Place::new(self.alloc, Kind::One);
-        self.enter(Ok(place))
+    ) -> Result<(Place<A>, AlternativeName), EncodeError> {
+        self.enter_choice(AlternativeName {
+            identifier: None,
+            tag,
+        })
     }
 
     fn close_choice<C: Choice>(
         &mut self,
-        outside: Place<A>,
+        outside: (Place<A>, AlternativeName),
         chosen: Tag,
     ) -> Result<(), EncodeError> {
         let is_known = has_alternative::<C>(chosen);
         if !is_known {
             return Err(self.refuse(EncodeError::VariantNotInChoice));
         }
-        match self.leave(outside, Kind::One) {
+        let (outer, _) = outside;
+        match self.leave(outer, Kind::One) {
             Ok(inner) => {
                 let text = chosen_member::<C, A>(self.alloc, C::IDENTIFIERS, chosen, inner.text());
+                self.write(text)
+            }
+            Err(error) => Err(error),
+        }
+    }
+
+    fn open_alternative<C: Choice>(
+        &mut self,
+        _tag: Tag,
+        place: items::Place,
+        _identifier: Identifier,
+    ) -> Result<(Place<A>, AlternativeName), EncodeError> {
+        self.enter_choice(name_of_alternative::<C>(C::IDENTIFIERS, place))
+    }
+
+    fn close_alternative(
+        &mut self,
+        outside: (Place<A>, AlternativeName),
+    ) -> Result<(), EncodeError> {
+        let (outer, name) = outside;
+        match self.leave(outer, Kind::One) {
+            Ok(inner) => {
+                let text = named_member(self.alloc, name.identifier, name.tag, inner.text());
                 self.write(text)
             }
             Err(error) => Err(error),

@@ -9,7 +9,7 @@ ghost use Rattle.rasn_schema.specs.Schemas.{Schema};
 ghost use Rattle.rasn_traits.specs.Calls.{Writes};
 ghost use Rattle.rasn_jer.specs.Places.{with_addition, with_group};
 ghost use Rattle.rasn_jer.specs.Rules.{AddedSo, BehavesSo, ClosesItems, ClosesPlace, CountsItem, EntersPlace};
-ghost use Rattle.rasn_jer.specs.Rules.{LeavesPlace, NeedsRecord};
+ghost use Rattle.rasn_jer.specs.Rules.{EntersChoice, LeavesPlace, NeedsRecord};
 ghost use Rattle.rasn_jer.specs.Rules.{IsUnmade, WritesJson, WritesText, jer_rules};
 ghost use Rattle.rasn_jer.specs.Shown.{ShowsText};
 ghost use Rattle.rasn_jer.specs.Texts.{enclosed as enclosed_text, text_of};
@@ -18,7 +18,7 @@ ghost use Rattle.rasn_jer.specs.declared.error.EncodeError.TheVariants.{AlreadyF
 use crate::encoder::Encoder;
 use crate::error::EncodeError;
 use crate::place::{Kind, Place};
-use crate::texts::{enclosed, hexadecimal, latin};
+use crate::texts::{AlternativeName, enclosed, hexadecimal, latin};
 use std::alloc::{AllocError, Allocator};
 use std::mem;
 
@@ -106,6 +106,18 @@ impl<A: Allocator + Copy> Encoder<A> {
             Ok(place) => Ok(mem::replace(&mut self.place, place)),
             Err(_) => Err(self.refuse_now(EncodeError::OutOfMemory)),
         }
+    }
+
+    /// Opens the place of a choice's alternative, and answers what was open, beside what names the alternative.
+    pub(crate) fn enter_choice(
+        &mut self,
+        name: AlternativeName,
+    ) -> Result<(Place<A>, AlternativeName), EncodeError>
+        ensures { EntersChoice self.old result self.new }
+    {
+        let place = Place::new(self.alloc, Kind::One);
+        let outer = self.enter(Ok(place))?;
+        Ok((outer, name))
     }
 
     /// Takes out what is inside a place of a kind, and opens what waited outside again.

@@ -1,16 +1,19 @@
 //! The texts of values, and of parts of them.
 
-ghost use Rattle.std.specs.Prelude.{◌≡◌, ◌+◌, ℕ, List, ◌⊎◌, false, map, option_map, slice_get};
+ghost use Rattle.std.specs.Prelude.{◌≡◌, ◌+◌, ℕ, List, ◌⊎◌, Some, false, length, map, option_map, slice_get};
 ghost use Rattle.std.specs.Prelude.{◌++◌, flat_map, replicate, encode_utf8_all, string_bytes, IfOk, IfErr, OnOk};
 ghost use Rattle.std.specs.Char.{encode_utf8, OutOfScalarRange};
 ghost use Rattle.rasn_types.specs.Trimmed.{filled_up, trimmed};
 ghost use Rattle.std.specs.Fmt.{decimal as decimal_of, signed_decimal};
 ghost use Rattle.rasn_types.specs.Contents.{generalized, is_time, utc};
+ghost use Rattle.rasn_schema.specs.Choices.{go_by, variants_on};
 ghost use Rattle.rasn_schema.specs.Fields.{tag_of};
+ghost use Rattle.rasn_traits.specs.Choices.{IsPlaceOf, index_in, side_of};
 ghost use Rattle.hex.specs.Hex.{encode_upper};
 ghost use Rattle.json.specs.Json.{boolean, null, string};
 ghost use Rattle.json.specs.Print.{IsNumber};
-ghost use Rattle.rasn_jer.specs.Names.{IdentifierOf, NamesAlternative, item_by, number_of_item};
+ghost use Rattle.rasn_jer.specs.Names.{IdentifierOf, IsNameBy, NamesAlternative, item_by, number_of_item};
+ghost use Rattle.rasn_jer.specs.Names.{number_of_place};
 ghost use Rattle.rasn_jer.specs.Shown.{HasNoScalar, IsWhole, ShowsBits, ShowsJson};
 ghost use Rattle.rasn_jer.specs.Strings.{behind_dot, day_text, dotted, year_text, zero_padded};
 ghost use Rattle.rasn_jer.specs.Texts.{enclosed as enclosed_text, member_text, text_of};
@@ -393,6 +396,37 @@ fn push_zeros<A: Allocator>(text: &mut String<A>, count: usize) -> Result<(), Al
     Ok(())
 }
 
+/// What names the alternative of a choice (X.697, CHOICE): its identifier, where its type gives one, and else the tag
+/// that it goes by.
+#[derive(Clone, Copy)]
+pub struct AlternativeName {
+    /// Its identifier, where its type gives one.
+    pub identifier: Option<&'static str>,
+    /// The tag that it goes by.
+    pub tag: Tag,
+}
+
+/// What names the alternative at a place, by the identifiers of those of its type.
+pub fn name_of_alternative<C: Choice>(identifiers: &[&'static str], place: Place) -> AlternativeName
+    requires { IsPlaceOf C.VARIANTS C.EXTENDED_VARIANTS place }
+    ensures identifier { option_map (λ s. s.now) result.identifier
+        ≡ slice_get (map (λ s. s.now) identifiers.now) (number_of_place (length C.VARIANTS) place) }
+    ensures tag { slice_get (go_by (variants_on (side_of place) C.VARIANTS C.EXTENDED_VARIANTS)) (index_in place)
+        ≡ Some (tag_of result.tag) }
+{
+    let variants = C::VARIANTS;
+    match place {
+        Place::Root(index) => AlternativeName {
+            identifier: identifier_at(identifiers, 0, index),
+            tag: variants.tag_at(index),
+        },
+        Place::Added(index) => AlternativeName {
+            identifier: identifier_at(identifiers, variants.len(), index),
+            tag: C::EXTENDED_VARIANTS.unwrap().tag_at(index),
+        },
+    }
+}
+
 /// An object of one member: the text of a choice's alternative by its identifier among those of the type (X.697,
 /// CHOICE), and where the type gives none, by the tag that it goes by.
 pub fn chosen_member<C: Choice, A: Allocator + Copy>(
@@ -405,10 +439,25 @@ pub fn chosen_member<C: Choice, A: Allocator + Copy>(
         × NamesAlternative (map (λ s. s.now) identifiers.now) (tag_of chosen) C.VARIANTS C.EXTENDED_VARIANTS name
         × (whole.items ≡ enclosed_text 123 (member_text name text.now) 125)) }
 {
-    match identifier_of::<C>(identifiers, chosen) {
+    let identifier = identifier_of::<C>(identifiers, chosen);
+    named_member(alloc, identifier, chosen, text)
+}
+
+/// An object of one member: the text of a choice's alternative by its identifier, where there is one, and else by the
+/// tag that it goes by.
+pub fn named_member<A: Allocator + Copy>(
+    alloc: A,
+    identifier: Option<&str>,
+    tag: Tag,
+    text: &[u8],
+) -> Result<Vec<u8, A>, AllocError>
+    ensures { IfOk result (λ whole. (name : List ℕ) × IsNameBy (option_map (λ s. s.now) identifier) name
+        × (whole.items ≡ enclosed_text 123 (member_text name text.now) 125)) }
+{
+    match identifier {
         Some(identifier) => one_member(alloc, identifier, text),
         None => {
-            let name = tag_name(alloc, chosen)?;
+            let name = tag_name(alloc, tag)?;
             one_member(alloc, name.as_str(), text)
         }
     }

@@ -1,4 +1,3 @@
-mod FirstPlace
 pub mod Behind
 pub mod Slots
 pub mod BothRead

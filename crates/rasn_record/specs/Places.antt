@@ -1,11 +1,8 @@
--- The places of alternatives, and the constraints at a place of a list.
-use Rattle.std.specs.Prelude.{ℕ, ◌<◌, List, length, Option, Some, None, slice_get}
+-- The constraints at a place of a list.
+use Rattle.std.specs.Prelude.{ℕ, List, Option, Some, None, slice_get}
 use Rattle.std.specs.Borrow.{Bor}
 use Rattle.rasn_constraints.specs.Constraints.{Effective}
 use Rattle.rasn_constraints.specs.declared.constraints.Constraint.{Constraint}
-use Rattle.rasn_schema.specs.Choices.{VariantShape}
-use Rattle.rasn_schema.specs.declared.items.Place.{Place}
-use Rattle.rasn_schema.specs.declared.items.Place.TheVariants.{Root, Added}
 use Rattle.rasn_record.specs.Lists.{given}
 
 -- constraints, where there are some at a place
@@ -16,8 +13,3 @@ given_in (Some b) = given b.now
 -- those that the alternative at a place is given
 abbrev pub given_at : List (Bor (List Constraint)) → ℕ → Option Effective
 given_at cs place = given_in (slice_get cs place)
-
--- an alternative stands at a place, before a marker or behind it
-abbrev pub IsPlaceOf : List VariantShape → List VariantShape → Place → Type 0
-IsPlaceOf before behind (Root i) = i < length before
-IsPlaceOf before behind (Added i) = i < length behind

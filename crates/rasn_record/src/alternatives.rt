@@ -15,8 +15,8 @@ use rasn_schema::alternatives::Alternatives;
 use rasn_schema::constraints::Constraint;
 use rasn_types::types::Tag;
 
-/// Writes the alternative at a place before the extension marker, which goes by a tag, and answers that. Its
-/// constraints are its type's own where none are given.
+/// Writes the value of the alternative at a place before the extension marker, which goes by a tag. Its constraints are
+/// its type's own where none are given.
 pub fn write<T: Alternatives, H: Encode, E: Encoder>(
     of: &T,
     place: usize,
@@ -24,7 +24,7 @@ pub fn write<T: Alternatives, H: Encode, E: Encoder>(
     constraints: &'static [Constraint<'static>],
     value: &H,
     encoder: &mut E,
-) -> Result<Tag, E::Error>
+) -> Result<(), E::Error>
     requires tag { place_of (tag_of tag) T.ALTERNATIVES.before ≡ Some place }
     requires schema { (n : ℕ) → alternative_at (root_parts T.alternatives.0 n) place
         ≡ Some (H.schema (own_or H.CONSTRAINTS (given constraints.now)) n) }
@@ -32,17 +32,16 @@ pub fn write<T: Alternatives, H: Encode, E: Encoder>(
     requires levels { H.levels value.now ≤ T.depth of.now }
     ensures { WritesChosen E.rules
         (choices_of (root_parts T.alternatives.0) T.ALTERNATIVES.behind (added_parts T.alternatives.0))
-        T.ALTERNATIVES.before T.ALTERNATIVES.behind (T.chosen of.now) (T.depth of.now) encoder.old result encoder.new }
+        (T.chosen of.now) (T.depth of.now) encoder.old result encoder.new }
 {
     let _ = of;
     let _ = place;
     let in_use = given(constraints, H::CONSTRAINTS);
-    value.encode_with_tag_and_constraints(encoder, tag, &in_use, H::IDENTIFIER)?;
-    Ok(tag)
+    value.encode_with_tag_and_constraints(encoder, tag, &in_use, H::IDENTIFIER)
 }
 
-/// Writes the alternative at a place behind the extension marker, which goes by a tag, and answers that. Its
-/// constraints are its type's own where none are given.
+/// Writes the value of the alternative at a place behind the extension marker, which goes by a tag. Its constraints are
+/// its type's own where none are given.
 pub fn write_behind<T: Alternatives, H: Encode, E: Encoder>(
     of: &T,
     place: usize,
@@ -50,7 +49,7 @@ pub fn write_behind<T: Alternatives, H: Encode, E: Encoder>(
     constraints: &'static [Constraint<'static>],
     value: &H,
     encoder: &mut E,
-) -> Result<Tag, E::Error>
+) -> Result<(), E::Error>
     requires tag { place_of (tag_of tag) (variants_behind T.ALTERNATIVES.behind) ≡ Some place }
     requires schema { (n : ℕ) → alternative_at (added_parts T.alternatives.0 n) place
         ≡ Some (H.schema (own_or H.CONSTRAINTS (given constraints.now)) n) }
@@ -58,14 +57,13 @@ pub fn write_behind<T: Alternatives, H: Encode, E: Encoder>(
     requires levels { H.levels value.now ≤ T.depth of.now }
     ensures { WritesChosen E.rules
         (choices_of (root_parts T.alternatives.0) T.ALTERNATIVES.behind (added_parts T.alternatives.0))
-        T.ALTERNATIVES.before T.ALTERNATIVES.behind (T.chosen of.now) (T.depth of.now) encoder.old result encoder.new }
+        (T.chosen of.now) (T.depth of.now) encoder.old result encoder.new }
 {
     let _ = of;
     let _ = place;
     let in_use = given(constraints, H::CONSTRAINTS);
     let identifier = H::IDENTIFIER;
-    value.encode_with_tag_and_constraints(encoder, tag, &in_use, identifier)?;
-    Ok(tag)
+    value.encode_with_tag_and_constraints(encoder, tag, &in_use, identifier)
 }
 
 /// Reads an alternative under a tag. Its constraints are its type's own where none are given.

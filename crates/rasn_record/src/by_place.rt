@@ -1,21 +1,20 @@
 //! One alternative of a CHOICE, as a list states it, whose constraints stand at its place in another.
 
-ghost use Rattle.std.specs.Prelude.{◌≡◌, ◌<◌, ◌≤◌, ℕ, None, Some, length};
-ghost use Rattle.rasn_schema.specs.Choices.{alternative_at, AreVariants, choices_of, place_of, variants_behind};
-ghost use Rattle.rasn_schema.specs.declared.items.Place.TheVariants.{Root, Added};
+ghost use Rattle.std.specs.Prelude.{◌≡◌, ◌<◌, ◌≤◌, ℕ, [], Some, length};
+ghost use Rattle.rasn_schema.specs.Choices.{alternative_at, choices_of, place_of, variants_behind};
+ghost use Rattle.rasn_schema.specs.declared.items.Place.TheVariants.{Root};
 ghost use Rattle.rasn_schema.specs.Components.{added_parts, chosen, chosen_behind, root_parts};
 ghost use Rattle.rasn_schema.specs.Fields.{tag_of};
 ghost use Rattle.rasn_schema.specs.Records.{own_or};
 ghost use Rattle.rasn_traits.specs.Calls.{Reads};
-ghost use Rattle.rasn_traits.specs.Choices.{WritesChosen};
+ghost use Rattle.rasn_traits.specs.Choices.{IsPlaceOf, WritesChosen};
 ghost use Rattle.rasn_record.specs.Lists.{given};
-ghost use Rattle.rasn_record.specs.Places.{given_at, IsPlaceOf};
+ghost use Rattle.rasn_record.specs.Places.{given_at};
 
 use crate::alternatives;
 use crate::bounds::Bounds;
 use rasn_codec::codec::{Decode, Decoder, Encode, Encoder};
 use rasn_schema::alternatives::Alternatives;
-use rasn_schema::choices::Choice;
 use rasn_schema::constraints::Constraint;
 use rasn_schema::items::Place;
 use rasn_types::types::Tag;
@@ -33,8 +32,8 @@ fn limits_at(
     *limits
 }
 
-/// Writes the alternative at a place before the extension marker, which goes by a tag, and answers that. Its
-/// constraints stand at its place in a list, or are its type's own where none are given.
+/// Writes the value of the alternative at a place before the extension marker, which goes by a tag. Its constraints
+/// stand at its place in a list, or are its type's own where none are given.
 #[inline(always)]
 pub fn write<T: Alternatives, H: Encode, E: Encoder>(
     of: &T,
@@ -43,7 +42,7 @@ pub fn write<T: Alternatives, H: Encode, E: Encoder>(
     bounds: Bounds,
     value: &H,
     encoder: &mut E,
-) -> Result<Tag, E::Error>
+) -> Result<(), E::Error>
     requires tag { place_of (tag_of tag) T.ALTERNATIVES.before ≡ Some place }
     requires schema { (n : ℕ) → alternative_at (root_parts T.alternatives.0 n) place
         ≡ Some (H.schema (own_or H.CONSTRAINTS (given_at bounds.lists.now.root.now place)) n) }
@@ -51,14 +50,14 @@ pub fn write<T: Alternatives, H: Encode, E: Encoder>(
     requires levels { H.levels value.now ≤ T.depth of.now }
     ensures { WritesChosen E.rules
         (choices_of (root_parts T.alternatives.0) T.ALTERNATIVES.behind (added_parts T.alternatives.0))
-        T.ALTERNATIVES.before T.ALTERNATIVES.behind (T.chosen of.now) (T.depth of.now) encoder.old result encoder.new }
+        (T.chosen of.now) (T.depth of.now) encoder.old result encoder.new }
 {
     let limits = limits_at(bounds.lists.root, place);
     alternatives::write(of, place, tag, limits, value, encoder)
 }
 
-/// Writes the alternative at a place behind the extension marker, which goes by a tag, and answers that. Its
-/// constraints stand at its place in a list, or are its type's own where none are given.
+/// Writes the value of the alternative at a place behind the extension marker, which goes by a tag. Its constraints
+/// stand at its place in a list, or are its type's own where none are given.
 #[inline(always)]
 pub fn write_behind<T: Alternatives, H: Encode, E: Encoder>(
     of: &T,
@@ -67,7 +66,7 @@ pub fn write_behind<T: Alternatives, H: Encode, E: Encoder>(
     bounds: Bounds,
     value: &H,
     encoder: &mut E,
-) -> Result<Tag, E::Error>
+) -> Result<(), E::Error>
     requires tag { place_of (tag_of tag) (variants_behind T.ALTERNATIVES.behind) ≡ Some place }
     requires schema { (n : ℕ) → alternative_at (added_parts T.alternatives.0 n) place
         ≡ Some (H.schema (own_or H.CONSTRAINTS (given_at bounds.lists.now.added.now place)) n) }
@@ -75,7 +74,7 @@ pub fn write_behind<T: Alternatives, H: Encode, E: Encoder>(
     requires levels { H.levels value.now ≤ T.depth of.now }
     ensures { WritesChosen E.rules
         (choices_of (root_parts T.alternatives.0) T.ALTERNATIVES.behind (added_parts T.alternatives.0))
-        T.ALTERNATIVES.before T.ALTERNATIVES.behind (T.chosen of.now) (T.depth of.now) encoder.old result encoder.new }
+        (T.chosen of.now) (T.depth of.now) encoder.old result encoder.new }
 {
     let limits = limits_at(bounds.lists.added, place);
     alternatives::write_behind(of, place, tag, limits, value, encoder)
@@ -113,36 +112,17 @@ pub fn read_behind<H: Decode, D: Decoder>(
     alternatives::read::<H, D>(decoder, tag, limits)
 }
 
-/// The place before the extension marker of the alternative that goes by a tag, or the first where none there does.
+/// The index of the alternative at a place of a list without one behind an extension marker.
 #[inline(always)]
-pub fn place_before<T: Choice>(tag: Tag) -> usize
-    requires { 0 < length T.VARIANTS }
-    ensures within { result < length T.VARIANTS }
-    ensures stands { (k : ℕ) → place_of (tag_of tag) T.VARIANTS ≡ Some k → result ≡ k }
-    ensures otherwise { place_of (tag_of tag) T.VARIANTS ≡ None → result ≡ 0 }
+pub fn index_before<T: Alternatives>(place: Place) -> usize
+    requires none { variants_behind T.ALTERNATIVES.behind ≡ [] }
+    requires there { IsPlaceOf T.ALTERNATIVES.before T.ALTERNATIVES.behind place }
+    ensures stands { place ≡ Root result }
+    ensures within { result < length T.ALTERNATIVES.before }
 {
-    match T::VARIANTS.index_of(tag) {
-        Some(place) => place,
-        None => 0,
-    }
-}
-
-/// Where the alternative stands that goes by a tag, or the first before the extension marker where none does.
-#[inline(always)]
-pub fn stands_at<T: Choice>(tag: Tag) -> Place
-    requires variants { AreVariants T.VARIANTS T.EXTENDED_VARIANTS }
-    requires some { 0 < length T.VARIANTS }
-    ensures within { IsPlaceOf T.VARIANTS (variants_behind T.EXTENDED_VARIANTS) result }
-    ensures before { (k : ℕ) → place_of (tag_of tag) T.VARIANTS ≡ Some k → result ≡ Root k }
-    ensures behind { (k : ℕ) → place_of (tag_of tag) (variants_behind T.EXTENDED_VARIANTS) ≡ Some k
-        → result ≡ Added k }
-    ensures otherwise { place_of (tag_of tag) T.VARIANTS ≡ None
-        → place_of (tag_of tag) (variants_behind T.EXTENDED_VARIANTS) ≡ None → result ≡ Root 0 }
-{
-    let added = T::EXTENDED_VARIANTS;
-    match T::VARIANTS.place_of(&added, tag) {
-        Some(place) => place,
-        None => Place::Root(0),
+    match place {
+        Place::Root(index) => index,
+        Place::Added(index) => index,
     }
 }
 

@@ -1,5 +1,6 @@
 pub mod Alternatives
 pub mod Optionals
+pub mod Places
 pub mod Reading
 pub mod SetsRead
 pub mod SetsWritten

@@ -1,8 +1,8 @@
 -- What a call owes that writes or reads a choice (X.680 29), and what stands in it, stated over any codec's relations.
 -- `choice` is the choice by the number of levels of its alternatives, `vs` and `xs` are its variants before an
 -- extension marker and behind one, and `d` and `k` are the list and the place there in which an alternative stands.
-use Rattle.std.specs.Prelude.{◌≡◌, ℕ, suc, ◌≤◌, ◌⊎◌, true, false, Result, Ok, Err, OnErr, IsErrAnd, IfOk, IfSome}
-use Rattle.std.specs.Prelude.{List, Option, Some, None}
+use Rattle.std.specs.Prelude.{◌≡◌, ℕ, suc, ◌≤◌, ◌<◌, ◌⊎◌, true, false, Result, Ok, Err, OnErr, IsErrAnd, IfOk}
+use Rattle.std.specs.Prelude.{IfSome, List, length, Option, Some, None}
 use Rattle.rasn_types.specs.Values.{Value, alternative, Side, root, added}
 use Rattle.rasn_types.specs.declared.types.Tag.{Tag}
 use Rattle.rasn_schema.specs.Schemas
@@ -13,10 +13,33 @@ use Rattle.rasn_schema.specs.Components.{Chosen}
 use Rattle.rasn_schema.specs.Fields.{tag_of}
 use Rattle.rasn_schema.specs.Normal.{normal}
 use Rattle.rasn_schema.specs.AtDepths.{AtDepths}
+use Rattle.rasn_schema.specs.declared.items.Place.{Place}
+use Rattle.rasn_schema.specs.declared.items.Place.TheVariants.{Root, Added}
 use Rattle.rasn_traits.specs.Calls.{Behaves, EncoderRules, Encodes, Written, DecoderRules, Refuses, Answers}
 use Rattle.rasn_traits.specs.Scopes.{KeepsCodec}
 use Rattle.rasn_traits.specs.Amounts.{one_value}
 use Rattle.rasn_traits.specs.Turns.{RefusesOther}
+
+-- the list of a place, and where it stands there
+abbrev pub side_of : Place → Side
+side_of (Root i) = root
+side_of (Added i) = added
+
+abbrev pub index_in : Place → ℕ
+index_in (Root i) = i
+index_in (Added i) = i
+
+-- an alternative stands at a place
+abbrev pub IsPlaceOf : List VariantShape → Option (List VariantShape) → Place → Type 0
+IsPlaceOf vs xs (Root i) = i < length vs
+IsPlaceOf vs xs (Added i) = i < length (variants_behind xs)
+
+-- the alternative that a value is stands at a place
+pub record StandsAtPlace (vs : List VariantShape) (xs : Option (List VariantShape)) (c : Chosen) (place : Place)
+    : Type 0 where
+  pub side : side_of place ≡ c.side
+  pub index : index_in place ≡ c.place
+  pub there : IsPlaceOf vs xs place
 
 -- a fact on the schema of the alternative at a place, at each unfolding that is deep enough for a value of so many
 -- levels
@@ -56,6 +79,39 @@ pub record ClosesChoice {E X O : Type 0} (rules : EncoderRules E X) (opens : Sch
       → place_of t (variants_on d vs xs) ≡ Some k → RefusesOther rules one_value i j result
   pub behaves : Behaves rules.already rules.failed rules.codec j result y
 
+-- What passes out of a choice that was opened at x to write one of its alternatives, and inside which it is i: want of
+-- memory, and the refusal of that alternative, which is one of the choice.
+pub record PassesAlternative {E X : Type 0} (rules : EncoderRules E X) (c : Schema) (d : Side) (k : ℕ) (x i : X)
+    : Type 0 where
+  pub room : (e : E) → rules.memory e i → rules.memory e x
+  pub of_choice : (e : E) (s : Schema) (v : Value) → alternative_in c d k ≡ Some s
+      → rules.refuses e i s v → rules.refuses e x c (alternative d k v)
+
+-- Ok is inside a choice, where its alternative at a place is written, and Err, memory aside, refuses that alternative.
+abbrev pub OpenedAlternative : {E X O : Type 0} → EncoderRules E X → (Schema → Side → ℕ → X → O → X → Type 0)
+    → (ℕ → Schema) → Side → ℕ → X → Result O E → X → Type 0
+OpenedAlternative rules opens choice d k x (Ok o) i = (n : ℕ) → opens (choice n) d k x o i
+    × PassesAlternative rules (choice n) d k x i
+OpenedAlternative rules opens choice d k x (Err e) i = rules.memory e x
+    ⊎ ((n : ℕ) (v : Value) → rules.refuses e x (choice n) (alternative d k v))
+
+-- A call that opens a choice to write the alternative at a place.
+pub record OpensAlternative {E X O : Type 0} (rules : EncoderRules E X)
+    (opens : Schema → Side → ℕ → X → O → X → Type 0) (choice : ℕ → Schema) (place : Place) (x : X)
+    (result : Result O E) (y : X) : Type 0 where
+  pub law : OpenedAlternative rules opens choice (side_of place) (index_in place) x result y
+  pub behaves : Behaves rules.already rules.failed rules.codec x result y
+
+-- A call that closes one, in which the alternative was presented: it answers as one call that writes the whole choice.
+-- All but one value are refused.
+pub record ClosesAlternative {E X O : Type 0} (rules : EncoderRules E X)
+    (opens : Schema → Side → ℕ → X → O → X → Type 0) (o : O) (j : X) (result : Result (Unit {0}) E)
+    (y : X) : Type 0 where
+  pub law : (x i : X) (c : Schema) (d : Side) (k : ℕ) (s : Schema) (v : Value) → opens c d k x o i
+      → alternative_in c d k ≡ Some s → rules.presents i s v j → Written rules c (alternative d k v) x result y
+  pub untimely : (x i : X) (c : Schema) (d : Side) (k : ℕ) → opens c d k x o i → RefusesOther rules one_value i j result
+  pub behaves : Behaves rules.already rules.failed rules.codec j result y
+
 -- Ok answers the tag by which the alternative at a place goes, and presents its value; Err, memory aside, comes only
 -- where that is refused.
 abbrev pub AlternativeWritten : {E X : Type 0} → EncoderRules E X → List VariantShape → ℕ → Schema → Value → X
@@ -63,12 +119,10 @@ abbrev pub AlternativeWritten : {E X : Type 0} → EncoderRules E X → List Var
 AlternativeWritten rules variants k s v x (Ok t) y = (place_of (tag_of t) variants ≡ Some k) × rules.presents x s v y
 AlternativeWritten rules variants k s v x (Err e) y = rules.memory e x ⊎ rules.refuses e x s v
 
--- A call that writes the value of the alternative that is chosen, of so many levels, and answers the tag by which it
--- goes.
-pub record WritesChosen {E X : Type 0} (rules : EncoderRules E X) (choice : ℕ → Schema) (vs : List VariantShape)
-    (xs : Option (List VariantShape)) (c : Chosen) (depth : ℕ) (x : X) (result : Result Tag E) (y : X) : Type 0 where
-  pub law : AtAlternative choice c.side c.place depth
-      (λ s. AlternativeWritten rules (variants_on c.side vs xs) c.place s (normal s c.value) x result y)
+-- A call that writes the value of the alternative that is chosen, of so many levels.
+pub record WritesChosen {E X : Type 0} (rules : EncoderRules E X) (choice : ℕ → Schema) (c : Chosen) (depth : ℕ) (x : X)
+    (result : Result (Unit {0}) E) (y : X) : Type 0 where
+  pub law : AtAlternative choice c.side c.place depth (λ s. Written rules s (normal s c.value) x result y)
   pub behaves : Behaves rules.already rules.failed rules.codec x result y
 
 -- What a function owes that is lent an encoder to write the alternative at a place, a value of so many levels.
@@ -184,6 +238,41 @@ pub record OpensToChoose {E S O : Type 0} (rules : DecoderRules E S) (opens : Sc
     (choice : ℕ → Schema) (vs : List VariantShape) (xs : Option (List VariantShape)) (s : S)
     (result : Result (Tag × O) E) (t : S) : Type 0 where
   pub law : OpenedToChoose rules opens choice vs xs s result t
+  pub counts : IfOk result (λ r. rules.awaits one_value t)
+  pub behaves : Behaves rules.already rules.failed rules.codec s result t
+
+-- A call that reads the alternative at a place, to the levels left.
+pub record TakesAt {E S T : Type 0} (rules : DecoderRules E S) (choice : ℕ → Schema) (place : Place)
+    (value : T → Value) (s : S) (result : Result T E) (t : S) : Type 0 where
+  pub there : (c : Schema) → alternative_in (choice (rules.levels s)) (side_of place) (index_in place) ≡ Some c
+      → Answers rules.memory (rules.fault c) (ReadsAlternative rules (side_of place) (index_in place) c) value
+      s result t
+  pub behaves : Behaves rules.already rules.failed rules.codec s result t
+
+-- Behind the index of a choice, and inside its open type where it stands behind an extension marker, stands the
+-- alternative at a place, one level deeper.
+pub record IsAlternative {E S O : Type 0} (rules : DecoderRules E S)
+    (opens : Schema → Side → ℕ → S → O → S → Type 0) (choice : ℕ → Schema) (vs : List VariantShape)
+    (xs : Option (List VariantShape)) (place : Place) (s : S) (o : O) (i : S) : Type 0 where
+  pub deeper : rules.levels s ≡ suc (rules.levels i)
+  pub among : IsPlaceOf vs xs place
+  pub schema : Schema
+  pub there : alternative_in (choice (rules.levels i)) (side_of place) (index_in place) ≡ Some schema
+  pub opened : opens (choice (rules.levels i)) (side_of place) (index_in place) s o i
+
+-- Ok is where the alternative stands, with its place, and Err, memory aside, comes only where no choice is read.
+abbrev pub OpenedAlternativeToRead : {E S O : Type 0} → DecoderRules E S → (Schema → Side → ℕ → S → O → S → Type 0)
+    → (ℕ → Schema) → List VariantShape → Option (List VariantShape) → S → Result (Place × O) E → S → Type 0
+OpenedAlternativeToRead rules opens choice vs xs s (Ok r) i = IsAlternative rules opens choice vs xs r.0 s r.1 i
+OpenedAlternativeToRead rules opens choice vs xs s (Err e) i =
+    let c = one_level_in choice (rules.levels s) in rules.memory e s ⊎ Refuses (rules.spells c) (rules.fault c) e s
+
+-- A call that reads the index of a choice, and opens the open type of an alternative behind an extension marker: one
+-- value is to come.
+pub record OpensAlternativeToRead {E S O : Type 0} (rules : DecoderRules E S)
+    (opens : Schema → Side → ℕ → S → O → S → Type 0) (choice : ℕ → Schema) (vs : List VariantShape)
+    (xs : Option (List VariantShape)) (s : S) (result : Result (Place × O) E) (t : S) : Type 0 where
+  pub law : OpenedAlternativeToRead rules opens choice vs xs s result t
   pub counts : IfOk result (λ r. rules.awaits one_value t)
   pub behaves : Behaves rules.already rules.failed rules.codec s result t
 

@@ -1,12 +1,12 @@
 -- What the calls owe for types that are data: records by counts, items and alternatives by counts and places, stated
 -- over any codec's relations and for each family of schemas that is so counted.
 use Rattle.std.specs.Prelude.{◌≡◌, ℕ, suc, ◌⊎◌, Bool, true, false, ◌&&◌, nat_lt, List, [], ◌∷◌, Option, Some, None}
-use Rattle.std.specs.Prelude.{Result, Ok, Err, IfOk, IsErrAnd}
+use Rattle.std.specs.Prelude.{length, option_map, Result, Ok, Err, IfOk, IsErrAnd}
 use Rattle.rasn_types.specs.Alphabets.{has_all}
 use Rattle.rasn_types.specs.Contents.{is_date, is_identifier, is_text, is_time}
 use Rattle.rasn_types.specs.Values.{Value, Side, root, added, item, alternative, no_slots, slots}
 use Rattle.rasn_types.specs.Values
-use Rattle.rasn_schema.specs.Choices.{alternative_in, one_level_in}
+use Rattle.rasn_schema.specs.Choices.{VariantShape, one_level_in}
 use Rattle.rasn_schema.specs.Enumerations.{addeds_of, is_extensible}
 use Rattle.rasn_schema.specs.Lawful.{presence_bits}
 use Rattle.rasn_schema.specs.Schemas
@@ -15,20 +15,12 @@ use Rattle.rasn_schema.specs.declared.items.ItemCounts.{ItemCounts}
 use Rattle.rasn_schema.specs.declared.items.Place.{Place}
 use Rattle.rasn_schema.specs.declared.items.Place.TheVariants.{Root, Added}
 use Rattle.rasn_traits.specs.Amounts.{one_value}
-use Rattle.rasn_traits.specs.Calls.{Behaves, DecoderRules, EncoderRules, Refuses, Written}
+use Rattle.rasn_traits.specs.Calls.{Behaves, DecoderRules, EncoderRules, Refuses}
 use Rattle.rasn_traits.specs.Additions.{ClosesGroup}
+use Rattle.rasn_traits.specs.Choices.{PassesAlternative}
+pub use Rattle.rasn_traits.specs.Choices.{index_in, side_of}
 use Rattle.rasn_traits.specs.Scopes.{ClosesInTurn, ClosesWritten, IsInTurn, IsReadInTurn, OpensInTurn, OpensToRead}
 use Rattle.rasn_traits.specs.Scopes.{OpensToWrite}
-use Rattle.rasn_traits.specs.Turns.{RefusesOther}
-
--- the list of a place, and where it stands there
-abbrev pub side_of : Place → Side
-side_of (Root i) = root
-side_of (Added i) = added
-
-abbrev pub index_in : Place → ℕ
-index_in (Root i) = i
-index_in (Added i) = i
 
 -- the item at a place
 abbrev pub item_at : Place → Value
@@ -38,6 +30,10 @@ item_at p = item (side_of p) (index_in p)
 abbrev pub stands_in : ItemCounts → Place → Bool
 stands_in c (Root i) = nat_lt i c.roots
 stands_in c (Added i) = nat_lt i (addeds_of c.addeds)
+
+-- how many alternatives a type states
+abbrev pub variant_counts : List VariantShape → Option (List VariantShape) → ItemCounts
+variant_counts vs xs = record { roots = length vs; addeds = option_map length xs }
 
 -- Components and additions of which so many root components have a presence bit, and so many additions stand behind a
 -- marker, where there is one.
@@ -93,19 +89,11 @@ IsChoiceOf c (Schema.choice ps qs marker) = (count ps ≡ c.roots) × (count qs 
     × (marker ≡ is_extensible c.addeds)
 IsChoiceOf c _ = ⊥
 
--- What passes out of a choice that was opened at x to write one of its alternatives, and inside which it is i: want of
--- memory, and the refusal of that alternative, which is one of the choice.
-pub record PassesPlaced {E X : Type 0} (rules : EncoderRules E X) (c : Schema) (d : Side) (k : ℕ) (x i : X)
-    : Type 0 where
-  pub room : (e : E) → rules.memory e i → rules.memory e x
-  pub of_choice : (e : E) (s : Schema) (v : Value) → alternative_in c d k ≡ Some s
-      → rules.refuses e i s v → rules.refuses e x c (alternative d k v)
-
 -- Ok is inside a choice, where its alternative at a place is written, and Err, memory aside, refuses each such choice.
 abbrev pub PlacedOpened : {E X O : Type 0} → EncoderRules E X → (Schema → Side → ℕ → X → O → X → Type 0) → ItemCounts
     → Side → ℕ → X → Result O E → X → Type 0
 PlacedOpened rules opens alternatives d k x (Ok o) i = (c : Schema) → IsChoiceOf alternatives c
-    → opens c d k x o i × PassesPlaced rules c d k x i
+    → opens c d k x o i × PassesAlternative rules c d k x i
 PlacedOpened rules opens alternatives d k x (Err e) i = rules.memory e x
     ⊎ ((c : Schema) (v : Value) → IsChoiceOf alternatives c → rules.refuses e x c (alternative d k v))
 
@@ -114,15 +102,6 @@ pub record OpensPlaced {E X O : Type 0} (rules : EncoderRules E X) (opens : Sche
     (alternatives : ItemCounts) (place : Place) (x : X) (result : Result O E) (y : X) : Type 0 where
   pub law : PlacedOpened rules opens alternatives (side_of place) (index_in place) x result y
   pub behaves : Behaves rules.already rules.failed rules.codec x result y
-
--- A call that closes one, in which the alternative was presented: it answers as one call that writes the whole choice.
--- All but one value are refused.
-pub record ClosesPlaced {E X O : Type 0} (rules : EncoderRules E X) (opens : Schema → Side → ℕ → X → O → X → Type 0)
-    (o : O) (j : X) (result : Result (Unit {0}) E) (y : X) : Type 0 where
-  pub law : (x i : X) (c : Schema) (d : Side) (k : ℕ) (s : Schema) (v : Value) → opens c d k x o i
-      → alternative_in c d k ≡ Some s → rules.presents i s v j → Written rules c (alternative d k v) x result y
-  pub untimely : (x i : X) (c : Schema) (d : Side) (k : ℕ) → opens c d k x o i → RefusesOther rules one_value i j result
-  pub behaves : Behaves rules.already rules.failed rules.codec j result y
 
 -- a schema of an addition group of which a root component is required, or none is; one that is cut off says nothing
 abbrev pub IsGroupOf : Bool → Schema → Type 0

@@ -1,32 +1,23 @@
 //! Calls for types that are data: a record by how many components and additions it has and how many components have
 //! presence bits, an item and an alternative by how many there are and where it stands.
 
-ghost use Rattle.std.specs.Prelude.{ℕ};
-ghost use Rattle.rasn_types.specs.Values.{Side};
 ghost use Rattle.rasn_schema.specs.Enumerations.{items_of};
-ghost use Rattle.rasn_schema.specs.Schemas.{Schema};
 ghost use Rattle.rasn_traits.specs.Calls.{freely_read, Reads, Writes};
-ghost use Rattle.rasn_traits.specs.Counted.{ClosesAny, ClosesFieldsOf, ClosesGroupOf, ClosesPlaced, IsAnyInTurn};
+ghost use Rattle.rasn_traits.specs.Counted.{ClosesAny, ClosesFieldsOf, ClosesGroupOf, IsAnyInTurn};
 ghost use Rattle.rasn_traits.specs.Counted.{IsAnyReadInTurn, OpensCounted, OpensCountedToRead, OpensFieldsOf};
 ghost use Rattle.rasn_traits.specs.Counted.{OpensFieldsOfToRead, OpensPlaced, OpensPlacedToRead, WritesNothing};
-ghost use Rattle.rasn_traits.specs.Counted.{WritesOther, item_at, stands_in};
+ghost use Rattle.rasn_traits.specs.Counted.{WritesOther, item_at, stands_in, variant_counts};
 ghost use Rattle.rasn_traits.specs.Scopes.{ClosesRead};
 ghost use Rattle.std.specs.Prelude.{◌≡◌, true};
 
 use crate::decoder::Decoder;
 use crate::encoder::Encoder;
+use rasn_schema::choices::Choice;
 use rasn_schema::items::{ItemCounts, Place};
 use rasn_types::types::{Identifier, Tag};
 
 /// An encoder of types that are data.
 pub trait CountedEncoder: Encoder {
-    /// What waits outside while a choice is open of which the alternative is known.
-    type Placed: Drop;
-
-    // A choice is opened to write the alternative at a place: what was before, what waits outside, and how it is
-    // inside.
-    ghost opens_placed: { Schema → Side → ℕ → Self → Self.Placed → Self → Type 0 };
-
     /// Writes the item of an ENUMERATED that stands at a place (X.691 14).
     fn encode_item(
         &mut self,
@@ -75,19 +66,15 @@ pub trait CountedEncoder: Encoder {
 
     /// Opens a CHOICE (X.691 23) of so many alternatives, to write the one at a place: the calls from here to
     /// `close_alternative` write its value.
-    fn open_alternative(
+    fn open_alternative_of(
         &mut self,
         tag: Tag,
         alternatives: ItemCounts,
         place: Place,
         identifier: Identifier,
-    ) -> Result<Self::Placed, Self::Error>
+    ) -> Result<Self::Alternative, Self::Error>
         requires { stands_in alternatives place ≡ true }
-        ensures { OpensPlaced Self.rules opens_placed alternatives place self.old result self.new };
-
-    /// Closes a CHOICE in which the value of its alternative was written. Where none was, or more, it refuses.
-    fn close_alternative(&mut self, outside: Self::Placed) -> Result<(), Self::Error>
-        ensures { ClosesPlaced Self.rules opens_placed outside self.old result self.new };
+        ensures { OpensPlaced Self.rules Self.opens_alternative alternatives place self.old result self.new };
 
     /// Closes an open type in which an addition group was written, of which a root component is required or none is:
     /// one that holds nothing is given as absent (X.691 19.9).
@@ -145,10 +132,26 @@ pub trait CountedDecoder: Decoder {
     /// Reads the index of a CHOICE of so many alternatives (X.691 23), which takes a level, answers where its
     /// alternative stands, and opens the open type of one behind the extension marker (X.691 23.8): the calls from here
     /// to `close_choice` read the value of the alternative. At no level left it refuses.
-    fn open_alternative(
+    fn open_alternative_of(
         &mut self,
         tag: Tag,
         alternatives: ItemCounts,
     ) -> Result<(Place, Self::Alternative), Self::Error>
         ensures { OpensPlacedToRead Self.rules Self.opens_choice alternatives self.old result self.new };
+}
+
+/// How many alternatives a CHOICE has.
+#[inline(always)]
+pub fn alternative_counts<C: Choice>() -> ItemCounts
+    ensures { result ≡ variant_counts C.VARIANTS C.EXTENDED_VARIANTS }
+{
+    let roots = C::VARIANTS;
+    let addeds = match C::EXTENDED_VARIANTS {
+        Some(variants) => Some(variants.len()),
+        None => None,
+    };
+    ItemCounts {
+        roots: roots.len(),
+        addeds,
+    }
 }

@@ -18,7 +18,7 @@ ghost use Rattle.rasn_traits.specs.AdditionsRead.{AdditionsWell, OpensAdditionTo
 ghost use Rattle.rasn_traits.specs.BagsRead.{BagsWell};
 ghost use Rattle.rasn_traits.specs.Optionals.{ReadsBit};
 ghost use Rattle.rasn_traits.specs.Calls.{DecoderRules, freely_read, Reads, DecodesWell};
-ghost use Rattle.rasn_traits.specs.Choices.{ChoicesWell, OpensToChoose};
+ghost use Rattle.rasn_traits.specs.Choices.{ChoicesWell, OpensAlternativeToRead, OpensToChoose};
 ghost use Rattle.rasn_traits.specs.Contents.{ContentsWell, OpensContentsToRead};
 ghost use Rattle.rasn_traits.specs.Errors.{ErrorsWell};
 ghost use Rattle.rasn_traits.specs.Reals.{ReadsNoReal};
@@ -35,6 +35,7 @@ use crate::parts::{DecodeAdditions, DecodeParts};
 use rasn_schema::choices::Choice;
 use rasn_schema::enumerated::Enumerated;
 use rasn_schema::fields::Constructed;
+use rasn_schema::items::Place;
 use rasn_schema::schema::{Constraints, IntegerType};
 use rasn_strings::civil::{CivilDate, GeneralizedMoment, UtcMoment};
 use rasn_strings::strings::{
@@ -295,6 +296,13 @@ pub trait Decoder: Sized {
     fn open_choice<C: Choice>(&mut self) -> Result<(Tag, Self::Alternative), Self::Error>
         ensures { OpensToChoose rules opens_choice (choices_of C.alternatives C.EXTENDED_VARIANTS C.added) C.VARIANTS
             C.EXTENDED_VARIANTS self.old result self.new };
+
+    /// Reads the index of a CHOICE (X.691 23), which takes a level, answers where its alternative stands, and opens the
+    /// open type of one behind the extension marker (X.691 23.8): the calls from here to `close_choice` read the value
+    /// of the alternative. At no level left it refuses.
+    fn open_alternative<C: Choice>(&mut self) -> Result<(Place, Self::Alternative), Self::Error>
+        ensures { OpensAlternativeToRead rules opens_choice (choices_of C.alternatives C.EXTENDED_VARIANTS C.added)
+            C.VARIANTS C.EXTENDED_VARIANTS self.old result self.new };
 
     /// Closes a CHOICE of which the alternative was read, and gives its level back. All but one value are refused, and
     /// so is a list that is still open, and an open type with whole octets left over.

@@ -4,7 +4,7 @@ ghost use Rattle.std.specs.Prelude.{◌≡◌, ℕ, suc, true};
 ghost use Rattle.std.specs.Fn.{FnOnceReturnsAtMut};
 ghost use Rattle.rasn_types.specs.Alphabets.{visible, ia5, printable, numeric, bmp};
 ghost use Rattle.rasn_types.specs.Contents.{utf8, other, utc, generalized};
-ghost use Rattle.rasn_types.specs.Values.{truth, nothing, whole, octets, bits, characters};
+ghost use Rattle.rasn_types.specs.Values.{Side, truth, nothing, whole, octets, bits, characters};
 ghost use Rattle.rasn_schema.specs.Canonised.{canonised_at};
 ghost use Rattle.rasn_schema.specs.Schemas.{Schema, by_tag, listed};
 ghost use Rattle.rasn_schema.specs.Forms.{number_schema, octet_schema, bit_schema, named_bit_schema};
@@ -18,7 +18,8 @@ ghost use Rattle.rasn_traits.specs.Optionals.{GivesBit};
 ghost use Rattle.rasn_traits.specs.Calls.{EncoderRules, without_memory, Writes, Encodes, PresentsWell};
 ghost use Rattle.rasn_schema.specs.Choices.{choices_of};
 ghost use Rattle.rasn_schema.specs.Fields.{tag_of};
-ghost use Rattle.rasn_traits.specs.Choices.{ClosesChoice, OpensChoice, WritesChoice};
+ghost use Rattle.rasn_traits.specs.Choices.{ClosesAlternative, ClosesChoice, IsPlaceOf, OpensAlternative};
+ghost use Rattle.rasn_traits.specs.Choices.{OpensChoice, WritesChoice};
 ghost use Rattle.rasn_traits.specs.Contents.{ClosesContents, OpensContents};
 ghost use Rattle.rasn_traits.specs.Lists.{Amid, OpensList, WritesNext, ClosesList};
 ghost use Rattle.rasn_traits.specs.ListsInTurn.{AwaitsValues, ClosesBagInTurn, ClosesListInTurn, IsBeforeElement};
@@ -34,6 +35,7 @@ use crate::parts::{EncodeAdditions, EncodeParts};
 use rasn_schema::choices::Choice;
 use rasn_schema::enumerated::Enumerated;
 use rasn_schema::fields::{AdditionGroup, Constructed};
+use rasn_schema::items::Place;
 use rasn_schema::schema::{Constraints, IntegerType};
 use rasn_strings::civil::{CivilDate, GeneralizedMoment, UtcMoment};
 use rasn_strings::strings::{
@@ -81,6 +83,10 @@ pub trait Encoder: Sized {
 
     // A choice is opened to write a schema: what was before, what waits outside, and how it is inside.
     ghost opens_choice: { Schema → Self → Self.Alternative → Self → Type 0 };
+
+    // A choice is opened to write the alternative at a place: what was before, what waits outside, and how it is
+    // inside.
+    ghost opens_alternative: { Schema → Side → ℕ → Self → Self.Alternative → Self → Type 0 };
 
     // Octets that are to contain a value are opened: what was before, what waits outside, and how it is inside.
     ghost opens_contents: { Self → Self.Contents → Self → Type 0 };
@@ -364,6 +370,23 @@ pub trait Encoder: Sized {
     ) -> Result<(), Self::Error>
         ensures { ClosesChoice rules opens_choice (choices_of C.alternatives C.EXTENDED_VARIANTS C.added) C.VARIANTS
             C.EXTENDED_VARIANTS alternative (tag_of chosen) self.old result self.new };
+
+    /// Opens a CHOICE (X.691 23) to write the alternative at a place: the calls from here to `close_alternative` write
+    /// its value.
+    fn open_alternative<C: Choice>(
+        &mut self,
+        tag: Tag,
+        place: Place,
+        identifier: Identifier,
+    ) -> Result<Self::Alternative, Self::Error>
+        requires { IsPlaceOf C.VARIANTS C.EXTENDED_VARIANTS place }
+        ensures { OpensAlternative rules opens_alternative (choices_of C.alternatives C.EXTENDED_VARIANTS C.added) place
+            self.old result self.new };
+
+    /// Closes a CHOICE that was opened to write the alternative at a place. Where no value was written, or more than
+    /// one, it refuses.
+    fn close_alternative(&mut self, alternative: Self::Alternative) -> Result<(), Self::Error>
+        ensures { ClosesAlternative rules opens_alternative alternative self.old result self.new };
 
     /// Opens octets that contain a value (X.682 11; X.691 11.2): the calls from here to `close_contents` write it, by
     /// itself.

@@ -53,14 +53,14 @@ impl<D: Positioned + CountedDecoder> CountedDecoder for Located<D> {
         self.seen(answer)
     }
 
-    fn open_alternative(
+    fn open_alternative_of(
         &mut self,
         tag: Tag,
         alternatives: ItemCounts,
     ) -> Result<(Place, D::Alternative), D::Error> {
         self.trail.begin();
         let open = self.inner.alternative_ahead(alternatives);
-        let answer = self.inner.open_alternative(tag, alternatives);
+        let answer = self.inner.open_alternative_of(tag, alternatives);
         if let Ok(opened) = &answer {
             let place = opened.0;
             let step = Step::Placed(place_among(alternatives, place));

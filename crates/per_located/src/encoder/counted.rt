@@ -9,10 +9,6 @@ use rasn_traits::counted::CountedEncoder;
 use rasn_types::types::{Identifier, Tag};
 
 impl<E: CountedEncoder + Drop> CountedEncoder for Located<E> {
-    type Placed = E::Placed;
-
-    ghost opens_placed = { E.opens_placed };
-
     fn encode_item(
         &mut self,
         tag: Tag,
@@ -66,24 +62,19 @@ impl<E: CountedEncoder + Drop> CountedEncoder for Located<E> {
         self.left(answer)
     }
 
-    fn open_alternative(
+    fn open_alternative_of(
         &mut self,
         tag: Tag,
         alternatives: ItemCounts,
         place: Place,
         identifier: Identifier,
-    ) -> Result<E::Placed, E::Error> {
+    ) -> Result<E::Alternative, E::Error> {
         self.trail.begin(tag);
         let answer = self
             .inner
-            .open_alternative(tag, alternatives, place, identifier);
+            .open_alternative_of(tag, alternatives, place, identifier);
         let step = Step::Placed(place_among(alternatives, place));
         self.entered(answer, Frame::Alternative(step))
-    }
-
-    fn close_alternative(&mut self, outside: E::Placed) -> Result<(), E::Error> {
-        let answer = self.inner.close_alternative(outside);
-        self.left(answer)
     }
 
     fn close_group_of(

@@ -312,7 +312,7 @@ encode_chosen-returns g t c =
     let w = rw q.2 at c.in_ok-encode_value.ensures in
     let e = c.close_alternative.ensures in
     record {
-      law = placed_closed g.E.Encoder.rules (choice_of ts d) (schema_at ts q.0.of) (side_of p) (index_in p) (chosen ts d p q.0 q.1) (value_of v) (levels_of v) g.E.CountedEncoder.opens_placed c.args.encoder.now c.open_chosen.new.encoder c.encode_value.new.encoder _ tt (λ n. (o.law (choice_of ts d n) (is_choice_of ts d n)).0) w.law c.close_alternative.result c.close_alternative.new.self e;
+      law = placed_closed g.E.Encoder.rules (choice_of ts d) (schema_at ts q.0.of) (side_of p) (index_in p) (chosen ts d p q.0 q.1) (value_of v) (levels_of v) g.E.Encoder.opens_alternative c.args.encoder.now c.open_chosen.new.encoder c.encode_value.new.encoder _ tt (λ n. (o.law (choice_of ts d n) (is_choice_of ts d n)).0) w.law c.close_alternative.result c.close_alternative.new.self e;
       behaves = record { again = λ z. absurd (o.behaves.again z); fails = e.behaves.fails; kept = e.behaves.kept ∙ w.behaves.kept ∙ o.behaves.kept };
     }
 

@@ -7,8 +7,8 @@ use Rattle.rasn_dynamic_codec.proofs.write.open_chosen.Goals as goal
 pub returns-in_default : goal.returns-in_default
 returns-in_default g c = (c.in_default.ensures, refl)
 
-pub open_alternative-requires : goal.open_alternative-requires
-open_alternative-requires g c = ap (λ n. stands_in n c.args.place) c.counts-counts.ensures ∙ stands_some c.args.choice.now c.args.place c.in-Some.alternative.now c.in-Some.ensures
+pub open_alternative_of-requires : goal.open_alternative_of-requires
+open_alternative_of-requires g c = ap (λ n. stands_in n c.args.place) c.counts-counts.ensures ∙ stands_some c.args.choice.now c.args.place c.in-Some.alternative.now c.in-Some.ensures
 
 pub returns-in_err-outside : goal.returns-in_err-outside
 returns-in_err-outside g c =

@@ -6,6 +6,6 @@ pub returns : goal.returns
 returns g c =
     let C = g.C.Choice in
     record {
-      law = choice_opened C.alternatives C.added (is_extensible C.EXTENDED_VARIANTS) _ c.args.self.now c.enter.result c.enter.new.self c.enter.ensures c.new-place.ensures;
-      behaves = c.enter.ensures.behaves;
+      law = choice_opened C.alternatives C.added (is_extensible C.EXTENDED_VARIANTS) c.args.self.now c.enter_choice.result c.enter_choice.new.self c.enter_choice.ensures;
+      behaves = c.enter_choice.ensures.behaves;
     }

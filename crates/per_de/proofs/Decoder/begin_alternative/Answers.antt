@@ -1,6 +1,6 @@
 use Rattle.std.proofs.lemmas.Result.{err_from_is_err_and}
 use Rattle.per_de.proofs.InTurn.{behaves_err, behaves_ok, deeper_noted, one_awaited, placed_opened, placed_unopened}
-use Rattle.per_de.proofs.counted.DecoderCountedDecoder.open_alternative.Goals as goal
+use Rattle.per_de.proofs.Decoder.begin_alternative.Goals as goal
 
 pub returns-in_err-place : goal.returns-in_err-place
 returns-in_err-place c =

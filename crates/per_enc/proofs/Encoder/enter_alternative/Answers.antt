@@ -3,7 +3,7 @@ use Rattle.per_write.specs.Components.{Encoding}
 use Rattle.per_enc.specs.Placed.{OpensPlaced}
 use Rattle.per_enc.proofs.PlacedChoices.{choice_placed}
 use Rattle.per_enc.proofs.Noting.{behaves_begun, noting_codec}
-use Rattle.per_enc.proofs.counted.EncoderCountedEncoder.open_alternative.Goals as goal
+use Rattle.per_enc.proofs.Encoder.enter_alternative.Goals as goal
 
 pub returns : goal.returns
 returns g c =

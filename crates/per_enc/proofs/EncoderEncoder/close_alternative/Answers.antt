@@ -7,7 +7,7 @@ use Rattle.per_enc.proofs.PlacedChoices.{choice_closed, closes_well}
 use Rattle.per_enc.proofs.Inside.{value_inside}
 use Rattle.per_enc.proofs.Noting.{behaves_begun, written_noted}
 use Rattle.per_enc.proofs.Turns.{behaves_unclosed, not_unclosed, one_untimely, placed_opened_well, unclosed_untimely}
-use Rattle.per_enc.proofs.counted.EncoderCountedEncoder.close_alternative.Goals as goal
+use Rattle.per_enc.proofs.EncoderEncoder.close_alternative.Goals as goal
 
 pub returns-in_err-check_scope : goal.returns-in_err-check_scope
 returns-in_err-check_scope g c =
