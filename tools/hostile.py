@@ -7,7 +7,7 @@ FRONT, BIT, LONGER = "front", "bit", "longer"
 # An encoding of more octets is tried at its ends alone, which have so many.
 END_ALONE, END = 64, 16
 # The pages of the kinds of refusals, and those that no octets have, whatever they are, by a type that keeps the laws.
-NAMES = ("per_read", "per_write")
+NAMES = ("ReadingNames", "WritingNames")
 OF_THE_CALL = {
     "AlreadyFailed",
     "ExceedsMaxLength",
@@ -25,8 +25,8 @@ OF_THE_CALL = {
 def refusals():
     """Returns the replies that refuse octets or the value that they spell, by the kinds' names."""
     names = set()
-    for crate in NAMES:
-        with open(f"{TOP}/crates/{crate}/specs/Names.antt", encoding="utf-8") as it:
+    for page in NAMES:
+        with open(f"{TOP}/crates/per_core/specs/{page}.antt", encoding="utf-8") as it:
             names |= set(re.findall(r'^name_of .* = codes "(\w+)"$', it.read(), re.MULTILINE))
     if not names > OF_THE_CALL:
         raise Failure(f"the names of kinds aren't where they were: {sorted(OF_THE_CALL - names)} are lacking")

@@ -5,8 +5,10 @@ use Rattle.std.proofs.lemmas.List.Sums.{sum_by-cons}
 use Rattle.rasn_types.specs.Values.{elements, no_values, same, Value}
 use Rattle.rasn_types.proofs.Codes.{same_true}
 use Rattle.rasn_schema.specs.Depth.{meets_cut, Unfolds}
-use Rattle.rasn_schema.specs.Fields.{tag_of}
-use Rattle.rasn_schema.specs.Lawful.{all_pass, are_distinct, are_required, AreLawful, has_bit, if_bag, is_group_schema, is_value, IsLawful, IsLawfulDefault, IsLawfulPresence, IsLawfulType, leaves, no_groups, presence_bits, tags_below}
+use Rattle.rasn_schema.specs.Structures.{tag_of, has_bit, presence_bits}
+use Rattle.rasn_schema.specs.Lawful.{all_pass, are_distinct, are_required, AreLawful, if_bag, is_group_schema, is_value}
+use Rattle.rasn_schema.specs.Lawful.{IsLawful, IsLawfulDefault, IsLawfulPresence, IsLawfulType, leaves, no_groups}
+use Rattle.rasn_schema.specs.Lawful.{tags_below}
 use Rattle.rasn_schema.specs.Lists.{deepest}
 use Rattle.rasn_schema.specs.Normal.{normal, over_bag}
 use Rattle.rasn_schema.specs.Schemas

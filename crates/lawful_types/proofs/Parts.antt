@@ -6,7 +6,7 @@ use Rattle.rasn_constraints.specs.Bounds.{Size}
 use Rattle.rasn_constraints.specs.Constraints.{size_between}
 use Rattle.rasn_constraints.specs.declared.constraints.Bounded.{Bounded}
 use Rattle.rasn_constraints.specs.declared.constraints.Extensible.{Extensible}
-use Rattle.rasn_schema.specs.Fields.{tag_of}
+use Rattle.rasn_schema.specs.Structures.{tag_of}
 use Rattle.rasn_schema.specs.Schemas
 use Rattle.rasn_schema.specs.Schemas.{Schema, Parts, part, leaf, listed, Presence, Tag}
 use Rattle.per_core.specs.Versions.{Newer, NewerParts, NewerPresence, no_more, more_parts, also, unchanged, newer_choice, newer_list, newer_sequence, newer_set_of}

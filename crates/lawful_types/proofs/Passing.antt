@@ -1,7 +1,7 @@
 -- Tests of all of a list.
 use Rattle.std.proofs.Common.{◌≡◌, refl, subst, ap, sym, ◌∙◌, ℕ, zero, suc, ◌+◌, ◌<◌, Bool, true, false, ◌&&◌, not, List, [], ◌∷◌, ◌++◌, length, take, get_or, Some, arith}
 use Rattle.std.specs.Prelude.{slice_get}
-use Rattle.rasn_schema.specs.Fields.{tag_of}
+use Rattle.rasn_schema.specs.Structures.{tag_of}
 use Rattle.rasn_schema.specs.Lawful.{all_pass, is_new, same_tag}
 use Rattle.rasn_schema.specs.Schemas.{Tag}
 use Rattle.rasn_schema.proofs.Places.{and_first, and_second}

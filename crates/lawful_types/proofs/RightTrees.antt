@@ -6,11 +6,10 @@ use Rattle.rasn_types.specs.Values
 use Rattle.rasn_types.specs.Values.{Value, alternative, as_slots, as_values, same, slots, values}
 use Rattle.rasn_types.proofs.Codes.{same_true}
 use Rattle.rasn_types.proofs.Values.{slots-as_slots, values-as_values}
-use Rattle.rasn_schema.specs.AtDepths.{AtDepths}
+use Rattle.rasn_schema.specs.Normal.{AtDepths, are_idle, is_idle, is_vacant, normal, normals}
 use Rattle.rasn_schema.specs.Lawful.{all_pass, are_values, if_bag, is_countable, is_value, is_value_at, slot_passes}
-use Rattle.rasn_schema.specs.Lists.{deepest, list_value}
-use Rattle.rasn_schema.specs.Normal.{are_idle, is_idle, is_vacant, normal, normals}
-use Rattle.rasn_schema.specs.Records.{record_value}
+use Rattle.rasn_schema.specs.Lists.{deepest}
+use Rattle.rasn_schema.specs.Structures.{list_value, record_value}
 use Rattle.rasn_schema.specs.Schemas
 use Rattle.rasn_schema.specs.Schemas.{Schema}
 use Rattle.rasn_schema.specs.declared.items.Place.{Place}

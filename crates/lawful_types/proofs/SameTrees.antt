@@ -4,8 +4,7 @@ use Rattle.std.proofs.lemmas.Bool.{ne_eqb}
 use Rattle.std.specs.Global.{Vec}
 use Rattle.std.specs.Prelude.{is_some, not}
 use Rattle.rasn_types.specs.Values.{Value, alternative, bits, characters, nothing, octets, same, truth, whole}
-use Rattle.rasn_schema.specs.Lists.{list_value}
-use Rattle.rasn_schema.specs.Records.{record_value}
+use Rattle.rasn_schema.specs.Structures.{list_value, record_value}
 use Rattle.rasn_schema.specs.declared.items.Place.{Place}
 use Rattle.rasn_schema.specs.declared.items.Place.TheVariants.{Root, Added}
 use Rattle.rasn_traits.specs.Counted.{index_in, item_at, side_of}

@@ -6,7 +6,7 @@ use Rattle.rasn_constraints.specs.Constraints.{bounds_in, size_in}
 use Rattle.rasn_constraints.specs.LawfulConstraints.{are_lawful_bounds, is_lawful_size}
 use Rattle.rasn_constraints.specs.declared.constraints.Bounded.{Bounded}
 use Rattle.rasn_constraints.specs.declared.constraints.Extensible.{Extensible}
-use Rattle.rasn_schema.specs.Fields.{tag_of}
+use Rattle.rasn_schema.specs.Structures.{tag_of}
 use Rattle.rasn_schema.specs.Forms.{named_bit_schema}
 use Rattle.rasn_schema.specs.Lawful.{all_pass, are_distinct, if_bits, IsLawful, is_value, slot_passes}
 use Rattle.rasn_schema.specs.Lists.{deepest}

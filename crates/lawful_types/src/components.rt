@@ -1,7 +1,7 @@
 //! Whether components and alternatives are newer versions of others, wherever their types are.
 
 ghost use Rattle.std.specs.Prelude.{◌≡◌, ◌≤◌, IfOk, false, is_some, slice_get, true};
-ghost use Rattle.rasn_schema.specs.Fields.{tag_of};
+ghost use Rattle.rasn_schema.specs.Structures.{tag_of};
 ghost use Rattle.rasn_schema.specs.Lawful.{same_tag};
 ghost use Rattle.rasn_dynamic.specs.Types.{required_in, tree_value};
 ghost use Rattle.lawful_types.specs.Keeps.{is_default_tree_of};

@@ -1,10 +1,10 @@
 //! Whether defaults that may hold values are values of their components' types.
 
 ghost use Rattle.std.specs.Prelude.{◌≡◌, ℕ, ◌+◌, ◌≤◌, ◌&&◌, List, None, is_some, map, option_map, slice_get, suc, true};
-ghost use Rattle.rasn_schema.specs.AtDepths.{AtDepths};
+ghost use Rattle.rasn_schema.specs.Normal.{AtDepths, is_idle, is_vacant};
 ghost use Rattle.rasn_schema.specs.Lawful.{all_pass, slot_passes};
-ghost use Rattle.rasn_schema.specs.Lists.{deepest, list_value};
-ghost use Rattle.rasn_schema.specs.Normal.{is_idle, is_vacant};
+ghost use Rattle.rasn_schema.specs.Lists.{deepest};
+ghost use Rattle.rasn_schema.specs.Structures.{list_value};
 ghost use Rattle.per_laws.specs.Levels.{levels_of};
 ghost use Rattle.rasn_dynamic.specs.declared.types.Kind.{Kind};
 ghost use Rattle.rasn_dynamic.specs.Defaults.{all_pairs, group_of, record_of};

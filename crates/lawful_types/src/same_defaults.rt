@@ -2,7 +2,7 @@
 
 ghost use Rattle.std.specs.Prelude.{◌≡◌, [], map};
 ghost use Rattle.rasn_types.specs.Values.{alternative, bits, characters, nothing, octets, same, truth, whole};
-ghost use Rattle.rasn_schema.specs.Lists.{list_value};
+ghost use Rattle.rasn_schema.specs.Structures.{list_value};
 ghost use Rattle.rasn_traits.specs.Counted.{index_in, item_at, side_of};
 ghost use Rattle.rasn_dynamic.specs.Defaults.{all_pairs, same_slot};
 ghost use Rattle.rasn_dynamic.specs.Types.{default_value, tree_slot, tree_value};

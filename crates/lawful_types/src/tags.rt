@@ -1,7 +1,7 @@
 //! Whether the alternatives of a CHOICE are told apart by their tags.
 
 ghost use Rattle.std.specs.Prelude.{◌≡◌, ◌++◌, ◌&&◌};
-ghost use Rattle.rasn_schema.specs.Fields.{tag_of};
+ghost use Rattle.rasn_schema.specs.Structures.{tag_of};
 ghost use Rattle.rasn_schema.specs.Lawful.{are_distinct, is_new, same_tag};
 ghost use Rattle.lawful_types.specs.Keeps.{tags_of};
 

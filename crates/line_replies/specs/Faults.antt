@@ -1,8 +1,8 @@
 -- What the program says of a fault, and the status that it ends with.
 use Rattle.std.specs.Prelude.{ℕ, ◌≡◌, List, ◌++◌, Option, Result, OnOk, codes}
 use Rattle.std.specs.Io.KnownBytes.{Appends}
-use Rattle.per_read.specs.Names.{name_of as decode_name}
-use Rattle.per_write.specs.Names.{name_of as encode_name}
+use Rattle.per_core.specs.ReadingNames.{name_of as decode_name}
+use Rattle.per_core.specs.WritingNames.{name_of as encode_name}
 use Rattle.std.specs.declared.io.ErrorKind.{ErrorKind}
 use Rattle.std.specs.declared.io.ErrorKind.TheVariants as Kinds
 use Rattle.hex.specs.declared.error.FromHexError.{FromHexError}

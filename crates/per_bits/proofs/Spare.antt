@@ -2,11 +2,10 @@
 use Rattle.std.proofs.Common.{◌≡◌, ◌<◌, inl, inr, ◌∙◌, ap, subst, ℕ, Bool, false, length, take, take_all, arith, mod-eq_of_lt, replicate}
 use Rattle.rasn_types.specs.Bits.{Bits, number_of}
 use Rattle.rasn_types.proofs.Packing.{number-zeros}
-use Rattle.per_core.specs.Ends.{Ends, spare}
+use Rattle.per_core.specs.Ends.{Ends, spare, IsOfSpare}
 use Rattle.per_core.specs.Spellings.{ZeroIf}
-use Rattle.per_bits.specs.Surpluses.{IsOfSpare}
-use Rattle.per_bits.specs.declared.ended.Surplus.{Surplus}
-use Rattle.per_bits.specs.declared.ended.Surplus.TheVariants.{Missing, NonzeroOctet, NonzeroSpareBits, ExtraOctets}
+use Rattle.per_core.specs.declared.ends.Surplus.{Surplus}
+use Rattle.per_core.specs.declared.ends.Surplus.TheVariants.{Missing, NonzeroOctet, NonzeroSpareBits, ExtraOctets}
 use Rattle.per_core.proofs.Within.{zero_if}
 use Rattle.per_core.proofs.Zeros.{zeros}
 

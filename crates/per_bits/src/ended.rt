@@ -1,24 +1,11 @@
 //! The end of a complete encoding (X.691 11.1).
 
 ghost use Rattle.std.specs.Prelude.{◌≡◌, ◌%◌, ◌≤◌, OnOk, OnErr, IfErr, length};
-ghost use Rattle.per_bits.specs.Surpluses.{IsOfSpare, IsWhy};
-ghost use Rattle.per_core.specs.Ends.{Ends, spare};
+ghost use Rattle.per_core.specs.Ends.{IsOfSpare, IsWhy, Ends, spare};
 ghost use Rattle.per_core.specs.Spellings.{ZeroIf};
 
 use crate::BitReader;
-
-/// Why bits that were read are no complete encoding.
-#[derive(Clone, Copy, Debug, PartialEq, Eq)]
-pub enum Surplus {
-    /// There are no bits, where a value of no bits takes one octet: the number of bits missing.
-    Missing(u128),
-    /// The one octet of a value of no bits isn't zero.
-    NonzeroOctet,
-    /// The spare bits behind a value aren't zero, where they must be.
-    NonzeroSpareBits,
-    /// Whole octets are left over: their number.
-    ExtraOctets(u128),
-}
+pub use per_core::ends::Surplus;
 
 /// Whether bits end as a complete encoding does: `left` is what is left of `total` bits behind a value.
 ///

@@ -7,8 +7,8 @@ ghost use Rattle.per_messages.specs.Errors.{from_json_name};
 ghost use Rattle.per_c.specs.declared.refusal.Refusal.{Refusal as a_refusal};
 ghost use Rattle.per_c.specs.declared.refusal.Refusal.TheVariants.{Decode as decode_refusal, Encode as encode_refusal};
 ghost use Rattle.per_c.specs.declared.refusal.Refusal.TheVariants.{Json as json_refusal};
-ghost use Rattle.per_read.specs.declared.error.DecodeErrorKind.{DecodeErrorKind as a_decode_kind};
-ghost use Rattle.per_write.specs.declared.error.EncodeErrorKind.{EncodeErrorKind as an_encode_kind};
+ghost use Rattle.per_core.specs.declared.decode_error.DecodeErrorKind.{DecodeErrorKind as a_decode_kind};
+ghost use Rattle.per_core.specs.declared.encode_error.EncodeErrorKind.{EncodeErrorKind as an_encode_kind};
 ghost use Rattle.rasn_dynamic_jer.specs.declared.from_json_error.FromJsonError.{FromJsonError as a_from_json_error};
 
 use line_replies::fault::Fault;

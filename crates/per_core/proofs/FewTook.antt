@@ -5,8 +5,7 @@ use Rattle.rasn_types.proofs.Bits.{length-unpack}
 use Rattle.rasn_types.specs.Values.{Value}
 use Rattle.rasn_schema.specs.Schemas.{Schema}
 use Rattle.per_core.specs.Basic.{OpenOf, basic, fills, front}
-use Rattle.per_core.specs.Spellings.{Settings, Spelling}
-use Rattle.per_core.specs.Took.{Took}
+use Rattle.per_core.specs.Spellings.{Settings, Spelling, Took}
 use Rattle.per_core.specs.FewItems.{most_items}
 use Rattle.per_core.proofs.FewWithin.{Few, few}
 use Rattle.per_core.proofs.HeldIn.{HeldIn, open_held}

@@ -9,8 +9,8 @@ use Rattle.per_core.specs.Basic.{Rule, IsLeftOut, Choice, Chosen, basic_in, rule
 use Rattle.per_core.specs.Counts.{list_items}
 use Rattle.per_core.specs.Spellings.{Settings}
 use Rattle.per_core.specs.Writers.{after}
-use Rattle.per_core.specs.FewItems.{item_count, most_items}
-use Rattle.per_core.specs.Within.{Each, EachElement, OfParts, OfAlternative, HasAtMost, PartsHaveAtMost, AlternativeHasAtMost}
+use Rattle.per_core.specs.FewItems.{item_count, most_items, Each, EachElement, OfParts, OfAlternative, HasAtMost}
+use Rattle.per_core.specs.FewItems.{PartsHaveAtMost, AlternativeHasAtMost}
 use Rattle.per_core.proofs.FewLengths.{then_length}
 use Rattle.per_core.proofs.FewItems.{items_few}
 use Rattle.per_core.proofs.HeldIn.{HeldIn, SlotHeld, SlotsHeld, lengthy_held, open_held, fields_held, all_sorted, each_map}

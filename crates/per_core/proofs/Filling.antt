@@ -4,9 +4,8 @@ use Rattle.rasn_types.specs.Bits.{Bits, AreOctets, to_bits, number_of, unpack}
 use Rattle.rasn_types.specs.Values.{Value}
 use Rattle.rasn_types.proofs.Bits.{length-unpack, number-to_bits}
 use Rattle.rasn_schema.specs.Schemas.{Schema}
-use Rattle.per_core.specs.Spellings.{Settings}
+use Rattle.per_core.specs.Spellings.{Settings, Took, place}
 use Rattle.per_core.specs.Basic.{basic, fills}
-use Rattle.per_core.specs.Took.{Took, place}
 use Rattle.per_core.specs.Ends.{Ends}
 
 pub place-unpack : (os : List ℕ) → place (unpack os) ≡ 0

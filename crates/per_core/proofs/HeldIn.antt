@@ -10,7 +10,7 @@ use Rattle.per_core.specs.Basic.{OneByOne, InFragments, UnconstrainedLength, IsC
 use Rattle.per_core.specs.Counts.{ItemKind, is_aligned}
 use Rattle.per_core.specs.Spellings.{Settings, Spelling, Then}
 use Rattle.per_core.proofs.Readings.{length-by_tags}
-use Rattle.per_core.specs.Within.{Each}
+use Rattle.per_core.specs.FewItems.{Each}
 use Rattle.per_core.proofs.FewLengths.{then_length}
 
 -- so many bits at most, from some position on, have a spelling

@@ -1,7 +1,7 @@
 -- Numbers as they are written mean themselves.
 use Rattle.std.proofs.Common.{◌≡◌, refl, sym, ap, ◌∙◌, subst, ℕ, ◌+◌, ◌*◌, ◌/◌, ◌%◌, ◌<◌, Bool, true, false, cond, ◌&&◌, ltb, [], ◌∷◌, length, arith, Option, Some, None, ℤ, pos, ltb-true, mod-eq_of_lt, le-leb}
-use Rattle.rasn_types.specs.Bits.{Bits, to_bits, number_of, pack, unpack}
-use Rattle.rasn_types.specs.Octets.{natural_bits, whole_bits, octets_of_natural, octets_of_whole, unsigned, signed, signed_bits}
+use Rattle.rasn_types.specs.Bits.{Bits, to_bits, number_of, pack, unpack, natural_bits, whole_bits, octets_of_natural}
+use Rattle.rasn_types.specs.Bits.{octets_of_whole, unsigned, signed, signed_bits}
 use Rattle.rasn_types.proofs.Bits.{length-to_bits, number-to_bits}
 use Rattle.rasn_types.proofs.Octets.{length-pack, unpack-pack, length-whole_bits, octets_of_whole_some, signed_bits-whole_bits}
 use Rattle.rasn_constraints.specs.Bounds.{holds, fits_i128, above, Bounds, unbounded}

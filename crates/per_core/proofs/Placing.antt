@@ -4,7 +4,7 @@ use Rattle.rasn_types.specs.Values.{Value}
 use Rattle.rasn_types.specs.Variants.{Variant}
 use Rattle.rasn_types.proofs.Values.{slots-as_slots}
 use Rattle.rasn_schema.specs.Orders.{insert_at, how_many_less, by_tags}
-use Rattle.rasn_schema.specs.Records.{record_value}
+use Rattle.rasn_schema.specs.Structures.{record_value}
 use Rattle.rasn_schema.specs.Schemas.{Tag, Schema, Parts, no_parts, part, by_tag, count, tags}
 use Rattle.per_core.specs.Canon.{Member, bitmap_of, bodies_of, canon, flags_of, members, record_of, with_additions}
 use Rattle.per_core.specs.Writers.{Writer, one_by_one, ◌▹◌}

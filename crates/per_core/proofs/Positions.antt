@@ -1,9 +1,8 @@
 -- What canon writes depends on the position modulo 8 alone.
 use Rattle.std.proofs.Common.{◌≡◌, refl, ap, ◌∙◌, ℕ, ◌+◌, ◌-◌, ◌/◌, ◌%◌, Bool, true, false, cond, ◌&&◌, leb, ltb, eqb, List, [], ◌∷◌, map, length, take, drop, replicate, arith, Option, Some, None, ℤ}
 use Rattle.rasn_types.specs.Alphabets.{char_width, visible}
-use Rattle.rasn_types.specs.Bits.{Bits, to_bits, width, pack}
+use Rattle.rasn_types.specs.Bits.{Bits, to_bits, width, pack, natural_bits, whole_bits, octets_of_natural}
 use Rattle.rasn_types.specs.Contents.{is_date, is_text, is_time, is_identifier}
-use Rattle.rasn_types.specs.Octets.{natural_bits, whole_bits, octets_of_natural}
 use Rattle.rasn_types.specs.Values.{Value, values, slots, Side, root, added, same, bag_of}
 use Rattle.rasn_types.specs.Variants.{Variant, aligned, unaligned}
 use Rattle.rasn_constraints.specs.Bounds.{allows, fits_i128, holds, above, Bounds, Size, any_size}

@@ -1,12 +1,11 @@
 -- The order of a SET's parts: what hangs on them is put in order as they are, and back.
 use Rattle.std.proofs.Common.{◌≡◌, refl, ap, ◌∙◌, ℕ, zero, suc, Bool, List, [], ◌∷◌}
 use Rattle.rasn_types.specs.Variants.{Variant}
-use Rattle.rasn_schema.specs.Orders.{insert_at, how_many_less, by_tags}
+use Rattle.rasn_schema.specs.Orders.{insert_at, how_many_less, by_tags, put_part, canonised}
 use Rattle.rasn_schema.specs.Schemas.{Tag, TagTree, Presence, Schema, Parts, no_parts, part, smallest, tags}
 use Rattle.per_core.specs.Basic.{basic_in, rules_in}
 use Rattle.per_core.specs.Canon.{canon, members}
 use Rattle.per_core.specs.Spellings.{Settings}
-use Rattle.rasn_schema.specs.Canonised.{put_part, canonised}
 use Rattle.per_core.specs.Listed.{put_second, brought_forward, behind_first, as_listed}
 
 -- how a part is written, where it is put

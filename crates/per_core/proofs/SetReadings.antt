@@ -5,15 +5,14 @@ use Rattle.rasn_types.specs.Values.{Value, as_slots, slots}
 use Rattle.rasn_types.specs.Variants.{Variant}
 use Rattle.rasn_types.proofs.Values.{slots-as_slots}
 use Rattle.rasn_schema.specs.Normal.{normal, normals}
-use Rattle.rasn_schema.specs.Orders.{by_tags, ordered}
+use Rattle.rasn_schema.specs.Orders.{by_tags, ordered, canonised, canonised_slots}
 use Rattle.rasn_schema.proofs.Canonised.{count_ordered, normals_ordered}
-use Rattle.rasn_schema.specs.Records.{record_value}
+use Rattle.rasn_schema.specs.Structures.{record_value}
 use Rattle.rasn_schema.specs.Schemas.{Order, listed, by_tag, Schema, Parts, tags, count}
 use Rattle.per_core.specs.Basic.{Bodies, Record_in, Root, Rule, basic_in, rules_in}
 use Rattle.per_core.specs.Canon.{canon, members, record_of}
 use Rattle.per_core.specs.Spellings.{Settings}
 use Rattle.per_core.proofs.Readings.{length-by_tags, length-rules-in}
-use Rattle.rasn_schema.specs.Canonised.{canonised, canonised_slots}
 use Rattle.per_core.specs.Listed.{listed_slots, AsListed, InOrder}
 use Rattle.per_core.proofs.SetOrders.{members_ordered, rules_ordered, listed_again, ordered_again}
 

@@ -1,8 +1,7 @@
 -- Spellings one after the other, seen from the bits that are left.
 use Rattle.std.proofs.Common.{◌≡◌, ℕ, Bool, [], ◌∷◌, ◌++◌, refl, sym, ◌∙◌, ap, subst, arith, append_assoc, length-append, length, ◌%◌}
 use Rattle.rasn_types.specs.Bits.{Bits}
-use Rattle.per_core.specs.Spellings.{Spelling, Then, exactly}
-use Rattle.per_core.specs.Took.{place, Took}
+use Rattle.per_core.specs.Spellings.{Spelling, Then, exactly, place, Took}
 use Rattle.per_core.specs.Writers.{after}
 use Rattle.per_core.proofs.Agree.{Agree, cancel}
 

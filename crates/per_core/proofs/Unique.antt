@@ -1,8 +1,7 @@
 -- From one position the basic grammar relates one bit list to at most one value, and no spelling is a proper beginning of another.
 use Rattle.std.proofs.Common.{◌≡◌, refl, sym, ap, ◌∙◌, subst, ℕ, ◌+◌, Bool, true, false, List, [], ◌∷◌, arith, inl, inr, Option, Some, None, ℤ, pos, negsuc, leb-true}
 use lib.Signed.{le_z}
-use Rattle.rasn_types.specs.Bits.{unpack}
-use Rattle.rasn_types.specs.Octets.{unsigned, signed}
+use Rattle.rasn_types.specs.Bits.{unpack, unsigned, signed}
 use Rattle.rasn_types.specs.Values.{Value}
 use Rattle.rasn_constraints.specs.Bounds.{holds, above, Bounds, unbounded}
 use Rattle.per_core.specs.Basic.{Marked, IsSemiConstrainedWhole, IsUnconstrainedWhole, number_spelling, IsNumber, IsNumberOf, at_least_zero, Small, Fills, Open, As}

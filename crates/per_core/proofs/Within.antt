@@ -2,8 +2,7 @@
 use Rattle.std.proofs.Common.{◌≡◌, refl, sym, ap, ◌∙◌, subst, ℕ, suc, ◌+◌, ◌-◌, ◌*◌, ◌/◌, ◌^◌, ◌<◌, ◌≤◌, max, Bool, true, false, cond, leb, ltb, eqb, length, replicate, arith, inl, inr, Option, Some, None, eqb-true, ltb-true, leb-true, mod-eq_of_lt, leb-false, pow_mono, le_trans}
 use Rattle.std.proofs.lemmas.Bool.{cases_lt}
 use Rattle.std.proofs.lemmas.List.{length-replicate}
-use Rattle.rasn_types.specs.Bits.{Bits, number_of, to_bits, width}
-use Rattle.rasn_types.specs.Octets.{natural_bits, octets_of_natural}
+use Rattle.rasn_types.specs.Bits.{Bits, number_of, to_bits, width, natural_bits, octets_of_natural}
 use Rattle.rasn_types.specs.Variants.{Variant, aligned, unaligned}
 use Rattle.rasn_types.proofs.Bits.{length-to_bits, number-to_bits, width_holds, width_least}
 use Rattle.per_core.specs.Basic.{InOctets, IsConstrainedWhole}

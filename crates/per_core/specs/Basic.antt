@@ -4,9 +4,8 @@
 use Rattle.std.specs.Prelude.{ℕ, zero, suc, ◌+◌, ◌-◌, ◌*◌, ◌/◌, ◌<◌, ◌≡◌, ◌⊎◌, Bool, true, false, cond, ◌&&◌, nat_le}
 use Rattle.std.specs.Prelude.{nat_lt, ◌==◌, List, [], ◌∷◌, ◌++◌, length, Option, Some, None, ℤ, pos}
 use Rattle.rasn_types.specs.Alphabets.{char_width, char_code, visible}
-use Rattle.rasn_types.specs.Bits.{Bits, width, unpack}
+use Rattle.rasn_types.specs.Bits.{Bits, width, unpack, unsigned, signed}
 use Rattle.rasn_types.specs.Contents.{is_text, is_time, is_identifier, is_date}
-use Rattle.rasn_types.specs.Octets.{unsigned, signed}
 use Rattle.rasn_types.specs.Values.{Value, whole, truth, nothing, characters, elements, bag_of, fields, alternative}
 use Rattle.rasn_types.specs.Values.{day, Side, root, added, as_values, as_slots}
 use Rattle.rasn_types.specs.Variants.{Variant, aligned, unaligned}

@@ -2,11 +2,12 @@
 use Rattle.std.specs.Prelude.{ℕ, zero, suc, ◌+◌, ◌-◌, ◌*◌, ◌/◌, ◌%◌, Bool, true, false, if◌then◌else◌, not, ◌&&◌}
 use Rattle.std.specs.Prelude.{nat_le, nat_lt, ◌==◌, List, [], ◌∷◌, ◌++◌, map, length, take, drop, replicate, Option}
 use Rattle.std.specs.Prelude.{Some, None, ℤ, pos}
-use Rattle.rasn_types.specs.Bits.{Bits, width, to_bits, pack}
-use Rattle.rasn_types.specs.Octets.{octets_of_natural, natural_bits, whole_bits}
+use Rattle.rasn_types.specs.Bits.{Bits, width, to_bits, pack, octets_of_natural, natural_bits, whole_bits}
 use Rattle.rasn_types.specs.Variants.{Variant, aligned, unaligned}
 use Rattle.rasn_constraints.specs.Bounds.{allows, holds, fits_i128, above, Bounds, Size, any_size}
 use Rattle.per_core.specs.Writers.{Writer, just, refused, ◌▹◌, one_by_one, padding, written_if, complete}
+use Rattle.per_core.specs.declared.items.Item.{Item}
+use Rattle.per_core.specs.declared.items.Item.TheVariants.{Octet, Bit, Character}
 
 -- X.691 11.5: a constrained whole number: the o-th of n numbers, counted from 0
 unfoldable pub constrained_whole : Variant → ℕ → ℕ → Writer
@@ -134,3 +135,15 @@ unfoldable pub small : Variant → ℕ → Writer
 unfolding number_under
 small a i = if nat_lt i 64 then just (false ∷ to_bits 6 i) else just (true ∷ [])
     ▹ number_under a (Some (pos 0)) None (pos i)
+
+-- what is counted
+abbrev pub counted_of : Item → ItemKind
+counted_of Octet = octet_items
+counted_of Bit = bit_items
+counted_of (Character w) = char_items w
+
+-- how many bits an item has
+abbrev pub bits_of : Item → ℕ
+bits_of Octet = 8
+bits_of Bit = 1
+bits_of (Character w) = w

@@ -2,10 +2,9 @@
 -- 21.1).
 use Rattle.std.specs.Prelude.{ℕ, zero, suc, ◌≡◌, List, [], ◌∷◌, Option, length}
 use Rattle.rasn_types.specs.Values.{Value}
-use Rattle.rasn_schema.specs.Orders.{how_many_less}
-use Rattle.rasn_schema.specs.Records.{record_value}
+use Rattle.rasn_schema.specs.Orders.{how_many_less, canonised_slots}
+use Rattle.rasn_schema.specs.Structures.{record_value}
 use Rattle.rasn_schema.specs.Schemas.{Tag, Parts, tags, count}
-use Rattle.rasn_schema.specs.Canonised.{canonised_slots}
 
 -- y behind the first of a list, or alone
 abbrev pub put_second {ℓ} : {A : Type ℓ} → A → List A → List A

@@ -3,11 +3,9 @@ use Rattle.std.specs.Prelude.{◌≡◌, ℕ, List, Some, None}
 use Rattle.rasn_types.specs.Variants.{Variant}
 use Rattle.rasn_types.specs.Values.{Value}
 use Rattle.rasn_schema.specs.Schemas.{Schema}
-use Rattle.rasn_schema.specs.Normal.{normal}
-use Rattle.rasn_schema.specs.AtDepths.{AtDepths}
+use Rattle.rasn_schema.specs.Normal.{normal, AtDepths}
 use Rattle.per_core.specs.Canon.{bytes}
-pub use Rattle.rasn_types.specs.Variants.{Variant, aligned, unaligned}
-pub use Rattle.rasn_types.specs.Codecs.{variant_of}
+pub use Rattle.rasn_types.specs.Variants.{Variant, aligned, unaligned, variant_of}
 pub use Rattle.rasn_types.specs.declared.types.Codec.{Codec}
 pub use Rattle.rasn_types.specs.declared.types.Codec.TheVariants.{Aper, Uper}
 unfoldable pub use Rattle.rasn_types.specs.Identifiers.{contents, subidentifier}

@@ -1,5 +1,6 @@
--- What may be read: which bits may stand from a position on, of all encodings that a basic decoder takes.
-use Rattle.std.specs.Prelude.{ℕ, ◌≡◌, ◌⊎◌, Bool, true, false, ◌++◌, length, replicate}
+-- What may be read: which bits may stand from a position on, of all encodings that a basic decoder takes; and what a
+-- reader has taken of the bits that are left.
+use Rattle.std.specs.Prelude.{ℕ, ◌≡◌, ◌⊎◌, Bool, true, false, ◌++◌, length, replicate, ◌-◌, ◌%◌}
 use Rattle.rasn_types.specs.Bits.{Bits, number_of}
 use Rattle.rasn_types.specs.Variants.{Variant}
 use Rattle.per_core.specs.Writers.{pad, after}
@@ -51,3 +52,17 @@ pub record AnyPadding (a : Settings) (p : ℕ) (bits : Bits) : Type 0 where
 pub record Field (w n p : ℕ) (bits : Bits) : Type 0 where
   pub wide : length bits ≡ w
   pub means : number_of bits ≡ n
+
+-- the position below 8 at which the bits that are left begin, so that they end with an octet
+abbrev pub place : Bits → ℕ
+place b = (8 - length b % 8) % 8
+
+-- a front of the bits s has the spelling, and the bits t are left
+pub record Took (f : Spelling) (s t : Bits) : Type 0 where
+  pub front : Bits
+  pub joins : s ≡ front ++ t
+  pub spelled : f (place s) front
+
+-- nothing stands in some form at the front of bits
+abbrev pub NoneIn : {X : Type 0} → (X → Spelling) → Bits → Type 0
+NoneIn {X} form s = (x : X) (t : Bits) → Took (form x) s t → ⊥

@@ -1,8 +1,7 @@
 //! What is counted: octets, bits and characters, each of as many bits (X.691 11.9, 16, 17, 30.5).
 
 ghost use Rattle.std.specs.Prelude.{◌≡◌};
-ghost use Rattle.per_core.specs.Counts.{is_aligned};
-ghost use Rattle.per_core.specs.Items.{counted_of, bits_of};
+ghost use Rattle.per_core.specs.Counts.{is_aligned, counted_of, bits_of};
 
 /// What is counted.
 #[derive(Clone, Copy)]

@@ -6,15 +6,13 @@ ghost use Rattle.std.specs.Prelude.{◌≡◌, ◌↔◌, ℕ, Bool, List, Optio
 ghost use Rattle.rasn_types.specs.Bits.{Bits};
 ghost use Rattle.rasn_types.specs.Values.{Value};
 ghost use Rattle.rasn_types.specs.Variants.{Variant};
-ghost use Rattle.rasn_schema.specs.Lawful.{presence_bits};
+ghost use Rattle.rasn_schema.specs.Structures.{presence_bits, record_value};
 ghost use Rattle.rasn_schema.specs.Normal.{normal, normals};
-ghost use Rattle.rasn_schema.specs.Orders.{by_tags};
-ghost use Rattle.rasn_schema.specs.Records.{record_value};
+ghost use Rattle.rasn_schema.specs.Orders.{by_tags, canonised, canonised_slots};
 ghost use Rattle.rasn_schema.specs.Schemas.{Schema, Parts, count, tags, by_tag, listed};
 ghost use Rattle.per_core.specs.Basic.{basic_in};
 ghost use Rattle.per_core.specs.Canon.{canon, members};
 ghost use Rattle.per_core.specs.Spellings.{Settings};
-ghost use Rattle.rasn_schema.specs.Canonised.{canonised, canonised_slots};
 ghost use Rattle.per_core.specs.Listed.{listed_slots, AsListed, InOrder};
 ghost use Rattle.per_core.specs.Placed.{placed_set};
 

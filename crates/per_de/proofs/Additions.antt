@@ -6,22 +6,22 @@ use Rattle.rasn_schema.specs.Fields.{shapes_from}
 use Rattle.rasn_schema.specs.Schemas.{Schema, Parts, no_parts, part, count}
 use Rattle.rasn_traits.specs.AdditionsRead.{ReadsNoAddition}
 use Rattle.per_core.specs.Basic.{Fills, Octets, Unknown, basic}
-use Rattle.per_core.specs.Took.{Took}
+use Rattle.per_core.specs.Spellings.{Took, NoneIn}
 use Rattle.per_core.proofs.Took.{then_took, took_agree, took_then}
-use Rattle.per_read.specs.Fields.{IsOfUnconstrained}
-use Rattle.per_read.specs.Kinds.{NoneIn}
+use Rattle.per_core.specs.FieldFaults.{IsOfUnconstrained}
 use Rattle.per_read.proofs.OfFields.{unconstrained_tested}
-use Rattle.per_read.specs.declared.error.DecodeError.{DecodeError}
-use Rattle.per_read.specs.declared.error.DecodeErrorKind.{DecodeErrorKind}
-use Rattle.per_read.specs.declared.error.DecodeErrorKind.TheVariants.{MissingTag, OutOfMemory}
-use Rattle.per_read.specs.Bitmaps.{IsOfUnknown, skipped_unknown}
+use Rattle.per_core.specs.declared.decode_error.DecodeError.{DecodeError}
+use Rattle.per_core.specs.declared.decode_error.DecodeErrorKind.{DecodeErrorKind}
+use Rattle.per_core.specs.declared.decode_error.DecodeErrorKind.TheVariants.{MissingTag, OutOfMemory}
+use Rattle.per_core.specs.AdditionFaults.{IsOfUnknown, skipped_unknown, Shown, Extension, ahead}
 use Rattle.per_read.proofs.Opened.{no_open}
 use Rattle.per_decoding.specs.Laws.Additions.{of_next}
-use Rattle.per_decoding.specs.Additions.{Adds, Asks, OpensAddition, OpensContents, Shown, OutsideAddition}
-use Rattle.per_decoding.specs.Faults.{IsInTail, behind_bitmap, in_bitmap, in_octets, in_open, in_unknown, refusal, unread, unskipped, IsOfNext, Unended}
+use Rattle.per_decoding.specs.Additions.{Adds, Asks, OpensAddition, OpensContents, OutsideAddition}
+use Rattle.per_core.specs.ReadingFaults.{IsInTail, behind_bitmap, in_bitmap, in_octets, in_unknown}
+use Rattle.per_decoding.specs.Faults.{in_open, refusal, unread, unskipped, IsOfNext, Unended}
 use Rattle.per_decoding.specs.Rules.{plain_rules}
 use Rattle.per_decoding.specs.Scopes.{Closes, OutsideRecord, with_outside_record}
-use Rattle.per_decoding.specs.State.{Extension, State, ahead, settings_of, with_bits}
+use Rattle.per_decoding.specs.State.{State, settings_of, with_bits}
 use Rattle.per_decoding.specs.Laws.Tails.{asks_agree, shown_agree, tested_new}
 use Rattle.per_de.specs.Sources.{flags_in}
 use Rattle.per_de.specs.Steps.{IsOfBitmap, IsOfOctets, IsUnskipped, RefusedAs, SkipsRest, SkipsUnknown, TakesFlags, Unasked}

@@ -3,7 +3,7 @@ use Rattle.std.proofs.Common.{◌≡◌, ◌⊎◌, inl, inr, refl, sym, ◌∙�
 use Rattle.std.specs.Prelude.{Ok, Err, is_some, unwrap_or}
 use Rattle.rasn_types.specs.Bits.{Bits}
 use Rattle.rasn_types.specs.Values.{Side, root, added}
-use Rattle.rasn_schema.specs.Choices.{choice_schema, tags_of}
+use Rattle.rasn_schema.specs.Structures.{choice_schema, tags_of}
 use Rattle.rasn_schema.specs.Enumerations.{addeds_of, is_extensible, items_of}
 use Rattle.rasn_schema.specs.Schemas.{count, Schema, Parts, no_parts, part}
 use Rattle.rasn_schema.specs.declared.items.ItemCounts.{ItemCounts}
@@ -12,12 +12,12 @@ use Rattle.rasn_schema.specs.declared.items.Place.TheVariants.{Root, Added}
 use Rattle.rasn_traits.specs.Calls.{Refuses}
 use Rattle.rasn_traits.specs.Counted.{IsChoiceOf, index_in, item_at, side_of, stands_in}
 use Rattle.per_core.specs.Basic.{basic, Octets}
-use Rattle.per_core.specs.Spellings.{Settings}
-use Rattle.per_core.specs.Took.{Took}
-use Rattle.per_decoding.specs.ChoiceIndexes.{index_form, index_of}
+use Rattle.per_core.specs.Spellings.{Settings, Took}
+use Rattle.per_core.specs.IndexFaults.{index_form}
+use Rattle.per_decoding.specs.ChoiceIndexes.{index_of}
 use Rattle.per_decoding.specs.Enumerations.{item_form, placed_item}
-use Rattle.per_read.specs.declared.error.DecodeError.{DecodeError}
-use Rattle.per_read.specs.declared.error.DecodeErrorKind.TheVariants.{OutOfMemory}
+use Rattle.per_core.specs.declared.decode_error.DecodeError.{DecodeError}
+use Rattle.per_core.specs.declared.decode_error.DecodeErrorKind.TheVariants.{OutOfMemory}
 use Rattle.per_decoding.specs.Choices.{OpensChoice, StandsFrom}
 use Rattle.per_decoding.specs.Faults.{Fault, refusal}
 use Rattle.per_decoding.specs.Scopes.{Enters, OutsideRecord, no_record}

@@ -5,23 +5,23 @@ use Rattle.std.proofs.lemmas.Result.{IfOk-weaker, IfErr-weaker}
 use Rattle.rasn_types.specs.Alphabets.{char_width, visible}
 use Rattle.rasn_types.specs.Bits.{Bits}
 use Rattle.rasn_types.specs.Values.{Value, truth, nothing, whole}
-use Rattle.rasn_constraints.specs.Bounds.{Bounds, Size, above, any_size}
+use Rattle.rasn_constraints.specs.Bounds.{Bounds, Size, above, any_size, count_of}
 use Rattle.rasn_schema.specs.Schemas
-use Rattle.rasn_schema.specs.Choices.{tags_of}
+use Rattle.rasn_schema.specs.Structures.{tags_of}
 use Rattle.rasn_schema.specs.Schemas.{Parts, Schema}
 use Rattle.rasn_traits.specs.Calls.{Answers, Behaves, Reads, Refuses, freely_read, takes_none}
-use Rattle.per_core.specs.Spellings.{Settings, Spelling}
+use Rattle.per_core.specs.Spellings.{Settings, Spelling, Took, NoneIn}
 use Rattle.per_core.specs.Basic.{basic, basic_in, bit, IsNumberOf}
-use Rattle.per_core.specs.Took.{Took}
 use Rattle.per_core.proofs.Took.{took_map}
-use Rattle.rasn_constraints.specs.Counts.{count_of}
 use Rattle.per_core.specs.declared.items.Item.TheVariants.{Bit, Character, Octet}
-use Rattle.per_read.specs.InLists.{IsOfList}
-use Rattle.per_read.specs.Kinds.{Faulty, NoneIn}
-use Rattle.per_read.specs.Numbers.{IsOfForm, IsOfNumber, IsOfOctets}
-use Rattle.per_read.specs.declared.error.DecodeError.{DecodeError}
-use Rattle.per_read.specs.declared.error.DecodeErrorKind.{DecodeErrorKind}
-use Rattle.per_read.specs.declared.error.DecodeErrorKind.TheVariants.{AlreadyFailed, ExceedsMaxLength, ExceedsMaxParseDepth, Incomplete, OutOfMemory, RealNotSupported}
+use Rattle.per_core.specs.SizeFaults.{IsOfList}
+use Rattle.per_read.specs.Kinds.{Faulty}
+use Rattle.per_core.specs.NumberFaults.{IsOfForm, IsOfNumber, IsOfOctets}
+use Rattle.per_core.specs.declared.decode_error.DecodeError.{DecodeError}
+use Rattle.per_core.specs.declared.decode_error.DecodeErrorKind.{DecodeErrorKind}
+use Rattle.per_core.specs.declared.decode_error.DecodeErrorKind.TheVariants.{AlreadyFailed, ExceedsMaxLength}
+use Rattle.per_core.specs.declared.decode_error.DecodeErrorKind.TheVariants.{ExceedsMaxParseDepth, Incomplete}
+use Rattle.per_core.specs.declared.decode_error.DecodeErrorKind.TheVariants.{OutOfMemory, RealNotSupported}
 use Rattle.per_read.specs.State.{State as Taking}
 use Rattle.per_read.specs.Takes.{Reason, Takes}
 use Rattle.per_read.proofs.Calls.{of_short}
@@ -30,10 +30,11 @@ use Rattle.per_read.proofs.OfLists.{opening_tested}
 use Rattle.per_read.proofs.Refusals.{faulty_map}
 use Rattle.per_decoding.proofs.DatesRead.{year_tested}
 use Rattle.per_decoding.proofs.Enumerations.{places_tested}
-use Rattle.per_decoding.specs.Dates.{IsOfDayField}
+use Rattle.per_core.specs.TimeFaults.{IsOfDayField}
 use Rattle.per_decoding.specs.Laws.Spelled.{spelled}
 use Rattle.per_decoding.specs.State.{State, Spells, reader_of, settings_of}
-use Rattle.per_decoding.specs.Faults.{Answered, Fault, IsAt, IsOf, IsOfHead, at_once, refusal}
+use Rattle.per_decoding.specs.Faults.{Answered, Fault, IsOf, refusal}
+use Rattle.per_core.specs.ReadingFaults.{IsAt, IsOfHead, at_once}
 use Rattle.per_decoding.specs.Rules.{plain_rules}
 use Rattle.per_de.specs.Steps.{TakesBit}
 use Rattle.per_de.proofs.Spans.{bit_lacking, none_left, with_rest}

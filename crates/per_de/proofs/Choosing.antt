@@ -3,7 +3,9 @@ use Rattle.std.proofs.Common.{◌≡◌, ◌⊎◌, inl, inr, refl, sym, ◌∙�
 use Rattle.std.specs.Prelude.{Err}
 use Rattle.rasn_types.specs.Bits.{Bits}
 use Rattle.rasn_types.specs.Values.{Side, root, added}
-use Rattle.rasn_schema.specs.Choices.{AreVariants, VariantShape, alternative_at, choice_schema, go_by, one_level_in, place_of, tags_of, variants_behind, variants_on}
+use Rattle.rasn_schema.specs.Choices.{AreVariants, VariantShape, go_by, one_level_in, place_of, variants_behind}
+use Rattle.rasn_schema.specs.Choices.{variants_on}
+use Rattle.rasn_schema.specs.Structures.{alternative_at, choice_schema, tags_of}
 use Rattle.rasn_schema.specs.Schemas
 use Rattle.rasn_schema.specs.Schemas.{Schema, Parts, no_parts, part}
 use Rattle.rasn_schema.proofs.Both.{distinct_before, distinct_behind}
@@ -12,19 +14,18 @@ use Rattle.rasn_schema.specs.declared.items.Place.{Place}
 use Rattle.rasn_traits.specs.Calls.{DecoderRules, Refuses}
 use Rattle.rasn_traits.specs.Choices.{IsAlternative, IsChosen, index_in, side_of}
 use Rattle.per_core.specs.Basic.{Octets}
-use Rattle.per_core.specs.Spellings.{Settings}
-use Rattle.per_core.specs.Took.{Took}
+use Rattle.per_core.specs.Spellings.{Settings, Took, NoneIn}
 use Rattle.per_core.proofs.Took.{then_took}
-use Rattle.per_decoding.specs.ChoiceIndexes.{IsOfIndex, index_form}
-use Rattle.per_read.specs.Fields.{IsOfUnconstrained}
-use Rattle.per_read.specs.Kinds.{NoneIn}
+use Rattle.per_core.specs.IndexFaults.{IsOfIndex, index_form}
+use Rattle.per_core.specs.FieldFaults.{IsOfUnconstrained}
 use Rattle.per_read.proofs.OfFields.{unconstrained_tested}
-use Rattle.per_read.specs.declared.error.DecodeError.{DecodeError}
-use Rattle.per_read.specs.declared.error.DecodeErrorKind.{DecodeErrorKind}
-use Rattle.per_read.specs.declared.error.DecodeErrorKind.TheVariants.{OutOfMemory}
+use Rattle.per_core.specs.declared.decode_error.DecodeError.{DecodeError}
+use Rattle.per_core.specs.declared.decode_error.DecodeErrorKind.{DecodeErrorKind}
+use Rattle.per_core.specs.declared.decode_error.DecodeErrorKind.TheVariants.{OutOfMemory}
 use Rattle.per_decoding.specs.Laws.Choices.{no_contents, no_index}
 use Rattle.per_decoding.specs.Choices.{OpensChoice, StandsFrom}
-use Rattle.per_decoding.specs.Faults.{Fault, in_added_alternative, in_octets, refusal}
+use Rattle.per_decoding.specs.Faults.{Fault, refusal}
+use Rattle.per_core.specs.ReadingFaults.{in_added_alternative, in_octets}
 use Rattle.per_decoding.specs.Laws.Records.{of_bits}
 use Rattle.per_decoding.specs.Laws.Tails.{tested_new}
 use Rattle.per_decoding.specs.Scopes.{Enters, OutsideRecord, no_record, with_outside_record, outside_record as in_state}

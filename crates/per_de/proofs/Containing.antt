@@ -5,13 +5,14 @@ use Rattle.rasn_schema.specs.Schemas.{Schema}
 use Rattle.rasn_traits.specs.Calls.{Refuses}
 use Rattle.rasn_traits.specs.Contents.{OpenedContentsToRead}
 use Rattle.per_core.specs.Basic.{Fills, Octets, basic}
-use Rattle.per_read.specs.Kinds.{NoneIn}
+use Rattle.per_core.specs.Spellings.{NoneIn}
 use Rattle.per_read.proofs.OfFields.{unconstrained_tested}
-use Rattle.per_read.specs.declared.error.DecodeError.{DecodeError}
-use Rattle.per_read.specs.declared.error.DecodeErrorKind.{DecodeErrorKind}
-use Rattle.per_read.specs.declared.error.DecodeErrorKind.TheVariants.{OutOfMemory}
+use Rattle.per_core.specs.declared.decode_error.DecodeError.{DecodeError}
+use Rattle.per_core.specs.declared.decode_error.DecodeErrorKind.{DecodeErrorKind}
+use Rattle.per_core.specs.declared.decode_error.DecodeErrorKind.TheVariants.{OutOfMemory}
 use Rattle.per_read.proofs.Opened.{no_open}
-use Rattle.per_decoding.specs.Faults.{Fault, in_containing, in_octets, refusal}
+use Rattle.per_decoding.specs.Faults.{Fault, refusal}
+use Rattle.per_core.specs.ReadingFaults.{in_containing, in_octets}
 use Rattle.per_decoding.specs.Laws.Contents.{took_containing}
 use Rattle.per_decoding.specs.Laws.Records.{of_bits}
 use Rattle.per_decoding.specs.Laws.Tails.{tested_new}

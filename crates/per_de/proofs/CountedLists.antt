@@ -3,15 +3,16 @@ use Rattle.std.proofs.Common.{◌≡◌, inl, inr, refl, sym, ◌∙◌, ap, sub
 use Rattle.std.specs.Prelude.{Ok, Err, Option}
 use Rattle.rasn_types.specs.Values.{Value}
 use Rattle.rasn_constraints.specs.Bounds.{Size}
-use Rattle.rasn_schema.specs.Lists.{list_at, list_value}
+use Rattle.rasn_schema.specs.Lists.{list_at}
+use Rattle.rasn_schema.specs.Structures.{list_value}
 use Rattle.rasn_schema.specs.Schemas
 use Rattle.rasn_schema.specs.Schemas.{Schema}
 use Rattle.rasn_traits.specs.Calls.{Behaves}
 use Rattle.rasn_traits.specs.Lists.{HasElement, ListOpenedToRead, ListUnread}
 use Rattle.rasn_traits.specs.ListsInTurn.{RefusesOtherValuesRead}
-use Rattle.per_read.specs.declared.error.DecodeError.{DecodeError}
-use Rattle.per_read.specs.declared.error.DecodeErrorKind.{DecodeErrorKind}
-use Rattle.per_read.specs.declared.error.DecodeErrorKind.TheVariants.{AlreadyFailed}
+use Rattle.per_core.specs.declared.decode_error.DecodeError.{DecodeError}
+use Rattle.per_core.specs.declared.decode_error.DecodeErrorKind.{DecodeErrorKind}
+use Rattle.per_core.specs.declared.decode_error.DecodeErrorKind.TheVariants.{AlreadyFailed}
 use Rattle.per_decoding.specs.Faults.{Fault, IsOf}
 use Rattle.per_decoding.specs.Laws.InTurn.{awaits_values_live, contradicts, fault_at, spells_at}
 use Rattle.per_decoding.specs.Rules.{AwaitsValues, decoder_rules, plain_rules}

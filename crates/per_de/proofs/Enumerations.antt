@@ -4,11 +4,9 @@ use Rattle.rasn_types.specs.Bits.{Bits}
 use Rattle.rasn_types.specs.Values.{Value}
 use Rattle.rasn_schema.specs.Schemas
 use Rattle.per_core.specs.Basic.{basic, basic_in}
-use Rattle.per_core.specs.Spellings.{Settings}
-use Rattle.per_core.specs.Took.{Took}
+use Rattle.per_core.specs.Spellings.{Settings, Took, NoneIn}
 use Rattle.per_core.proofs.Took.{took_map}
 use Rattle.per_decoding.specs.Enumerations.{item_form}
-use Rattle.per_read.specs.Kinds.{NoneIn}
 
 pub reads_item : (a : Settings) (r e : ℕ) (ext : Bool) (v : Value) {s t : Bits} → Took (item_form a r e ext v) s t → Took (basic a (Schemas.items r e ext) v) s t
 unfolding basic_in

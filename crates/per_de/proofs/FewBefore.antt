@@ -7,12 +7,10 @@ use Rattle.rasn_types.proofs.Bits.{number_below, width_least}
 use Rattle.rasn_constraints.specs.Bounds.{Size}
 use Rattle.rasn_constraints.specs.LawfulConstraints.{is_lawful_size}
 use Rattle.per_core.specs.Basic.{InOctets, constrained_by}
-use Rattle.per_core.specs.Spellings.{Settings, Spelling, Then, AnyPadding, Field}
-use Rattle.per_core.specs.Took.{Took}
-use Rattle.per_read.specs.Lengths.{CountOf, count_of}
-use Rattle.per_read.specs.UpTo.{UpTo, UpToFragment, UpToUnconstrained, UpToBetween, UpToSized}
-use Rattle.per_read.specs.declared.lengths.Length.{Length}
-use Rattle.per_read.specs.declared.lengths.Length.TheVariants.{Last, Fragment}
+use Rattle.per_core.specs.Spellings.{Settings, Spelling, Then, AnyPadding, Field, Took}
+use Rattle.per_core.specs.Lengths.{CountOf, count_of, UpTo, UpToFragment, UpToUnconstrained, UpToBetween, UpToSized}
+use Rattle.per_core.specs.declared.lengths.Length.{Length}
+use Rattle.per_core.specs.declared.lengths.Length.TheVariants.{Last, Fragment}
 use Rattle.per_core.specs.FewItems.{most_items}
 use Rattle.per_core.proofs.FewLengths.{last_few, fragment_few, then_length}
 

@@ -3,12 +3,11 @@ use Rattle.std.proofs.Common.{◌≡◌, ◌⊎◌, inl, inr, refl, sym, ◌∙�
 use Rattle.std.specs.Prelude.{◌↔◌, Result, Ok, Err, IfErr, IfOk, IsErrAnd, OnErr, OnOk}
 use Rattle.rasn_types.specs.Values.{Side, Value, root, added, nothing}
 use Rattle.rasn_constraints.specs.Bounds.{Size}
-use Rattle.rasn_schema.specs.Lawful.{presence_bits}
-use Rattle.rasn_schema.specs.Lists.{list_at, list_value}
+use Rattle.rasn_schema.specs.Structures.{presence_bits, list_value, extended}
+use Rattle.rasn_schema.specs.Lists.{list_at}
 use Rattle.rasn_schema.specs.Schemas
 use Rattle.rasn_schema.specs.Schemas.{Parts, Schema, count}
 use Rattle.rasn_schema.specs.declared.items.Place.{Place}
-use Rattle.rasn_traits.specs.Additions.{extended}
 use Rattle.rasn_traits.specs.AdditionsRead.{AdditionOpenedToRead, ReadsNoAddition}
 use Rattle.rasn_traits.specs.Amounts.{Amount, amount_of, one_value}
 use Rattle.rasn_traits.specs.Calls.{Behaves, Reads, Refuses, freely_read}
@@ -18,8 +17,8 @@ use Rattle.rasn_traits.specs.Lists.{HasElement, ListOpenedToRead, ListUnread}
 use Rattle.rasn_traits.specs.Moments.{date_at}
 use Rattle.rasn_traits.specs.Scopes.{ClosedRead, OpenedToRead}
 use Rattle.rasn_traits.specs.TurnsRead.{CameRead, RefusesOtherRead}
-use Rattle.per_read.specs.declared.error.DecodeError.{DecodeError}
-use Rattle.per_read.specs.declared.error.DecodeErrorKind.TheVariants.{AlreadyFailed, MissingTag, OutOfMemory}
+use Rattle.per_core.specs.declared.decode_error.DecodeError.{DecodeError}
+use Rattle.per_core.specs.declared.decode_error.DecodeErrorKind.TheVariants.{AlreadyFailed, MissingTag, OutOfMemory}
 use Rattle.per_decoding.specs.Additions.{ClosesAddition, OpensAddition, OpensContaining, OpensContents, OutsideAddition}
 use Rattle.per_decoding.specs.Choices.{ClosesChoice, EndsFrom, OpensChoice, OutsideChoice, StandsFrom}
 use Rattle.per_decoding.specs.Faults.{Fault, refusal}

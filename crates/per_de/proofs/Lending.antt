@@ -19,17 +19,16 @@ use Rattle.rasn_schema.specs.Schemas
 use Rattle.rasn_traits.specs.Calls.{Reads}
 use Rattle.per_core.specs.Basic.{InFragments, Counted, OneByOne, UnconstrainedLength, length_form, octet}
 use Rattle.per_core.specs.Counts.{octet_items}
-use Rattle.per_core.specs.Spellings.{Settings, Spelling, Then}
-use Rattle.per_core.specs.Took.{Took, place}
+use Rattle.per_core.specs.Spellings.{Settings, Spelling, Then, Took, place}
 use Rattle.per_core.specs.declared.items.Item.TheVariants.{Octet}
 use Rattle.per_core.proofs.Readings.{one_reading}
 use Rattle.per_core.proofs.Took.{took_agree}
 use Rattle.per_read.specs.Items.{HasCount}
-use Rattle.per_read.specs.Sizes.{IsOfItems}
+use Rattle.per_core.specs.SizeFaults.{IsOfItems}
 use Rattle.per_read.specs.State.{State as Taking, settings_of as read_by}
 use Rattle.per_read.specs.Takes.{Takes, memory_or}
-use Rattle.per_read.specs.declared.error.DecodeError.{DecodeError}
-use Rattle.per_read.specs.declared.error.DecodeErrorKind.{DecodeErrorKind}
+use Rattle.per_core.specs.declared.decode_error.DecodeError.{DecodeError}
+use Rattle.per_core.specs.declared.decode_error.DecodeErrorKind.{DecodeErrorKind}
 use Rattle.per_read.specs.Stands.{LastTaken}
 use Rattle.per_decoding.specs.Faults.{refusal}
 use Rattle.per_decoding.specs.Rules.{plain_rules}

@@ -4,25 +4,25 @@ use Rattle.std.specs.Prelude.{Result, Ok, Err}
 use Rattle.rasn_types.specs.Bits.{Bits}
 use Rattle.rasn_types.specs.Values.{Value}
 use Rattle.rasn_constraints.specs.Bounds.{Size}
-use Rattle.rasn_schema.specs.Lists.{list_at, list_value}
+use Rattle.rasn_schema.specs.Lists.{list_at}
+use Rattle.rasn_schema.specs.Structures.{list_value}
 use Rattle.rasn_schema.specs.Schemas
 use Rattle.rasn_schema.specs.Schemas.{Schema}
 use Rattle.rasn_traits.specs.Lists.{HasElement, ListOpenedToRead, ListUnread}
 use Rattle.per_core.specs.Basic.{basic, basic_in}
-use Rattle.per_core.specs.Spellings.{Settings}
-use Rattle.per_core.specs.Took.{Took}
+use Rattle.per_core.specs.Spellings.{Settings, Took, NoneIn}
 use Rattle.per_core.proofs.Took.{took_map}
-use Rattle.per_read.specs.Kinds.{NoneIn}
 use Rattle.per_read.specs.Lists.{AreOpenItems, AwaitsItem, Leaves, NextRead, OpensList, ReadsNext, RefusesList, list_form, list_rule}
-use Rattle.per_read.specs.InLists.{IsOfList}
+use Rattle.per_core.specs.SizeFaults.{IsOfList}
 use Rattle.per_read.specs.State.{State as Taking}
-use Rattle.per_read.specs.declared.error.DecodeError.{DecodeError}
-use Rattle.per_read.specs.declared.error.DecodeErrorKind.{DecodeErrorKind}
-use Rattle.per_read.specs.declared.error.DecodeErrorKind.TheVariants.{AlreadyFailed, OutOfMemory}
+use Rattle.per_core.specs.declared.decode_error.DecodeError.{DecodeError}
+use Rattle.per_core.specs.declared.decode_error.DecodeErrorKind.{DecodeErrorKind}
+use Rattle.per_core.specs.declared.decode_error.DecodeErrorKind.TheVariants.{AlreadyFailed, OutOfMemory}
 use Rattle.per_read.specs.declared.lists.UnreadElements.{UnreadElements}
 use Rattle.per_read.proofs.OfLists.{of_list, opening_tested}
 use Rattle.per_decoding.specs.Laws.Contents.{moved}
-use Rattle.per_decoding.specs.Faults.{Answered, IsOf, in_element, refusal}
+use Rattle.per_decoding.specs.Faults.{Answered, IsOf, refusal}
+use Rattle.per_core.specs.ReadingFaults.{in_element}
 use Rattle.per_de.specs.Lists.{IsOpenList}
 use Rattle.per_decoding.specs.Rules.{plain_rules}
 use Rattle.per_decoding.specs.Laws.Spelled.{spelled}

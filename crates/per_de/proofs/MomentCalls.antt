@@ -9,16 +9,17 @@ use Rattle.rasn_schema.specs.Schemas.{Schema}
 use Rattle.rasn_traits.specs.Calls.{Reads, Refuses}
 use Rattle.rasn_traits.specs.Moments.{date_at}
 use Rattle.per_core.specs.Basic.{basic, basic_in}
-use Rattle.per_core.specs.Spellings.{Settings}
-use Rattle.per_core.specs.Took.{Took}
+use Rattle.per_core.specs.Spellings.{Settings, Took, NoneIn}
 use Rattle.per_core.proofs.Took.{took_map}
-use Rattle.per_read.specs.Kinds.{Faulty, NoneIn}
-use Rattle.per_decoding.specs.Times.{IsOfIdentifier, IsOfTime, identifier_form, time_form}
-use Rattle.per_read.specs.declared.error.DecodeError.{DecodeError}
-use Rattle.per_read.specs.declared.error.DecodeErrorKind.{DecodeErrorKind}
-use Rattle.per_read.specs.declared.error.DecodeErrorKind.TheVariants.{ExceedsMaxParseDepth, OutOfMemory}
+use Rattle.per_read.specs.Kinds.{Faulty}
+use Rattle.per_core.specs.TimeFaults.{IsOfIdentifier, IsOfTime}
+use Rattle.per_decoding.specs.Times.{identifier_form, time_form}
+use Rattle.per_core.specs.declared.decode_error.DecodeError.{DecodeError}
+use Rattle.per_core.specs.declared.decode_error.DecodeErrorKind.{DecodeErrorKind}
+use Rattle.per_core.specs.declared.decode_error.DecodeErrorKind.TheVariants.{ExceedsMaxParseDepth, OutOfMemory}
 use Rattle.per_read.proofs.Refusals.{faulty_map}
-use Rattle.per_decoding.specs.Faults.{Fault, IsAt, refusal}
+use Rattle.per_decoding.specs.Faults.{Fault, refusal}
+use Rattle.per_core.specs.ReadingFaults.{IsAt}
 use Rattle.per_decoding.specs.Rules.{plain_rules}
 use Rattle.per_decoding.specs.State.{Spells, State}
 use Rattle.per_de.proofs.Calls.{too_deep}

@@ -1,24 +1,24 @@
 -- What opening a record takes, and why it refuses.
 use Rattle.std.proofs.Common.{◌≡◌, ◌⊎◌, inl, inr, refl, sym, ◌∙◌, ap, subst, ℕ, suc, ◌-◌, Bool, false, ◌++◌, length, arith, length-append}
 use Rattle.std.specs.Prelude.{Result, Ok, Err}
-use Rattle.rasn_schema.specs.Lawful.{presence_bits}
+use Rattle.rasn_schema.specs.Structures.{presence_bits, extended}
 use Rattle.rasn_schema.specs.Normal.{additions_of, root_of}
 use Rattle.rasn_schema.specs.Schemas.{Schema, Parts, listed, count as part_count}
 use Rattle.rasn_schema.specs.Records.{record_at}
-use Rattle.rasn_traits.specs.Additions.{extended}
 use Rattle.rasn_traits.specs.Calls.{Refuses}
 use Rattle.per_core.specs.Basic.{ExtensionBit}
-use Rattle.per_core.specs.Took.{Took}
+use Rattle.per_core.specs.Spellings.{Took}
 use Rattle.per_core.proofs.Took.{then_took, took_agree}
-use Rattle.rasn_constraints.specs.Counts.{count_of}
-use Rattle.per_read.specs.declared.error.DecodeError.{DecodeError}
-use Rattle.per_read.specs.declared.error.DecodeErrorKind.{DecodeErrorKind}
-use Rattle.per_read.specs.declared.error.DecodeErrorKind.TheVariants.{Incomplete, OutOfMemory}
+use Rattle.rasn_constraints.specs.Bounds.{count_of}
+use Rattle.per_core.specs.declared.decode_error.DecodeError.{DecodeError}
+use Rattle.per_core.specs.declared.decode_error.DecodeErrorKind.{DecodeErrorKind}
+use Rattle.per_core.specs.declared.decode_error.DecodeErrorKind.TheVariants.{Incomplete, OutOfMemory}
 use Rattle.per_decoding.specs.Faults.{Answered, Fault, refusal}
 use Rattle.per_decoding.specs.Laws.Records.{flags_bits}
 use Rattle.per_decoding.specs.Laws.Scopes.{bit_agree, took_record}
 use Rattle.per_decoding.specs.Scopes.{Enters, Opens, OutsideRecord, is_extensible, outside_record, with_outside_record}
-use Rattle.per_decoding.specs.State.{State, Spells, extension_of, settings_of, with_bits, with_last}
+use Rattle.per_decoding.specs.State.{State, Spells, settings_of, with_bits, with_last}
+use Rattle.per_core.specs.AdditionFaults.{extension_of}
 use Rattle.per_de.specs.Sources.{span_of}
 use Rattle.per_de.specs.Steps.{TakesExtensionBit, TakesPresences}
 use Rattle.per_de.specs.declared.source.Span.{Span}

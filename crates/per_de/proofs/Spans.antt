@@ -4,10 +4,10 @@ use Rattle.std.specs.Prelude.{min}
 use Rattle.std.proofs.lemmas.List.{take_all, take_min, drop_min, drop-take}
 use Rattle.rasn_types.specs.Bits.{Bits, number_of}
 use Rattle.per_core.specs.Basic.{bit}
-use Rattle.rasn_constraints.specs.Counts.{count_of}
-use Rattle.per_read.specs.Fields.{IsOfField}
-use Rattle.per_read.specs.Kinds.{NoneIn}
-use Rattle.per_read.specs.declared.error.DecodeErrorKind.TheVariants.{Incomplete}
+use Rattle.rasn_constraints.specs.Bounds.{count_of}
+use Rattle.per_core.specs.FieldFaults.{IsOfField}
+use Rattle.per_core.specs.Spellings.{NoneIn}
+use Rattle.per_core.specs.declared.decode_error.DecodeErrorKind.TheVariants.{Incomplete}
 use Rattle.per_read.proofs.Turns.{one_bit}
 use Rattle.per_de.specs.Sources.{span_of, IsWithin}
 use Rattle.per_decoding.specs.State.{State, with_bits, with_last}

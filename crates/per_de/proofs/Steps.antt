@@ -5,20 +5,21 @@ use Rattle.rasn_types.specs.Bits.{Bits, unpack}
 use Rattle.rasn_types.proofs.Bits.{length-unpack}
 use Rattle.rasn_schema.specs.declared.items.Place.{Place}
 use Rattle.per_core.specs.Basic.{ExtensionBit, IsBitmap, Octets, Unknown}
-use Rattle.per_core.specs.Spellings.{Settings, Spelling}
-use Rattle.per_core.specs.Took.{Took}
-use Rattle.rasn_constraints.specs.Counts.{count_of}
-use Rattle.per_decoding.specs.ChoiceIndexes.{IsOfIndex, index_form, index_of}
-use Rattle.per_read.specs.Fields.{IsOfField, IsOfUnconstrained, Says}
-use Rattle.per_read.specs.Kinds.{Faulty, NoneIn}
+use Rattle.per_core.specs.Spellings.{Settings, Spelling, Took, NoneIn}
+use Rattle.rasn_constraints.specs.Bounds.{count_of}
+use Rattle.per_core.specs.IndexFaults.{IsOfIndex, index_form, IsOfExtension}
+use Rattle.per_decoding.specs.ChoiceIndexes.{index_of}
+use Rattle.per_core.specs.FieldFaults.{IsOfField, IsOfUnconstrained, Says}
+use Rattle.per_read.specs.Kinds.{Faulty}
 use Rattle.per_read.specs.Lists.{Leaves}
 use Rattle.per_read.specs.State.{State as Taking}
 use Rattle.per_read.specs.Takes.{Reason, Takes, itself, telling}
-use Rattle.per_read.specs.declared.error.DecodeError.{DecodeError}
-use Rattle.per_read.specs.declared.error.DecodeErrorKind.{DecodeErrorKind}
-use Rattle.per_read.specs.declared.error.DecodeErrorKind.TheVariants.{Incomplete, OutOfMemory}
-use Rattle.per_read.specs.Bitmaps
-use Rattle.per_read.specs.Bitmaps.{IsOfUnknown, large_fragments_of, skipped_unknown}
+use Rattle.per_core.specs.declared.decode_error.DecodeError.{DecodeError}
+use Rattle.per_core.specs.declared.decode_error.DecodeErrorKind.{DecodeErrorKind}
+use Rattle.per_core.specs.declared.decode_error.DecodeErrorKind.TheVariants.{Incomplete, OutOfMemory}
+use Rattle.per_core.specs.AdditionFaults as Bitmaps
+use Rattle.per_core.specs.AdditionFaults.{IsOfUnknown, skipped_unknown, Shown, Extension, ahead, shown}
+use Rattle.per_read.specs.Bitmaps.{large_fragments_of}
 use Rattle.per_read.specs.Flags.{HasFlags}
 use Rattle.per_read.specs.OpenTypes.{HasOctets, fragments_of}
 use Rattle.per_read.specs.Reasons.{gathering}
@@ -28,10 +29,9 @@ use Rattle.per_read.specs.declared.bitmaps.PresenceBits.TheVariants as Taken
 use Rattle.per_read.specs.declared.open_types.Contents.{Contents}
 use Rattle.per_read.specs.declared.open_types.Contents.TheVariants as Open
 use Rattle.per_decoding.specs.Laws.Additions.{of_next}
-use Rattle.per_decoding.specs.Additions.{EntersContents, OpensContents, Shown, OutsideAddition}
+use Rattle.per_decoding.specs.Additions.{EntersContents, OpensContents, OutsideAddition}
 use Rattle.per_decoding.specs.Faults.{Answered, IsOfNext, at_bitmap, refusal}
-use Rattle.per_decoding.specs.State.{Extension, State, ahead, reader_of, refused, settings_of, shown, with_bits}
-use Rattle.per_decoding.specs.Enumerations.{IsOfExtension}
+use Rattle.per_decoding.specs.State.{State, reader_of, refused, settings_of, with_bits}
 use Rattle.per_decoding.specs.Laws.Tails.{tested_new}
 use Rattle.per_read.proofs.OfBitmaps.{bitmap_tested}
 use Rattle.per_de.specs.Sources.{flags_in, span_of, IsWithin}

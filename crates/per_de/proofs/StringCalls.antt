@@ -7,18 +7,16 @@ use Rattle.rasn_constraints.specs.Bounds.{Size}
 use Rattle.rasn_schema.specs.Schemas
 use Rattle.per_core.specs.Basic.{basic, basic_in, Octets, Counted, String, Proper, octet, bit}
 use Rattle.per_core.specs.Counts.{octet_items, bit_items}
-use Rattle.per_core.specs.Spellings.{Settings}
-use Rattle.per_core.specs.Took.{Took}
+use Rattle.per_core.specs.Spellings.{Settings, Took, NoneIn}
 use Rattle.per_core.proofs.Took.{took_map}
-use Rattle.per_read.specs.Fields.{IsOfUnconstrained}
-use Rattle.per_read.specs.Kinds.{Faulty, NoneIn}
-use Rattle.per_read.specs.Sizes.{IsOfItems}
-use Rattle.per_read.specs.Strings.{IsOfString, IsOfText}
+use Rattle.per_core.specs.FieldFaults.{IsOfUnconstrained}
+use Rattle.per_read.specs.Kinds.{Faulty}
+use Rattle.per_core.specs.SizeFaults.{IsOfItems, IsOfString, IsOfText}
 use Rattle.per_core.specs.declared.items.Item.TheVariants.{Octet, Bit}
-use Rattle.per_read.specs.declared.error.DecodeErrorKind.{DecodeErrorKind}
+use Rattle.per_core.specs.declared.decode_error.DecodeErrorKind.{DecodeErrorKind}
 use Rattle.per_read.proofs.Refusals.{faulty_map}
 use Rattle.per_read.proofs.Texts.{octets_text}
-use Rattle.per_decoding.specs.Faults.{IsAt}
+use Rattle.per_core.specs.ReadingFaults.{IsAt}
 
 module _ (a : Settings) where
   -- octets of a type that isn't known

@@ -2,7 +2,7 @@
 use Rattle.std.specs.Prelude.{◌≡◌, ◌<◌, ℕ, suc, Bool, true, false, [], Result, IfOk, IsErrAnd, OnOk, List, Option}
 use Rattle.rasn_types.specs.Values.{Side, Value}
 use Rattle.rasn_constraints.specs.Bounds.{Size}
-use Rattle.rasn_schema.specs.Lawful.{presence_bits}
+use Rattle.rasn_schema.specs.Structures.{presence_bits}
 use Rattle.rasn_schema.specs.Schemas.{Parts, Schema, count}
 use Rattle.rasn_schema.specs.declared.items.ItemCounts.{ItemCounts}
 use Rattle.rasn_schema.specs.declared.items.Place.{Place}
@@ -11,8 +11,8 @@ use Rattle.rasn_traits.specs.Counted.{AreCounted, IsChoiceOf, PlacedToRead, stan
 use Rattle.rasn_traits.specs.Lists.{ElementFound}
 use Rattle.rasn_traits.specs.Scopes.{ClosedRead, OpensInTurn as OpensRecordInTurn, OpensToRead}
 use Rattle.per_read.specs.Lists.{most}
-use Rattle.per_read.specs.declared.error.DecodeError.{DecodeError}
-use Rattle.per_read.specs.declared.error.DecodeErrorKind.TheVariants.{MissingTag}
+use Rattle.per_core.specs.declared.decode_error.DecodeError.{DecodeError}
+use Rattle.per_core.specs.declared.decode_error.DecodeErrorKind.TheVariants.{MissingTag}
 use Rattle.per_decoding.specs.Additions.{ClosesAddition, OpensAddition, OpensContaining}
 use Rattle.per_decoding.specs.Choices.{ClosesChoice, OpensChoice, UnendedChoice}
 use Rattle.per_decoding.specs.Faults.{Unended, UnendedAddition, refusal}

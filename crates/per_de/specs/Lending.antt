@@ -8,8 +8,8 @@ use Rattle.rasn_schema.specs.Schemas
 use Rattle.rasn_traits.specs.Calls.{DecoderRules, Reads}
 use Rattle.per_core.specs.Basic.{Counted, octet}
 use Rattle.per_core.specs.Counts.{octet_items}
-use Rattle.per_core.specs.Took.{Took}
-use Rattle.per_read.specs.declared.error.DecodeError.{DecodeError}
+use Rattle.per_core.specs.Spellings.{Took}
+use Rattle.per_core.specs.declared.decode_error.DecodeError.{DecodeError}
 use Rattle.per_decoding.specs.Rules.{plain_rules}
 use Rattle.per_decoding.specs.State.{State, settings_of}
 use Rattle.per_de.specs.Sources.{place_left, AreOctetsOf}

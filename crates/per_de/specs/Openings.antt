@@ -1,9 +1,9 @@
 -- How a record is opened, whichever the order of its root components (X.691 19.1, 19.2, 21.1).
 use Rattle.std.specs.Prelude.{◌≡◌, ℕ, Bool, Result}
-use Rattle.rasn_schema.specs.Lawful.{presence_bits}
+use Rattle.rasn_schema.specs.Structures.{presence_bits}
 use Rattle.rasn_schema.specs.Schemas.{Parts, Schema}
 use Rattle.rasn_traits.specs.Scopes.{OpensToRead}
-use Rattle.per_read.specs.declared.error.DecodeError.{DecodeError}
+use Rattle.per_core.specs.declared.decode_error.DecodeError.{DecodeError}
 use Rattle.per_decoding.specs.Rules.{plain_rules}
 use Rattle.per_decoding.specs.Scopes.{Opens}
 use Rattle.per_decoding.specs.State.{State}

@@ -3,7 +3,8 @@ use Rattle.std.specs.Prelude.{◌<◌, ◌≤◌, ◌≡◌, ◌+◌, ◌-◌, �
 use Rattle.std.specs.List.{between}
 use Rattle.rasn_types.specs.Bits.{AreOctets, Bits, unpack}
 use Rattle.per_decoding.specs.State
-use Rattle.per_decoding.specs.State.{ahead, shown}
+use Rattle.per_core.specs.AdditionFaults
+use Rattle.per_core.specs.AdditionFaults.{ahead, shown}
 use Rattle.per_de.specs.declared.source.Source.{Source}
 use Rattle.per_de.specs.declared.source.Source.TheVariants.{Input, Gathered}
 use Rattle.per_de.specs.declared.source.Span.{Span}
@@ -75,7 +76,7 @@ flags_in source (Kept.InPlace span) = span_of span source
 flags_in source (Kept.Gathered bits read) = drop read bits
 
 -- what is still to be read of a bitmap
-abbrev pub extension_in : Bits → Extension → State.Extension
+abbrev pub extension_in : Bits → Extension → AdditionFaults.Extension
 extension_in source Left.Ahead = ahead
 extension_in source (Left.InPlace span) = shown (span_of span source)
 extension_in source (Left.Gathered bits read) = shown (drop read bits)

@@ -6,25 +6,25 @@ use Rattle.rasn_types.specs.Values.{Side, added}
 use Rattle.rasn_schema.specs.Schemas.{Schema}
 use Rattle.rasn_schema.specs.declared.items.Place.{Place}
 use Rattle.per_core.specs.Basic.{ExtensionBit, IsBitmap, Octets, Unknown, bit}
-use Rattle.per_core.specs.Spellings.{Then}
-use Rattle.per_core.specs.Took.{Took}
-use Rattle.rasn_constraints.specs.Counts.{count_of}
-use Rattle.per_decoding.specs.ChoiceIndexes.{IsOfIndex, index_form, index_of}
-use Rattle.per_decoding.specs.Enumerations.{IsOfExtension}
-use Rattle.per_read.specs.Fields.{IsOfUnconstrained}
-use Rattle.per_read.specs.Kinds.{Faulty, NoneIn}
+use Rattle.per_core.specs.Spellings.{Then, Took, NoneIn}
+use Rattle.rasn_constraints.specs.Bounds.{count_of}
+use Rattle.per_core.specs.IndexFaults.{IsOfIndex, index_form, IsOfExtension}
+use Rattle.per_decoding.specs.ChoiceIndexes.{index_of}
+use Rattle.per_core.specs.FieldFaults.{IsOfUnconstrained}
+use Rattle.per_read.specs.Kinds.{Faulty}
 use Rattle.per_read.specs.Takes.{Front}
-use Rattle.per_read.specs.declared.error.DecodeError.{DecodeError}
-use Rattle.per_read.specs.declared.error.DecodeErrorKind.{DecodeErrorKind}
-use Rattle.per_read.specs.declared.error.DecodeErrorKind.TheVariants.{ExceedsMaxParseDepth, Incomplete, MissingTag}
-use Rattle.per_read.specs.declared.error.DecodeErrorKind.TheVariants.{OutOfMemory}
-use Rattle.per_read.specs.Bitmaps
-use Rattle.per_read.specs.Bitmaps.{IsOfUnknown, skipped_unknown}
-use Rattle.per_read.specs.Ends.{EndsAs, IsOfEnd}
-use Rattle.per_decoding.specs.Additions.{Asks, OpensContents, Shown, OutsideAddition, with_outside_addition}
+use Rattle.per_core.specs.declared.decode_error.DecodeError.{DecodeError}
+use Rattle.per_core.specs.declared.decode_error.DecodeErrorKind.{DecodeErrorKind}
+use Rattle.per_core.specs.declared.decode_error.DecodeErrorKind.TheVariants.{ExceedsMaxParseDepth, Incomplete}
+use Rattle.per_core.specs.declared.decode_error.DecodeErrorKind.TheVariants.{MissingTag, OutOfMemory}
+use Rattle.per_core.specs.AdditionFaults as Bitmaps
+use Rattle.per_core.specs.AdditionFaults.{IsOfUnknown, skipped_unknown, Shown, ahead, shown}
+use Rattle.per_read.specs.Ends.{EndsAs}
+use Rattle.per_core.specs.Ends.{IsOfEnd}
+use Rattle.per_decoding.specs.Additions.{Asks, OpensContents, OutsideAddition, with_outside_addition}
 use Rattle.per_decoding.specs.Choices.{StandsFrom}
 use Rattle.per_decoding.specs.Faults.{IsOfNext, refusal}
-use Rattle.per_decoding.specs.State.{State, ahead, refused, settings_of, shown, with_bits}
+use Rattle.per_decoding.specs.State.{State, refused, settings_of, with_bits}
 use Rattle.per_de.specs.Outsides.{outside_contents_of, outside_addition_of}
 use Rattle.per_de.specs.Sources.{flags_in, span_of}
 use Rattle.per_de.specs.declared.Addition.{Addition}

@@ -1,7 +1,7 @@
 -- How a decoder keeps what is still to come in the open scope.
 use Rattle.std.specs.Prelude.{◌≡◌, ◌⊎◌, Bool, true, false, Result, Ok, Err}
-use Rattle.per_read.specs.declared.error.DecodeError.{DecodeError}
-use Rattle.per_read.specs.declared.error.DecodeErrorKind.TheVariants.{AlreadyFailed, MissingTag}
+use Rattle.per_core.specs.declared.decode_error.DecodeError.{DecodeError}
+use Rattle.per_core.specs.declared.decode_error.DecodeErrorKind.TheVariants.{AlreadyFailed, MissingTag}
 use Rattle.per_decoding.specs.Faults.{refusal}
 use Rattle.per_decoding.specs.State.{State, refused}
 use Rattle.per_decoding.specs.Turns as Counting

@@ -5,8 +5,7 @@ ghost use Rattle.std.specs.Prelude.{IfOk, slice_get};
 ghost use Rattle.std.specs.Cow.{cow_slice_items, IsBorrowedSlice};
 ghost use Rattle.rasn_types.specs.Bits.{Bits};
 ghost use Rattle.per_bits.specs.Octets.{AreWholeOctets};
-ghost use Rattle.per_read.specs.Additions.{NextFlag};
-ghost use Rattle.per_decoding.specs.State.{extension_of, shown};
+ghost use Rattle.per_core.specs.AdditionFaults.{NextFlag, extension_of, shown};
 ghost use Rattle.per_de.specs.Sources.{bits_of, extension_in, flags_in, place_of, span_of};
 ghost use Rattle.per_de.specs.Sources.{AreInInput, AreOctetsIn, AreOctetsOf, IsWithin};
 

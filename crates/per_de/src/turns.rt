@@ -1,7 +1,7 @@
 //! How many components are still to come in the open scope, so that none is left out and none comes twice.
 
 ghost use Rattle.std.specs.Prelude.{◌≡◌, false, true, IfErr, OnErr, OnOk};
-ghost use Rattle.per_read.specs.declared.error.DecodeErrorKind.TheVariants.{AlreadyFailed};
+ghost use Rattle.per_core.specs.declared.decode_error.DecodeErrorKind.TheVariants.{AlreadyFailed};
 ghost use Rattle.per_decoding.specs.Faults.{refusal};
 ghost use Rattle.per_decoding.specs.State.{noting, with_turn};
 ghost use Rattle.per_decoding.specs.Turns.{is_between, is_complete, next, within_list};

@@ -5,28 +5,29 @@ use Rattle.rasn_types.specs.Bits.{Bits, width}
 use Rattle.rasn_types.specs.Contents.{is_date}
 use Rattle.rasn_types.specs.Values.{Value, day}
 use Rattle.rasn_types.specs.Variants.{Variant, aligned, unaligned}
-use Rattle.rasn_constraints.specs.Bounds.{Bounds, between, holds, unbounded}
+use Rattle.rasn_constraints.specs.Bounds.{Bounds, between, holds, unbounded, lower_of, upper_of, value_of}
 use Rattle.rasn_constraints.specs.Ranges.{unsigned_range}
 use Rattle.std.specs.Prelude.{Result, Ok, Err, IfOk}
 use Rattle.rasn_schema.specs.Schemas.{Schema}
 use Rattle.per_core.specs.Basic.{IsConstrainedWhole, IsNumberOf, Year, YearIn, basic, basic_in, constrained_by, constrained_form, year_form}
-use Rattle.per_core.specs.Spellings.{Settings, Field, Then}
-use Rattle.per_core.specs.Took.{Took}
-use Rattle.rasn_constraints.specs.ToldBounds.{lower_of, upper_of, value_of}
+use Rattle.per_core.specs.Spellings.{Settings, Field, Then, Took, NoneIn}
 use Rattle.per_core.proofs.Agree.{Agree, field_agree, never_agree, then_agree, weaken}
 use Rattle.per_core.proofs.LengthForms.{and_left, and_right, bounded_agree}
 use Rattle.per_core.proofs.Took.{then_took, took_agree, took_map, took_then}
 use Rattle.per_core.proofs.Unique.{in_whole_agree}
-use Rattle.per_read.specs.Fields.{IsOfField}
-use Rattle.per_read.specs.Kinds.{Faulty, IsTested, NoneIn}
-use Rattle.per_read.specs.Numbers.{IsEmpty, IsOfConstrained, IsOfNumber, IsOutside, IsUnheld, under_bounds, within_bounds}
-use Rattle.per_read.specs.declared.error.DecodeErrorKind.{DecodeErrorKind}
-use Rattle.per_read.specs.declared.error.DecodeErrorKind.TheVariants.{IntegerOverflow, InvalidDate, UnexpectedEmptyInput, ValueConstraintNotSatisfied}
+use Rattle.per_core.specs.FieldFaults.{IsOfField}
+use Rattle.per_read.specs.Kinds.{Faulty, IsTested}
+use Rattle.per_core.specs.NumberFaults.{IsEmpty, IsOfConstrained, IsOfNumber, IsOutside, IsUnheld, under_bounds}
+use Rattle.per_core.specs.NumberFaults.{within_bounds}
+use Rattle.per_core.specs.declared.decode_error.DecodeErrorKind.{DecodeErrorKind}
+use Rattle.per_core.specs.declared.decode_error.DecodeErrorKind.TheVariants.{IntegerOverflow, InvalidDate}
+use Rattle.per_core.specs.declared.decode_error.DecodeErrorKind.TheVariants.{UnexpectedEmptyInput}
+use Rattle.per_core.specs.declared.decode_error.DecodeErrorKind.TheVariants.{ValueConstraintNotSatisfied}
 use Rattle.per_read.proofs.Calls.{of_short}
 use Rattle.per_read.proofs.Fields.{field_below, when_took}
 use Rattle.per_read.proofs.OfFields.{constrained_tested, unconstrained_tested}
 use Rattle.per_read.proofs.Refusals.{faulty_map}
-use Rattle.per_decoding.specs.Dates.{IsOfDate, IsOfYearField, IsOfYearIn, no_day_in_month, no_month, numbers_form}
+use Rattle.per_core.specs.TimeFaults.{IsOfDate, IsOfYearField, IsOfYearIn, no_day_in_month, no_month, numbers_form}
 use Rattle.per_decoding.specs.Years
 use Rattle.per_decoding.specs.Years.{IsOfYear}
 use Rattle.per_core.proofs.Fits.{fits_small}

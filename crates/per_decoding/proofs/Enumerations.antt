@@ -5,21 +5,23 @@ use Rattle.rasn_types.specs.Bits.{Bits, width, width_from}
 use Rattle.rasn_types.specs.Values.{Value, item, Side, root, added}
 use Rattle.rasn_types.specs.Variants.{Variant, aligned, unaligned}
 use Rattle.per_core.specs.Basic.{ExtensionBit, Item, IsSemiConstrainedWhole, Small, constrained_by, constrained_form}
-use Rattle.per_core.specs.Spellings.{Settings, Spelling, When, Field}
-use Rattle.per_core.specs.Took.{Took}
+use Rattle.per_core.specs.Spellings.{Settings, Spelling, When, Field, Took, NoneIn}
 use Rattle.per_core.proofs.Agree.{Agree, field_agree}
 use Rattle.per_core.proofs.LengthForms.{bounded_form_agree}
 use Rattle.per_core.proofs.Took.{took_then, then_took, took_map, took_agree, nothing_took}
 use Rattle.per_core.proofs.Unique.{in_natural_agree, marked_agree}
-use Rattle.per_decoding.specs.Enumerations.{IsMissing, IsOfExtension, IsOfItem, IsOfPlace, IsOfPlaces, IsPlace, IsThere, count_of, item_form, place_form, root_in_field, side_of}
-use Rattle.per_read.specs.Fields.{IsOfField, IsOfMarked, IsOfUnconstrained}
-use Rattle.per_read.specs.Kinds.{IsTested, NoneIn}
-use Rattle.per_read.specs.Numbers.{IsOfConstrained, IsOfConstrainedBy, in_one_field}
-use Rattle.per_read.specs.SmallNumbers.{OfIndex, small_form}
+use Rattle.per_decoding.specs.Enumerations.{IsMissing, IsOfPlace, IsThere, item_form, root_in_field, side_of}
+use Rattle.per_core.specs.IndexFaults.{IsOfExtension, IsOfItem, IsOfPlaces, IsPlace, count_of, place_form}
+use Rattle.per_core.specs.FieldFaults.{IsOfField, IsOfMarked, IsOfUnconstrained}
+use Rattle.per_read.specs.Kinds.{IsTested}
+use Rattle.per_core.specs.NumberFaults.{IsOfConstrained, IsOfConstrainedBy, small_form}
+use Rattle.per_read.specs.Numbers.{in_one_field}
+use Rattle.per_read.specs.SmallNumbers.{OfIndex}
 use Rattle.per_read.specs.State.{State, settings_of}
 use Rattle.per_read.specs.Takes.{Takes, tested}
-use Rattle.per_read.specs.declared.error.DecodeErrorKind.{DecodeErrorKind}
-use Rattle.per_read.specs.declared.error.DecodeErrorKind.TheVariants.{EnumerationIndexNotFound, IntegerOverflow, UnexpectedEmptyInput}
+use Rattle.per_core.specs.declared.decode_error.DecodeErrorKind.{DecodeErrorKind}
+use Rattle.per_core.specs.declared.decode_error.DecodeErrorKind.TheVariants.{EnumerationIndexNotFound, IntegerOverflow}
+use Rattle.per_core.specs.declared.decode_error.DecodeErrorKind.TheVariants.{UnexpectedEmptyInput}
 use Rattle.per_read.proofs.Calls.{of_short}
 use Rattle.per_read.proofs.Fields.{exactly_took, when_took}
 use Rattle.per_read.proofs.OfFields.{constrained_tested, marked_tested, unconstrained_tested}

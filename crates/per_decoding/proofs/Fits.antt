@@ -5,15 +5,16 @@ use Rattle.rasn_types.specs.Bits.{Bits}
 use Rattle.rasn_constraints.specs.Bounds.{Bounds}
 use Rattle.rasn_constraints.specs.Constraints.{start_of, end_of, bounds_of}
 use Rattle.rasn_constraints.specs.declared.constraints.Bounded.{Bounded}
-use Rattle.per_core.specs.Spellings.{Settings}
+use Rattle.per_core.specs.Spellings.{Settings, Took, NoneIn}
 use Rattle.per_core.specs.Basic.{IsNumberOf}
-use Rattle.per_core.specs.Took.{Took}
 use Rattle.per_core.proofs.Took.{took_map}
-use Rattle.per_read.specs.Kinds.{Faulty, NoneIn}
-use Rattle.per_read.specs.Numbers.{OfRead, IsOfNumber, IsOfForm, under_bounds}
+use Rattle.per_read.specs.Kinds.{Faulty}
+use Rattle.per_read.specs.Numbers.{OfRead}
+use Rattle.per_core.specs.NumberFaults.{IsOfNumber, IsOfForm, under_bounds}
 use Rattle.per_decoding.specs.Integers.{OfEach, IsFit, IsMissed, Misfit, AreSome}
-use Rattle.per_read.specs.declared.error.DecodeErrorKind.{DecodeErrorKind}
-use Rattle.per_read.specs.declared.error.DecodeErrorKind.TheVariants.{ValueConstraintNotSatisfied, IntegerOverflow, UnexpectedEmptyInput}
+use Rattle.per_core.specs.declared.decode_error.DecodeErrorKind.{DecodeErrorKind}
+use Rattle.per_core.specs.declared.decode_error.DecodeErrorKind.TheVariants.{ValueConstraintNotSatisfied}
+use Rattle.per_core.specs.declared.decode_error.DecodeErrorKind.TheVariants.{IntegerOverflow, UnexpectedEmptyInput}
 use Rattle.per_read.specs.declared.numbers.ReadNumber.{ReadNumber}
 use Rattle.per_read.specs.declared.numbers.ReadNumber.TheVariants.{Held, Below, Above}
 use Rattle.rasn_constraints.specs.Bounds.{above}

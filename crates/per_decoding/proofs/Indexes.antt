@@ -3,15 +3,15 @@ use Rattle.std.proofs.Common.{◌≡◌, refl, sym, subst, ℕ, ◌^◌, ◌<◌
 use Rattle.rasn_types.specs.Bits.{Bits}
 use Rattle.rasn_types.specs.Values.{Side, item}
 use Rattle.per_core.specs.Basic.{ExtensionBit, Item}
-use Rattle.per_core.specs.Spellings.{Settings}
-use Rattle.per_core.specs.Took.{Took}
+use Rattle.per_core.specs.Spellings.{Settings, Took, NoneIn}
 use Rattle.per_core.proofs.Took.{took_then, took_map}
-use Rattle.per_decoding.specs.ChoiceIndexes.{IsKnown, IsOfIndex, IsUnknown, index_form}
-use Rattle.per_decoding.specs.Enumerations.{IsOfPlace, IsOfPlaces, count_of, item_form, place_form, side_of}
-use Rattle.per_read.specs.Kinds.{NoneIn}
+use Rattle.per_decoding.specs.ChoiceIndexes.{IsKnown, IsUnknown}
+use Rattle.per_core.specs.IndexFaults.{IsOfIndex, index_form, IsOfPlaces, count_of, place_form}
+use Rattle.per_decoding.specs.Enumerations.{IsOfPlace, item_form, side_of}
 use Rattle.per_read.specs.SmallNumbers.{OfIndex}
-use Rattle.per_read.specs.declared.error.DecodeErrorKind.{DecodeErrorKind}
-use Rattle.per_read.specs.declared.error.DecodeErrorKind.TheVariants.{ChoiceIndexExceedsPlatformWidth, ChoiceIndexNotFound, UnexpectedEmptyInput}
+use Rattle.per_core.specs.declared.decode_error.DecodeErrorKind.{DecodeErrorKind}
+use Rattle.per_core.specs.declared.decode_error.DecodeErrorKind.TheVariants.{ChoiceIndexExceedsPlatformWidth}
+use Rattle.per_core.specs.declared.decode_error.DecodeErrorKind.TheVariants.{ChoiceIndexNotFound, UnexpectedEmptyInput}
 use Rattle.per_decoding.proofs.Enumerations.{item_on, no_extension as no_item_bit, no_item, no_place as no_item_place, of_added, of_root, places_tested, small_tested}
 
 -- what a kind says of an extension bit and a place, it says of an index

@@ -2,15 +2,15 @@
 use Rattle.std.proofs.Common.{◌≡◌, ◌∷◌, true, false, [], inl, inr, ℤ}
 use Rattle.rasn_types.specs.Bits.{Bits}
 use Rattle.rasn_constraints.specs.Bounds.{Bounds, unbounded}
-use Rattle.per_core.specs.Spellings.{Settings, never}
+use Rattle.per_core.specs.Spellings.{Settings, never, Took, NoneIn}
 use Rattle.per_core.specs.Basic.{IsNumber, IsNumberOf, IsUnconstrainedWhole}
-use Rattle.per_core.specs.Took.{Took}
 use Rattle.per_core.proofs.Took.{took_map}
-use Rattle.per_read.specs.Fields.{IsOfField, IsOfUnconstrained}
-use Rattle.per_read.specs.Kinds.{Faulty, IsTested, NoneIn}
-use Rattle.per_read.specs.Numbers.{IsOfForm, IsOfNumber, IsOfOctets, no_octets, under_bounds, within_bounds}
-use Rattle.per_read.specs.declared.error.DecodeErrorKind.{DecodeErrorKind}
-use Rattle.per_read.specs.declared.error.DecodeErrorKind.TheVariants.{IntegerOverflow, UnexpectedEmptyInput, ValueConstraintNotSatisfied}
+use Rattle.per_core.specs.FieldFaults.{IsOfField, IsOfUnconstrained}
+use Rattle.per_read.specs.Kinds.{Faulty, IsTested}
+use Rattle.per_core.specs.NumberFaults.{IsOfForm, IsOfNumber, IsOfOctets, no_octets, under_bounds, within_bounds}
+use Rattle.per_core.specs.declared.decode_error.DecodeErrorKind.{DecodeErrorKind}
+use Rattle.per_core.specs.declared.decode_error.DecodeErrorKind.TheVariants.{IntegerOverflow, UnexpectedEmptyInput}
+use Rattle.per_core.specs.declared.decode_error.DecodeErrorKind.TheVariants.{ValueConstraintNotSatisfied}
 use Rattle.per_read.proofs.Calls.{of_short}
 use Rattle.per_read.proofs.OfFields.{in_marked, past_marked, unconstrained_tested}
 use Rattle.per_read.proofs.Refusals.{faulty_map}

@@ -7,17 +7,16 @@ use Rattle.rasn_types.specs.Values.{characters}
 use Rattle.rasn_constraints.specs.Bounds.{any_size}
 use Rattle.rasn_schema.specs.Schemas.{Schema}
 use Rattle.per_core.specs.Basic.{Octets, String, basic, basic_in}
-use Rattle.per_core.specs.Spellings.{Settings}
-use Rattle.per_core.specs.Took.{Took}
+use Rattle.per_core.specs.Spellings.{Settings, Took, NoneIn}
 use Rattle.per_core.proofs.LengthForms.{same_octets}
 use Rattle.per_core.proofs.Readings.{one_reading}
 use Rattle.per_core.proofs.Took.{took_map, took_agree}
-use Rattle.per_read.specs.Fields.{IsOfUnconstrained}
-use Rattle.per_read.specs.Kinds.{NoneIn}
-use Rattle.per_decoding.specs.Times.{IsNoObject, IsNoTime, IsOfIdentifier, IsOfTime, identifier_form, time_form}
-use Rattle.per_read.specs.Strings.{IsOfString}
-use Rattle.per_read.specs.declared.error.DecodeErrorKind.{DecodeErrorKind}
-use Rattle.per_read.specs.declared.error.DecodeErrorKind.TheVariants.{Below}
+use Rattle.per_core.specs.FieldFaults.{IsOfUnconstrained}
+use Rattle.per_core.specs.TimeFaults.{IsNoObject, IsNoTime, IsOfIdentifier, IsOfTime}
+use Rattle.per_decoding.specs.Times.{identifier_form, time_form}
+use Rattle.per_core.specs.SizeFaults.{IsOfString}
+use Rattle.per_core.specs.declared.decode_error.DecodeErrorKind.{DecodeErrorKind}
+use Rattle.per_core.specs.declared.decode_error.DecodeErrorKind.TheVariants.{Below}
 use Rattle.per_read.proofs.Fields.{when_took}
 use Rattle.per_read.proofs.OfFields.{counted_items_tested, unconstrained_tested}
 use Rattle.per_core.specs.declared.items.Item.TheVariants.{Character}

@@ -8,13 +8,12 @@ use Rattle.std.proofs.lemmas.Bool.{lt-ltb}
 use Rattle.rasn_types.specs.Bits.{Bits}
 use Rattle.rasn_constraints.specs.Bounds.{Bounds, allows, any_size, fits_i128, holds, unbounded}
 use Rattle.per_core.specs.Basic.{IsNumberOf, LastCount, Octets}
-use Rattle.per_core.specs.Spellings.{Settings}
-use Rattle.per_core.specs.Took.{Took}
+use Rattle.per_core.specs.Spellings.{Settings, Took, NoneIn}
 use Rattle.per_core.proofs.LengthForms.{and_left, and_right}
 use Rattle.per_core.proofs.Took.{then_took, took_map, took_then}
 use Rattle.per_read.specs.FewOctets.{AtOnce}
-use Rattle.per_read.specs.Kinds.{NoneIn}
-use Rattle.per_read.specs.Numbers.{between_in_field, under_bounds}
+use Rattle.per_read.specs.Numbers.{between_in_field}
+use Rattle.per_core.specs.NumberFaults.{under_bounds}
 use Rattle.per_read.proofs.ReadAsField.{no_padding_there}
 use Rattle.per_read.proofs.Unbounded.{octets_number}
 use Rattle.per_decoding.specs.Integers.{IsShortNumber, short_whole}

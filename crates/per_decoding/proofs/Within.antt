@@ -2,16 +2,14 @@
 use lib.Signed.{le_z}
 use Rattle.std.proofs.Common.{◌≡◌, ◌∙◌, refl, sym, ap, subst, ℕ, ◌+◌, ◌<◌, true, false, arith, Option, Some, None, ℤ, pos, negsuc, leb-true}
 use Rattle.rasn_constraints.specs.Bounds.{holds, fits_i128, above, Bounds}
-use Rattle.rasn_types.specs.Bits.{Bits}
-use Rattle.rasn_types.specs.Octets.{unsigned}
-use Rattle.per_core.specs.Spellings.{Settings}
+use Rattle.rasn_types.specs.Bits.{Bits, unsigned}
+use Rattle.per_core.specs.Spellings.{Settings, Took}
 use Rattle.per_core.specs.Basic.{IsSemiConstrainedWhole, IsNumberOf, number_spelling}
-use Rattle.per_core.specs.Took.{Took}
 use Rattle.per_core.proofs.Agree.{Agree, weaken, when_agree}
 use Rattle.per_core.proofs.LengthForms.{and_left, and_right, same_octets, bounded_form_agree}
 use Rattle.per_core.proofs.Took.{took_map, took_agree}
 use Rattle.per_core.proofs.Unique.{above_same, in_whole_agree}
-use Rattle.per_read.specs.Numbers.{under_bounds}
+use Rattle.per_core.specs.NumberFaults.{under_bounds}
 use Rattle.per_decoding.specs.Integers.{AreSome}
 
 -- bits stand for one number

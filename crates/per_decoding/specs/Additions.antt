@@ -4,19 +4,12 @@ use Rattle.std.specs.Prelude.{◌≡◌, ◌≤◌, ◌⊎◌, ◌-◌, ℕ, suc
 use Rattle.rasn_types.specs.Bits.{Bits, unpack}
 use Rattle.rasn_types.specs.Values.{Value}
 use Rattle.rasn_schema.specs.Schemas.{Schema}
-use Rattle.per_core.specs.Basic.{IsBitmap, Octets, OpenOf, basic}
-use Rattle.per_core.specs.Spellings.{Settings, Spelling, When, exactly}
-use Rattle.per_core.specs.Took.{Took}
-use Rattle.per_core.specs.FewItems.{item_count, most_items}
-use Rattle.per_core.specs.Within.{HasAtMost}
-use Rattle.per_read.specs.Additions.{NextFlag}
+use Rattle.per_core.specs.Basic.{Octets, OpenOf, basic}
+use Rattle.per_core.specs.Spellings.{Took}
+use Rattle.per_core.specs.FewItems.{item_count, most_items, HasAtMost}
+use Rattle.per_core.specs.AdditionFaults.{NextFlag, Extension, shown, Shown}
 use Rattle.per_read.specs.Ends.{EndsAs}
-use Rattle.per_decoding.specs.State.{Extension, ahead, shown, Source, Spells, State, settings_of, with_bits}
-
--- X.691 19.7, 19.8: the presence bits that are still to be read, where the bitmap is still ahead behind the bits of it
-abbrev pub Shown : Settings → Extension → List Bool → Spelling
-Shown a ahead flags = IsBitmap a flags
-Shown a (shown old) flags = When (flags ≡ old) (exactly [])
+use Rattle.per_decoding.specs.State.{Source, Spells, State, settings_of, with_bits}
 
 -- X.691 19.7, 19.8: the next presence bit of the additions, where one of the type is still to be asked for. A bitmap
 -- that is still ahead is taken first, which stands behind the root components, so all their presence bits were read.

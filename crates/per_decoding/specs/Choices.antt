@@ -1,12 +1,11 @@
 -- What opening and closing a choice do to a decoder (ITU-T X.691, 23).
 use Rattle.std.specs.Prelude.{◌≡◌, ℕ, suc, false, length, Option, Some, None}
 use Rattle.rasn_types.specs.Values.{Value, alternative, Side, root, added}
-use Rattle.rasn_schema.specs.Choices.{tags_of}
+use Rattle.rasn_schema.specs.Structures.{tags_of}
 use Rattle.rasn_schema.specs.Schemas.{Schema}
-use Rattle.per_core.specs.Spellings.{Settings, Spelling, never}
-use Rattle.per_core.specs.Took.{Took}
-use Rattle.per_decoding.specs.ChoiceIndexes.{index_form}
-use Rattle.per_read.specs.declared.error.DecodeError.{DecodeError}
+use Rattle.per_core.specs.Spellings.{Settings, Spelling, never, Took}
+use Rattle.per_core.specs.IndexFaults.{index_form}
+use Rattle.per_core.specs.declared.decode_error.DecodeError.{DecodeError}
 use Rattle.per_read.specs.Ends.{EndsAs}
 use Rattle.per_decoding.specs.Additions.{OpensContents, OutsideAddition, with_outside_addition}
 use Rattle.per_decoding.specs.Faults.{UnendedAddition}

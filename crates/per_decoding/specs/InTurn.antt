@@ -4,8 +4,8 @@ use Rattle.std.specs.Prelude.{◌≡◌, ◌⊎◌, ℕ, true, false}
 use Rattle.rasn_types.specs.Values.{Side}
 use Rattle.rasn_schema.specs.Normal.{root_of}
 use Rattle.rasn_schema.specs.Schemas.{Schema, count}
-use Rattle.per_read.specs.declared.error.DecodeError.{DecodeError}
-use Rattle.per_read.specs.declared.error.DecodeErrorKind.TheVariants.{MissingTag}
+use Rattle.per_core.specs.declared.decode_error.DecodeError.{DecodeError}
+use Rattle.per_core.specs.declared.decode_error.DecodeErrorKind.TheVariants.{MissingTag}
 use Rattle.per_decoding.specs.Additions.{OpensAddition, OpensContaining, OutsideAddition}
 use Rattle.per_decoding.specs.Choices.{OpensChoice, OutsideChoice}
 use Rattle.per_decoding.specs.Faults.{refusal}

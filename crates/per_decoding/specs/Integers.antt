@@ -1,19 +1,19 @@
 -- Integers of a type, under its bounds, as they are read.
 use Rattle.std.specs.Prelude.{◌≡◌, ℕ, ◌^◌, ◌≤◌, Bool, true, false, List, Option, Some, None, Result, ℤ, pos, negsuc}
-use Rattle.rasn_types.specs.Bits.{Bits, width}
-use Rattle.rasn_types.specs.Octets.{signed}
-use Rattle.rasn_constraints.specs.Bounds.{holds, fits_i128, Bounds}
+use Rattle.rasn_types.specs.Bits.{Bits, width, signed}
+use Rattle.rasn_constraints.specs.Bounds.{holds, fits_i128, Bounds, lower_of, upper_of, value_of}
 use Rattle.per_core.specs.Basic.{IsNumberOf}
 use Rattle.per_core.specs.Spellings.{Settings, Spelling, never}
-use Rattle.rasn_constraints.specs.ToldBounds.{lower_of, upper_of, value_of}
 use Rattle.per_read.specs.FewOctets.{AtOnce}
 use Rattle.per_read.specs.State.{State}
 use Rattle.per_read.specs.Takes.{Takes, memory_or}
-use Rattle.per_read.specs.declared.error.DecodeErrorKind.{DecodeErrorKind}
-use Rattle.per_read.specs.declared.error.DecodeErrorKind.TheVariants.{ValueConstraintNotSatisfied, IntegerOverflow}
+use Rattle.per_core.specs.declared.decode_error.DecodeErrorKind.{DecodeErrorKind}
+use Rattle.per_core.specs.declared.decode_error.DecodeErrorKind.TheVariants.{ValueConstraintNotSatisfied}
+use Rattle.per_core.specs.declared.decode_error.DecodeErrorKind.TheVariants.{IntegerOverflow}
 use Rattle.per_read.specs.declared.numbers.ReadNumber.{ReadNumber}
 use Rattle.per_read.specs.declared.numbers.ReadNumber.TheVariants.{Held, Below, Above}
-use Rattle.per_read.specs.Numbers.{IsOfNumber, between_in_field, in_i128}
+use Rattle.per_core.specs.NumberFaults.{IsOfNumber, in_i128}
+use Rattle.per_read.specs.Numbers.{between_in_field}
 
 -- a fact about each number that it may be
 abbrev pub OfEach : (ℤ → Type 0) → ReadNumber → Type 0

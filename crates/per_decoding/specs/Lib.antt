@@ -11,5 +11,4 @@ pub mod ChoiceIndexes
 pub mod Enumerations
 pub mod Integers
 pub mod Times
-pub mod Dates
 pub mod Years

@@ -2,8 +2,8 @@
 use Rattle.std.specs.Prelude.{◌≡◌, ℕ, true, false, [], length}
 use Rattle.rasn_traits.specs.Amounts.{Amount}
 use Rattle.rasn_traits.specs.Calls.{DecoderRules}
-use Rattle.per_read.specs.declared.error.DecodeError.{DecodeError}
-use Rattle.per_read.specs.declared.error.DecodeErrorKind.TheVariants.{AlreadyFailed, MissingTag, OutOfMemory}
+use Rattle.per_core.specs.declared.decode_error.DecodeError.{DecodeError}
+use Rattle.per_core.specs.declared.decode_error.DecodeErrorKind.TheVariants.{AlreadyFailed, MissingTag, OutOfMemory}
 use Rattle.per_decoding.specs.Additions.{Adds}
 use Rattle.per_decoding.specs.State.{State, Marks, Spells, noting, noting_bit}
 use Rattle.per_decoding.specs.Turns.{awaiting, in_list, is_complete, is_counted, next}

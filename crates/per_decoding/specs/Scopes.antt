@@ -2,20 +2,18 @@
 use Rattle.std.specs.Prelude.{◌≡◌, ℕ, suc, Bool, true, false, List, [], ◌++◌, length, Option, Result, Ok, Err}
 use Rattle.rasn_types.specs.Bits.{Bits}
 use Rattle.rasn_types.specs.Values.{Value}
-use Rattle.rasn_schema.specs.Lawful.{presence_bits}
+use Rattle.rasn_schema.specs.Structures.{presence_bits, record_value}
 use Rattle.rasn_schema.specs.Normal.{additions_of, root_of}
-use Rattle.rasn_schema.specs.Records.{record_value}
 use Rattle.rasn_schema.specs.Schemas.{Schema, Parts, count}
 use Rattle.rasn_traits.specs.Scopes.{ReadsFields}
 use Rattle.per_core.specs.Basic.{ExtensionBit, Unknown}
-use Rattle.per_core.specs.Spellings.{Then}
-use Rattle.per_core.specs.Took.{Took}
-use Rattle.per_read.specs.declared.error.DecodeError.{DecodeError}
-use Rattle.per_read.specs.declared.error.DecodeErrorKind.TheVariants.{ExceedsMaxParseDepth}
-use Rattle.per_decoding.specs.Additions.{Shown}
+use Rattle.per_core.specs.Spellings.{Then, Took}
+use Rattle.per_core.specs.declared.decode_error.DecodeError.{DecodeError}
+use Rattle.per_core.specs.declared.decode_error.DecodeErrorKind.TheVariants.{ExceedsMaxParseDepth}
+use Rattle.per_core.specs.AdditionFaults.{Shown, Extension, extension_of, shown}
 use Rattle.per_decoding.specs.Faults.{refusal}
 use Rattle.per_decoding.specs.Rules.{plain_rules}
-use Rattle.per_decoding.specs.State.{Extension, State, extension_of, refused, settings_of, shown, with_bits}
+use Rattle.per_decoding.specs.State.{State, refused, settings_of, with_bits}
 
 -- What waits outside while a scope is open: the levels that may be entered there, and what is still to be read of the
 -- record there.

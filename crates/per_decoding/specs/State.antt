@@ -1,37 +1,24 @@
 -- What a decoder holds, and what its calls read.
-use Rattle.std.specs.Prelude.{◌≡◌, ◌≤◌, ◌-◌, ℕ, Bool, true, false, List, [], ◌∷◌, drop, length}
+use Rattle.std.specs.Prelude.{◌≡◌, ◌≤◌, ◌-◌, ℕ, Bool, true, false, [], ◌∷◌, drop, length}
 use Rattle.rasn_types.specs.Bits.{Bits}
 use Rattle.rasn_types.specs.Values.{Value}
 use Rattle.rasn_types.specs.declared.types.Codec.{Codec}
 use Rattle.rasn_schema.specs.Schemas.{Schema}
 use Rattle.per_bits.specs.Octets.{Reading}
-use Rattle.per_core.specs.Spellings.{Settings}
+use Rattle.per_core.specs.Spellings.{Settings, Took}
 use Rattle.per_core.specs.Basic.{basic}
-use Rattle.per_core.specs.Took.{Took}
-use Rattle.per_core.specs.FewItems.{item_count, most_items}
-use Rattle.per_core.specs.Within.{HasAtMost}
+use Rattle.per_core.specs.FewItems.{item_count, most_items, HasAtMost}
 use Rattle.per_read.specs.Options.{settings}
 use Rattle.per_read.specs.State.{State as Taking}
 use Rattle.per_read.specs.declared.ReaderOptions.{ReaderOptions}
 use Rattle.per_decoding.specs.Turns.{Turn, next, uncounted}
+use Rattle.per_core.specs.AdditionFaults.{Extension, shown}
 
 -- What a decoder is told: the codec, how many levels of values it may enter, and whether padding must be zero.
 pub record Options : Type 0 where
   pub codec : Codec
   pub levels : ℕ
   pub zero_padding : Bool
-
--- What is still to be read of the bitmap of an open record's additions (X.691 19.7 to 19.9): all of it, which stands
--- behind the root components; or the presence bits that are left. There are none without an extension marker, nor
--- behind an extension bit 0.
-pub data Extension : Type 0 where
-  ahead : Extension
-  shown : List Bool → Extension
-
--- X.691 19.1: what an extension bit says of the bitmap
-abbrev pub extension_of : Bool → Extension
-extension_of true = ahead
-extension_of false = shown []
 
 -- The bits in which those stand that a decoder has left: those of the input, or of an open type in fragments; how many
 -- of them stand behind those that are left, which reading from the front doesn't change; how many bits of its octet

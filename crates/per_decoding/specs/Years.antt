@@ -3,10 +3,10 @@ use Rattle.std.specs.Prelude.{◌≡◌, ◌⊎◌, ℕ, false, ℤ}
 use Rattle.rasn_types.specs.Bits.{Bits}
 use Rattle.rasn_types.specs.Contents.{is_date}
 use Rattle.per_core.specs.Spellings.{Settings}
-use Rattle.per_read.specs.declared.error.DecodeErrorKind.{DecodeErrorKind}
-use Rattle.per_read.specs.declared.error.DecodeErrorKind.TheVariants.{InvalidDate, OutOfMemory}
-use Rattle.per_read.specs.declared.error.DecodeErrorKind.TheVariants.{UnexpectedEmptyInput}
-use Rattle.per_decoding.specs.Dates.{IsEmptyYear, IsOfYearField}
+use Rattle.per_core.specs.declared.decode_error.DecodeErrorKind.{DecodeErrorKind}
+use Rattle.per_core.specs.declared.decode_error.DecodeErrorKind.TheVariants.{InvalidDate, OutOfMemory}
+use Rattle.per_core.specs.declared.decode_error.DecodeErrorKind.TheVariants.{UnexpectedEmptyInput}
+use Rattle.per_core.specs.TimeFaults.{IsEmptyYear, IsOfYearField}
 
 -- what a kind says of a year
 abbrev pub IsOfYear : Settings → Bits → DecodeErrorKind → Type 0

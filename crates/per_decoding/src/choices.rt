@@ -2,9 +2,10 @@
 
 ghost use Rattle.std.specs.Prelude.{◌≡◌, None, Ok, IfErr, IfOk, IfSome};
 ghost use Rattle.rasn_schema.specs.Enumerations.{addeds_of, is_extensible};
-ghost use Rattle.per_decoding.specs.ChoiceIndexes.{IsKnown, IsOfIndex, IsUnknown, index_form, index_of};
-ghost use Rattle.per_decoding.specs.Enumerations.{count_of, root_in_field};
-ghost use Rattle.per_read.specs.Kinds.{NoneIn};
+ghost use Rattle.per_decoding.specs.ChoiceIndexes.{IsKnown, IsUnknown, index_of};
+ghost use Rattle.per_core.specs.IndexFaults.{IsOfIndex, index_form, count_of};
+ghost use Rattle.per_decoding.specs.Enumerations.{root_in_field};
+ghost use Rattle.per_core.specs.Spellings.{NoneIn};
 ghost use Rattle.per_read.specs.State.{settings_of};
 ghost use Rattle.per_read.specs.Takes.{Takes, telling};
 

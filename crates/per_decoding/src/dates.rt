@@ -6,7 +6,7 @@ ghost use Rattle.rasn_types.specs.Values.{day as day_value};
 ghost use Rattle.rasn_schema.specs.Schemas.{Schema};
 ghost use Rattle.per_core.specs.Basic.{basic, Year};
 ghost use Rattle.per_read.specs.Takes.{Takes, memory_or, itself};
-ghost use Rattle.per_decoding.specs.Dates.{IsOfDate};
+ghost use Rattle.per_core.specs.TimeFaults.{IsOfDate};
 ghost use Rattle.per_decoding.specs.Years.{IsNoDay, IsOfYear};
 
 use crate::integers::take_integer;

@@ -2,12 +2,11 @@
 
 ghost use Rattle.std.specs.Prelude.{◌≡◌, ◌<◌, ℕ, Ok, Some, None, IfErr, IfOk, IfSome};
 ghost use Rattle.per_core.specs.Basic.{ExtensionBit, constrained_form};
-ghost use Rattle.per_core.specs.Spellings.{Settings, When};
-ghost use Rattle.per_decoding.specs.Enumerations.{IsMissing, IsOfExtension, IsOfItem, IsOfPlace, IsThere, count_of};
-ghost use Rattle.per_decoding.specs.Enumerations.{item_form};
-ghost use Rattle.per_decoding.specs.Enumerations.{place_form, root_in_field};
-ghost use Rattle.per_read.specs.Kinds.{NoneIn};
-ghost use Rattle.per_read.specs.Numbers.{IsOfConstrained, in_one_field};
+ghost use Rattle.per_core.specs.Spellings.{Settings, When, NoneIn};
+ghost use Rattle.per_decoding.specs.Enumerations.{IsMissing, IsOfPlace, IsThere, item_form, root_in_field};
+ghost use Rattle.per_core.specs.IndexFaults.{IsOfExtension, IsOfItem, count_of, place_form};
+ghost use Rattle.per_core.specs.NumberFaults.{IsOfConstrained};
+ghost use Rattle.per_read.specs.Numbers.{in_one_field};
 ghost use Rattle.per_read.specs.SmallNumbers.{OfIndex};
 ghost use Rattle.per_read.specs.State.{settings_of};
 ghost use Rattle.per_read.specs.Takes.{Takes, itself, telling, tested};

@@ -2,7 +2,8 @@
 
 ghost use Rattle.std.specs.Prelude.{◌≡◌};
 ghost use Rattle.rasn_types.specs.Identifiers.{contents};
-ghost use Rattle.per_decoding.specs.Times.{IsOfIdentifier, identifier_form};
+ghost use Rattle.per_core.specs.TimeFaults.{IsOfIdentifier};
+ghost use Rattle.per_decoding.specs.Times.{identifier_form};
 ghost use Rattle.per_read.specs.Takes.{Takes, memory_or};
 
 use per_read::Reader;

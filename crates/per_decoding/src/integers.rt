@@ -4,7 +4,7 @@ ghost use Rattle.std.specs.Prelude.{◌≡◌, false, None, Ok, IfOk, IfErr, IfS
 ghost use Rattle.rasn_constraints.specs.Bounds.{unbounded};
 ghost use Rattle.rasn_constraints.specs.Constraints.{bounds_of, bounds_in, is_marked};
 ghost use Rattle.per_core.specs.Basic.{IsNumberOf};
-ghost use Rattle.per_read.specs.Kinds.{NoneIn};
+ghost use Rattle.per_core.specs.Spellings.{NoneIn};
 ghost use Rattle.per_read.specs.State.{settings_of};
 ghost use Rattle.per_decoding.specs.Integers.{OfEach, IsFit, IsShortNumber, Misfit, AreSome, TakesInteger};
 

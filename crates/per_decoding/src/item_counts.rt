@@ -10,8 +10,7 @@ ghost use Rattle.rasn_traits.specs.Optionals.{MakesDefault, ReadsComponent, Read
 ghost use Rattle.rasn_traits.specs.Presences.{left_out};
 ghost use Rattle.per_decoding.specs.Rules.{decoder_rules};
 ghost use Rattle.per_decoding.specs.State.{State};
-ghost use Rattle.per_core.specs.FewItems.{item_count, most_items};
-ghost use Rattle.per_core.specs.Within.{HasAtMost};
+ghost use Rattle.per_core.specs.FewItems.{item_count, most_items, HasAtMost};
 
 use std::alloc::{AllocError, Global};
 

@@ -2,11 +2,11 @@
 
 ghost use Rattle.std.specs.Prelude.{◌≡◌, None, Ok, IfErr, IfOk, IfSome};
 ghost use Rattle.rasn_schema.specs.Enumerations.{addeds_of, is_extensible};
-ghost use Rattle.per_read.specs.Kinds.{NoneIn};
+ghost use Rattle.per_core.specs.Spellings.{NoneIn};
 ghost use Rattle.per_read.specs.State.{settings_of};
 ghost use Rattle.per_read.specs.Takes.{Takes, telling};
-ghost use Rattle.per_decoding.specs.Enumerations.{IsMissing, IsOfItem, IsThere, item_form, placed_item};
-ghost use Rattle.per_decoding.specs.Enumerations.{root_in_field};
+ghost use Rattle.per_decoding.specs.Enumerations.{IsMissing, IsThere, item_form, placed_item, root_in_field};
+ghost use Rattle.per_core.specs.IndexFaults.{IsOfItem};
 
 use crate::choices::{has_marker, place_count};
 use crate::enumerated::{take_extension_bit, take_place, take_short_place};

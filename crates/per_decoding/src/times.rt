@@ -6,8 +6,9 @@ ghost use Rattle.rasn_types.specs.Contents.{utc, generalized};
 ghost use Rattle.rasn_constraints.specs.Bounds.{any_size};
 ghost use Rattle.per_core.specs.Basic.{String};
 ghost use Rattle.per_core.specs.Spellings.{Settings};
-ghost use Rattle.per_decoding.specs.Times.{IsOfTime, time_form};
-ghost use Rattle.per_read.specs.Strings.{IsOfString};
+ghost use Rattle.per_core.specs.TimeFaults.{IsOfTime};
+ghost use Rattle.per_decoding.specs.Times.{time_form};
+ghost use Rattle.per_core.specs.SizeFaults.{IsOfString};
 ghost use Rattle.per_read.specs.Takes.{Takes, memory_or, itself};
 
 use per_read::Reader;

@@ -3,18 +3,16 @@ use Rattle.std.proofs.Common.{◌≡◌, sym, ap, ◌∙◌, subst, ℕ, ◌+◌
 use Rattle.std.proofs.lemmas.Option.{none-some}
 use Rattle.std.specs.Borrow.{Bor}
 use Rattle.std.specs.Prelude.{◌↔◌}
-use Rattle.rasn_types.specs.Codecs.{variant_of}
+use Rattle.rasn_types.specs.Variants.{variant_of, Variant}
 use Rattle.rasn_types.specs.Values.{Value}
-use Rattle.rasn_types.specs.Variants.{Variant}
 use Rattle.rasn_types.specs.declared.types.Codec.{Codec}
 use Rattle.rasn_schema.specs.Schemas.{Schema}
 use Rattle.rasn_schema.specs.Levels.{Levelled}
 use Rattle.rasn_schema.specs.Normal.{normal}
 use Rattle.per_core.specs.Basic.{fills, front}
 use Rattle.per_core.specs.Canon.{bytes}
-use Rattle.per_read.specs.declared.error.DecodeError.{DecodeError}
-use Rattle.rasn_per.specs.Calls.{DecodedBy, DecodedFront}
-use Rattle.rasn_per.specs.Complete.{AreBytes, HasNoBytes, basically, reading}
+use Rattle.per_core.specs.declared.decode_error.DecodeError.{DecodeError}
+use Rattle.rasn_per.specs.Calls.{DecodedBy, DecodedFront, AreBytes, HasNoBytes, basically, reading}
 use Rattle.per_versions.specs.Answers.{Answers, AnswersFront}
 use Rattle.per_versions.specs.Readings.{depth_of, normal_form}
 use Rattle.per_versions.proofs.Depths.{bytes_at, no_bytes_at}

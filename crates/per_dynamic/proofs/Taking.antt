@@ -18,12 +18,12 @@ use Rattle.rasn_dynamic.specs.declared.values.Value.{Value}
 use Rattle.rasn_dynamic.specs.declared.values.Value.TheVariants.{Alternative, Bag, Elements, Fields, Octets}
 use Rattle.rasn_schema.specs.declared.items.Place.{Place}
 use Rattle.rasn_dynamic.specs.Types.{within}
-use Rattle.rasn_types.specs.Codecs.{variant_of}
+use Rattle.rasn_types.specs.Variants.{variant_of}
 use Rattle.rasn_dynamic.specs.Types.{schema_at}
 use Rattle.rasn_dynamic.specs.Values.{levels_of, value_of}
-use Rattle.per_write.specs.declared.error.EncodeErrorKind.{EncodeErrorKind}
-use Rattle.per_write.specs.declared.error.EncodeErrorKind.TheVariants.{OutOfMemory as no_room_to_write}
-use Rattle.rasn_per.specs.Complete.{AreUnread, HasNoBytes}
+use Rattle.per_core.specs.declared.encode_error.EncodeErrorKind.{EncodeErrorKind}
+use Rattle.per_core.specs.declared.encode_error.EncodeErrorKind.TheVariants.{OutOfMemory as no_room_to_write}
+use Rattle.rasn_per.specs.Calls.{AreUnread, HasNoBytes}
 use Rattle.per_dynamic.specs.declared.open_types.OpenTypeError.{OpenTypeError}
 use Rattle.per_dynamic.specs.OpenTypes.{AreTold, Each, fault, IsFaultOf, is_open, IsRowValue, IsUntaken, more, no_memory, none, row_of, set_of, Takes, TakesField, TakesFieldBy}
 use Rattle.per_dynamic.specs.OpenTypes.{IsOpenRead, IsOpenWritten, TakesBag, TakesChoice, TakesList, TakesOneBy, TakesOpen, TakesParts, TakesRecord, told_at, unread}

@@ -5,7 +5,7 @@ use Rattle.std.specs.Prelude.{Option, Some, None, is_some, nat_eq, option_map, p
 use Rattle.std.specs.Global.{Box, Vec}
 use Rattle.std.specs.Option.{option_and_then, option_eq}
 use Rattle.std.specs.Str.{bytes_eq}
-use Rattle.rasn_types.specs.Codecs.{variant_of}
+use Rattle.rasn_types.specs.Variants.{variant_of}
 use Rattle.rasn_types.specs.Values.{same}
 use Rattle.rasn_schema.specs.Normal.{normal}
 use Rattle.rasn_schema.specs.declared.items.Place.{Place}
@@ -23,9 +23,9 @@ use Rattle.rasn_dynamic.specs.declared.types.Record.{Record}
 use Rattle.rasn_dynamic.specs.declared.types.Row.{Row}
 use Rattle.rasn_dynamic.specs.declared.values.Value.{Value}
 use Rattle.rasn_dynamic.specs.declared.values.Value.TheVariants.{Alternative, Bag, Elements, Fields, Octets}
-use Rattle.per_write.specs.declared.error.EncodeErrorKind.{EncodeErrorKind}
-use Rattle.per_write.specs.declared.error.EncodeErrorKind.TheVariants.{OutOfMemory as no_room_to_write}
-use Rattle.rasn_per.specs.Complete.{AreBytes, AreReadAs, AreUnread, HasNoBytes}
+use Rattle.per_core.specs.declared.encode_error.EncodeErrorKind.{EncodeErrorKind}
+use Rattle.per_core.specs.declared.encode_error.EncodeErrorKind.TheVariants.{OutOfMemory as no_room_to_write}
+use Rattle.rasn_per.specs.Calls.{AreBytes, AreReadAs, AreUnread, HasNoBytes}
 use Rattle.per_dynamic.specs.declared.open_types.OpenTypeError.{OpenTypeError}
 use Rattle.per_dynamic.specs.declared.open_types.OpenTypeError.TheVariants.{Encode, OtherType, OutOfMemory}
 use Rattle.per_dynamic.specs.declared.open_types.Way.{Way}

@@ -3,15 +3,14 @@
 
 ghost use Rattle.std.specs.Prelude.{◌≡◌, ◌↔◌, ℕ, Bool, List, Result, Ok};
 ghost use Rattle.std.specs.Borrow.{Bor};
-ghost use Rattle.rasn_types.specs.Codecs.{variant_of};
+ghost use Rattle.rasn_types.specs.Variants.{variant_of};
 ghost use Rattle.rasn_types.specs.Values.{Value as Content};
 ghost use Rattle.rasn_types.specs.declared.types.Codec.{Codec};
 ghost use Rattle.rasn_dynamic.specs.Types.{schema_at};
 ghost use Rattle.rasn_dynamic.specs.Values.{levels_of, value_of};
 ghost use Rattle.rasn_dynamic.specs.declared.values.Value.{Value};
-ghost use Rattle.per_read.specs.declared.error.DecodeError.{DecodeError};
-ghost use Rattle.rasn_per.specs.Calls.{DecodedBy, DecodedFront};
-ghost use Rattle.rasn_per.specs.Complete.{AreBytes, HasNoBytes};
+ghost use Rattle.per_core.specs.declared.decode_error.DecodeError.{DecodeError};
+ghost use Rattle.rasn_per.specs.Calls.{DecodedBy, DecodedFront, AreBytes, HasNoBytes};
 ghost use Rattle.per_versions.specs.Answers.{Answers, AnswersFront};
 ghost use Rattle.per_versions.specs.Readings.{normal_form};
 ghost use Rattle.per_dynamic.specs.Alike.{AreAlike};

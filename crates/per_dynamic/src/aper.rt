@@ -3,8 +3,8 @@
 ghost use Rattle.rasn_types.specs.declared.types.Codec.TheVariants.{Aper};
 ghost use Rattle.rasn_dynamic.specs.Types.{schema_at};
 ghost use Rattle.rasn_dynamic.specs.Values.{levels_of, value_of};
-ghost use Rattle.rasn_per.specs.Calls.{Encoded, EncodedInto, Decoded, DecodedFront, DecodedZeroPadded};
-ghost use Rattle.rasn_per.specs.Counts.{AnswersFew, AnswersFewInFront};
+ghost use Rattle.rasn_per.specs.Calls.{Encoded, EncodedInto, Decoded, DecodedFront, DecodedZeroPadded, AnswersFew};
+ghost use Rattle.rasn_per.specs.Calls.{AnswersFewInFront};
 
 use crate::table::TypeAt;
 use per_de::{DecodeError, DecoderOptions};

@@ -2,7 +2,7 @@
 
 ghost use Rattle.std.specs.Prelude.{◌≡◌, ◌≢◌, IfErr, IfNone, IfOk, IfSome, List, None, Some, ℕ};
 ghost use Rattle.std.specs.Prelude.{false, option_map, slice_get, true};
-ghost use Rattle.per_read.specs.declared.error.DecodeErrorKind.TheVariants.{OutOfMemory as no_room_to_read};
+ghost use Rattle.per_core.specs.declared.decode_error.DecodeErrorKind.TheVariants.{OutOfMemory as no_room_to_read};
 ghost use Rattle.rasn_dynamic.specs.Types.{within};
 ghost use Rattle.rasn_dynamic.specs.declared.values.Value.TheVariants.{Alternative, Bag, Elements, Fields, Octets};
 ghost use Rattle.per_dynamic.specs.OpenTypes.{AreRowOctets, Each, IsFaultOf, IsOpenRead, IsOpenWritten, IsRowValue};

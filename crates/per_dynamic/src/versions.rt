@@ -6,7 +6,7 @@
 //! is true (`DecodedBy`). They say of types that are data what `per_versions` says of Rust types.
 
 ghost use Rattle.std.specs.Prelude.{◌≡◌, ◌↔◌, ℕ, Bool, List, Result, Ok, Some, false};
-ghost use Rattle.rasn_types.specs.Codecs.{variant_of};
+ghost use Rattle.rasn_types.specs.Variants.{variant_of};
 ghost use Rattle.rasn_types.specs.Values.{Value as Content};
 ghost use Rattle.rasn_types.specs.declared.types.Codec.{Codec};
 ghost use Rattle.rasn_schema.specs.Depth.{meets_cut};
@@ -14,9 +14,8 @@ ghost use Rattle.per_core.specs.Versions.{NewerType, project, widen};
 ghost use Rattle.rasn_dynamic.specs.Types.{schema_at};
 ghost use Rattle.rasn_dynamic.specs.Values.{levels_of, value_of};
 ghost use Rattle.rasn_dynamic.specs.declared.values.Value.{Value};
-ghost use Rattle.per_read.specs.declared.error.DecodeError.{DecodeError};
-ghost use Rattle.rasn_per.specs.Calls.{DecodedBy};
-ghost use Rattle.rasn_per.specs.Complete.{AreBytes};
+ghost use Rattle.per_core.specs.declared.decode_error.DecodeError.{DecodeError};
+ghost use Rattle.rasn_per.specs.Calls.{DecodedBy, AreBytes};
 ghost use Rattle.per_versions.specs.Answers.{Answers, AreKnown};
 ghost use Rattle.per_versions.specs.Readings.{IsProjection, IsReadByNewer, IsReadByOlder, IsWidening};
 

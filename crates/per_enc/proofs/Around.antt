@@ -3,9 +3,9 @@ use Rattle.std.specs.Prelude.{Result, Ok, Err}
 use Rattle.std.proofs.Common.{◌≡◌, ◌∙◌, inl, inr, ℕ, Bool, List, ◌∷◌, Option, Some, None}
 use Rattle.rasn_types.specs.Values.{Value}
 use Rattle.rasn_constraints.specs.Bounds.{Size}
-use Rattle.rasn_schema.specs.Records.{record_value}
+use Rattle.rasn_schema.specs.Structures.{record_value, extended}
 use Rattle.rasn_schema.specs.Schemas.{listed, Schema, Parts}
-use Rattle.rasn_traits.specs.Additions.{AdditionClosed, AdditionOpened, AdditionSkipped, extended}
+use Rattle.rasn_traits.specs.Additions.{AdditionClosed, AdditionOpened, AdditionSkipped}
 use Rattle.rasn_traits.specs.Bags.{BagOpened, MemberAwaited, WritesMember}
 use Rattle.rasn_traits.specs.Calls.{Written}
 use Rattle.rasn_traits.specs.Choices.{OpenedChoice}
@@ -13,7 +13,7 @@ use Rattle.rasn_traits.specs.Lists.{ElementAwaited, ListForm, ListOpened, Writes
 use Rattle.rasn_traits.specs.Scopes.{OpenedToWrite, Passes, PresentsFields}
 use Rattle.per_write.specs.Additions.{OutsideAddition}
 use Rattle.per_write.specs.Components.{Encoding}
-use Rattle.per_write.specs.declared.error.EncodeError.{EncodeError}
+use Rattle.per_core.specs.declared.encode_error.EncodeError.{EncodeError}
 use Rattle.per_write.specs.declared.lists.UnwrittenElements.{UnwrittenElements}
 use Rattle.per_write.specs.Faults.{IsMemory}
 use Rattle.per_write.specs.Lists.{IsOpenList as IsOpenListIn}

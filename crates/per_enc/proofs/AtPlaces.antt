@@ -1,8 +1,7 @@
 -- What is written of what stands at a place (X.691 14, 23).
 use Rattle.std.specs.Prelude.{Result}
 use Rattle.std.proofs.Common.{◌≡◌, refl, sym, ap, ◌∙◌, subst, ℕ, ◌+◌, ◌-◌, Bool, true, false, ltb-true, Option, Some, None, is_some, arith}
-use Rattle.rasn_types.specs.Codecs.{variant_of}
-use Rattle.rasn_types.specs.Variants.{Variant}
+use Rattle.rasn_types.specs.Variants.{variant_of, Variant}
 use Rattle.rasn_types.specs.declared.types.Codec.{Codec}
 use Rattle.rasn_schema.specs.Enumerations.{is_extensible, items_of}
 use Rattle.rasn_schema.specs.declared.items.ItemCounts.{ItemCounts}
@@ -12,7 +11,7 @@ use Rattle.rasn_traits.specs.Counted.{item_at, stands_in}
 use Rattle.per_core.specs.Canon.{canon, extension_bit, item_of}
 use Rattle.per_core.specs.Counts.{constrained_whole, small}
 use Rattle.per_core.specs.Writers.{◌▹◌, written_if}
-use Rattle.per_write.specs.declared.error.EncodeError.{EncodeError}
+use Rattle.per_core.specs.declared.encode_error.EncodeError.{EncodeError}
 use Rattle.per_write.specs.Faults.{IsMemory}
 use Rattle.per_write.specs.State.{Puts, PutsIn, State, StateAppends}
 use Rattle.per_enc.specs.Placed.{placed_front}

@@ -4,7 +4,7 @@ use Rattle.rasn_types.specs.Values.{Value, bag_of, before, put, sorted}
 use Rattle.rasn_types.specs.Variants.{Variant}
 use Rattle.rasn_types.proofs.Values.{values-as_values}
 use Rattle.rasn_constraints.specs.Bounds.{Size}
-use Rattle.rasn_schema.specs.Lists.{list_value}
+use Rattle.rasn_schema.specs.Structures.{list_value}
 use Rattle.rasn_schema.specs.Schemas.{Schema}
 use Rattle.per_core.specs.Canon.{ascending, canon, octet_key}
 use Rattle.per_core.specs.Counts.{counted, list_items}
@@ -14,7 +14,7 @@ use Rattle.per_enc.specs.Members.{writers_of}
 use Rattle.per_enc.specs.Written.{AreWritten}
 use Rattle.per_enc.proofs.MemberOrder.{bag_canon}
 use Rattle.rasn_schema.proofs.Sorting.{map_sorted}
-use Rattle.per_write.specs.Faults.{HasElement, element_here, element_behind}
+use Rattle.per_core.specs.WritingFaults.{HasElement, element_here, element_behind}
 
 module _ {X : Type 0} (less : X → X → Bool) where
   length_put : (x : X) (l : List X) → length (put less x l) ≡ suc (length l)

@@ -2,11 +2,10 @@
 use Rattle.std.proofs.Common.{◌≡◌, refl, sym, ap, ap₂, ◌∙◌, subst, ℕ, zero, suc, Bool, false, true, inl, inr, List, [], ◌∷◌, ◌++◌, length, replicate, Option, Some, None, arith, append-nil, append_assoc, length-append, ◌+◌, ◌%◌}
 use Rattle.std.proofs.lemmas.List.{length-replicate}
 use Rattle.rasn_types.specs.Bits.{Bits}
-use Rattle.rasn_types.specs.Codecs.{variant_of}
+use Rattle.rasn_types.specs.Variants.{variant_of, aligned}
 use Rattle.rasn_types.specs.Values.{Value}
-use Rattle.rasn_types.specs.Variants.{aligned}
 use Rattle.rasn_types.specs.declared.types.Codec.{Codec}
-use Rattle.rasn_schema.specs.Lawful.{has_bit, presence_bits}
+use Rattle.rasn_schema.specs.Structures.{has_bit, presence_bits}
 use Rattle.rasn_schema.specs.Schemas.{Schema, Parts, no_parts, part, Presence, required, optional, group, default}
 use Rattle.rasn_traits.specs.Presences.{presence_bit}
 use Rattle.rasn_traits.specs.Scopes.{PresentsPart, presents_required, presents_there, presents_left_out, PresentsParts, presents_end, presents_next, refuses_required, refuses_there, refuses_bit, RefusesParts, refuses_here, refuses_behind}
@@ -14,8 +13,9 @@ use Rattle.per_core.specs.Canon.{canon, members, flag, flagged, if_shown, flags_
 use Rattle.per_core.specs.Writers.{Writer, ◌▹◌, join, go_on, after, pad}
 use Rattle.per_pieces.specs.Pieces.{Appends, Piece, bit, to_octet, MayBegin, bits_of, bit_count, plain, set_bit, placed_bits, writer_of}
 use Rattle.per_pieces.proofs.Placed.{bits_of_append, bits_of_plain, plain_append, set_seam, settle_append, settle_plain, settled_then}
-use Rattle.per_write.specs.declared.error.EncodeError.{EncodeError}
-use Rattle.per_write.specs.Faults.{HasPart, part_here, part_behind, RefusesValue}
+use Rattle.per_core.specs.declared.encode_error.EncodeError.{EncodeError}
+use Rattle.per_core.specs.WritingFaults.{HasPart, part_here, part_behind}
+use Rattle.per_write.specs.Faults.{RefusesValue}
 use Rattle.per_write.specs.Presences.{Marks, IsUnmarked}
 use Rattle.per_write.specs.Rules.{encoder_rules}
 use Rattle.per_write.specs.State.{State, Presents}

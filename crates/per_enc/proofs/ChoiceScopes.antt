@@ -4,11 +4,12 @@ use Rattle.std.proofs.Common.{◌≡◌, refl, sym, ap, ap₂, ◌∙◌, subst,
 use Rattle.std.proofs.lemmas.List.{append_cancel_left, length-replicate}
 use Rattle.rasn_types.specs.Bits.{Bits, to_bits}
 use Rattle.rasn_types.proofs.Bits.{length-to_bits}
-use Rattle.rasn_types.specs.Codecs.{variant_of}
+use Rattle.rasn_types.specs.Variants.{variant_of, Variant}
 use Rattle.rasn_types.specs.Values.{Value, alternative, Side, root, added}
-use Rattle.rasn_types.specs.Variants.{Variant}
 use Rattle.rasn_types.specs.declared.types.Codec.{Codec}
-use Rattle.rasn_schema.specs.Choices.{StandsAt, VariantShape, alternative_at, alternative_in, choice_schema, choices_of, is_extensible, place_of, tags_of, variants_behind, variants_of, variants_on}
+use Rattle.rasn_schema.specs.Choices.{StandsAt, VariantShape, choices_of, is_extensible, place_of, variants_behind}
+use Rattle.rasn_schema.specs.Choices.{variants_of, variants_on}
+use Rattle.rasn_schema.specs.Structures.{alternative_at, alternative_in, choice_schema, tags_of}
 use Rattle.rasn_schema.specs.Laws.Choices.{variants_counted}
 use Rattle.rasn_schema.specs.Schemas
 use Rattle.rasn_schema.specs.Schemas.{Schema, Parts, no_parts, part}
@@ -24,10 +25,17 @@ use Rattle.per_pieces.proofs.Placed.{bits_of_append, bits_of_plain, settle_appen
 use Rattle.per_pieces.proofs.Writing.{none_behind, then_assoc, then_same}
 use Rattle.per_enc.specs.Choices.{ClosesChoiceOf, ClosesBehind, OutsideChoice, OpensChoiceOf, OpensUnplaced, OpensInPlace, OpensOrNot, placed_alternative, restored, root_index}
 use Rattle.per_write.specs.Choices.{FillsIndexOrNot, IsFilled, OpensIndex, index_padding, index_width}
-use Rattle.per_write.specs.declared.error.EncodeError.{EncodeError}
-use Rattle.per_write.specs.declared.error.EncodeErrorKind.{EncodeErrorKind}
-use Rattle.per_write.specs.declared.error.EncodeErrorKind.TheVariants.{SizeConstraintNotSatisfied, ValueConstraintNotSatisfied, AlphabetConstraintNotSatisfied, IntegerTypeConversionFailed, VariantNotInChoice, RealNotSupported, TooManyAdditions, Below, AlreadyFailed, OutOfMemory, OutOfTurn, WrongKind}
-use Rattle.per_write.specs.Faults.{IsMemory, in_alternative, RefusesValue, Stands}
+use Rattle.per_core.specs.declared.encode_error.EncodeError.{EncodeError}
+use Rattle.per_core.specs.declared.encode_error.EncodeErrorKind.{EncodeErrorKind}
+use Rattle.per_core.specs.declared.encode_error.EncodeErrorKind.TheVariants.{SizeConstraintNotSatisfied}
+use Rattle.per_core.specs.declared.encode_error.EncodeErrorKind.TheVariants.{ValueConstraintNotSatisfied}
+use Rattle.per_core.specs.declared.encode_error.EncodeErrorKind.TheVariants.{AlphabetConstraintNotSatisfied}
+use Rattle.per_core.specs.declared.encode_error.EncodeErrorKind.TheVariants.{IntegerTypeConversionFailed}
+use Rattle.per_core.specs.declared.encode_error.EncodeErrorKind.TheVariants.{VariantNotInChoice, RealNotSupported}
+use Rattle.per_core.specs.declared.encode_error.EncodeErrorKind.TheVariants.{TooManyAdditions, Below, AlreadyFailed}
+use Rattle.per_core.specs.declared.encode_error.EncodeErrorKind.TheVariants.{OutOfMemory, OutOfTurn, WrongKind}
+use Rattle.per_write.specs.Faults.{IsMemory, RefusesValue, Stands}
+use Rattle.per_core.specs.WritingFaults.{in_alternative}
 use Rattle.per_write.specs.Rules.{encoder_rules}
 use Rattle.per_write.specs.State.{Puts, Scope, State, Presents, StateAppends, empty_scope, view}
 use Rattle.per_write.proofs.Indexes.{joined}

@@ -5,23 +5,22 @@ use Rattle.std.specs.Int.{w128}
 use Rattle.std.proofs.lemmas.Int.{ints}
 use Rattle.std.specs.Option.{is_some}
 use lib.Signed.{le_z}
-use Rattle.rasn_types.specs.Codecs.{variant_of}
-use Rattle.rasn_types.specs.Octets.{whole_bits}
+use Rattle.rasn_types.specs.Variants.{variant_of, Variant}
+use Rattle.rasn_types.specs.Bits.{whole_bits, natural_bits}
 use Rattle.rasn_types.specs.Values.{whole}
-use Rattle.rasn_types.specs.Variants.{Variant}
-use Rattle.rasn_constraints.specs.Bounds.{above, fits_i128, holds, not_above, Bounds}
+use Rattle.rasn_constraints.specs.Bounds.{above, fits_i128, holds, not_above, Bounds, value_of, lower_of, upper_of}
 use Rattle.rasn_traits.specs.Calls.{Written}
-use Rattle.rasn_constraints.specs.ToldBounds.{value_of, lower_of, upper_of}
 use Rattle.rasn_constraints.specs.declared.bounds.OutOfBounds.{OutOfBounds}
 use Rattle.per_write.specs.Rules.{encoder_rules}
 use Rattle.rasn_schema.specs.Schemas.{Schema}
 use Rattle.per_core.specs.Canon.{canon}
 use Rattle.per_core.specs.Counts.{constrained_whole, counted_octets, marked_form, number_form, number_under}
 use Rattle.per_core.specs.Writers.{just, join, after, written_if}
-use Rattle.rasn_types.specs.Octets.{natural_bits}
-use Rattle.per_write.specs.declared.error.EncodeError.{EncodeError}
-use Rattle.per_write.specs.declared.error.EncodeErrorKind.TheVariants.{ValueConstraintNotSatisfied, IntegerTypeConversionFailed}
-use Rattle.per_write.specs.Faults.{at_once, has_bound, IsError, IsMemory, IsPast, Outside, RefusesValue, Stands}
+use Rattle.per_core.specs.declared.encode_error.EncodeError.{EncodeError}
+use Rattle.per_core.specs.declared.encode_error.EncodeErrorKind.TheVariants.{ValueConstraintNotSatisfied}
+use Rattle.per_core.specs.declared.encode_error.EncodeErrorKind.TheVariants.{IntegerTypeConversionFailed}
+use Rattle.per_core.specs.WritingFaults.{at_once, has_bound, IsPast, Outside}
+use Rattle.per_write.specs.Faults.{IsError, IsMemory, RefusesValue, Stands}
 use Rattle.per_write.specs.State.{State, StateAppends, Presents}
 use Rattle.per_write.proofs.Writing.{wrote_then, wrote_same}
 

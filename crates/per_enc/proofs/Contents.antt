@@ -2,9 +2,8 @@
 use Rattle.std.proofs.Common.{◌≡◌, refl, sym, ap, ap₂, ◌∙◌, arith, inl, subst, ℕ, Bool, true, false, Option, None}
 use Rattle.std.specs.Prelude.{Result, Ok, Err}
 use Rattle.rasn_types.specs.Bits.{Bits}
-use Rattle.rasn_types.specs.Codecs.{variant_of}
+use Rattle.rasn_types.specs.Variants.{variant_of, Variant}
 use Rattle.rasn_types.specs.Values.{Value}
-use Rattle.rasn_types.specs.Variants.{Variant}
 use Rattle.rasn_types.specs.declared.types.Codec.{Codec}
 use Rattle.rasn_schema.specs.Schemas.{Schema}
 use Rattle.rasn_traits.specs.Calls.{Written}
@@ -13,10 +12,18 @@ use Rattle.per_core.specs.Canon.{canon}
 use Rattle.per_core.specs.Counts.{open_bits}
 use Rattle.per_pieces.specs.Pieces.{unplaced}
 use Rattle.per_write.specs.Components.{Encoding}
-use Rattle.per_write.specs.declared.error.EncodeError.{EncodeError}
-use Rattle.per_write.specs.declared.error.EncodeErrorKind.{EncodeErrorKind}
-use Rattle.per_write.specs.declared.error.EncodeErrorKind.TheVariants.{AlphabetConstraintNotSatisfied, AlreadyFailed, Below, IntegerTypeConversionFailed, OutOfMemory, OutOfTurn, RealNotSupported, SizeConstraintNotSatisfied, TooManyAdditions, ValueConstraintNotSatisfied, VariantNotInChoice, WrongKind}
-use Rattle.per_write.specs.Faults.{in_contents, IsMemory, RefusesValue, Stands}
+use Rattle.per_core.specs.declared.encode_error.EncodeError.{EncodeError}
+use Rattle.per_core.specs.declared.encode_error.EncodeErrorKind.{EncodeErrorKind}
+use Rattle.per_core.specs.declared.encode_error.EncodeErrorKind.TheVariants.{AlphabetConstraintNotSatisfied}
+use Rattle.per_core.specs.declared.encode_error.EncodeErrorKind.TheVariants.{AlreadyFailed, Below}
+use Rattle.per_core.specs.declared.encode_error.EncodeErrorKind.TheVariants.{IntegerTypeConversionFailed, OutOfMemory}
+use Rattle.per_core.specs.declared.encode_error.EncodeErrorKind.TheVariants.{OutOfTurn, RealNotSupported}
+use Rattle.per_core.specs.declared.encode_error.EncodeErrorKind.TheVariants.{SizeConstraintNotSatisfied}
+use Rattle.per_core.specs.declared.encode_error.EncodeErrorKind.TheVariants.{TooManyAdditions}
+use Rattle.per_core.specs.declared.encode_error.EncodeErrorKind.TheVariants.{ValueConstraintNotSatisfied}
+use Rattle.per_core.specs.declared.encode_error.EncodeErrorKind.TheVariants.{VariantNotInChoice, WrongKind}
+use Rattle.per_core.specs.WritingFaults.{in_contents}
+use Rattle.per_write.specs.Faults.{IsMemory, RefusesValue, Stands}
 use Rattle.per_write.specs.Rules.{encoder_rules}
 use Rattle.per_write.specs.State.{empty_scope, Presents, Puts, State, view}
 use Rattle.per_write.specs.Unplaced.{BeginsUnplaced, OutsideUnplaced}

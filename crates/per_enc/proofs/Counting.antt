@@ -3,14 +3,14 @@ use Rattle.std.specs.Prelude.{Result}
 use Rattle.std.proofs.Common.{◌≡◌, refl, sym, ap, ◌∙◌, ℕ, Bool, true, false, Option, Some, None, arith, nat_lt}
 use Rattle.rasn_types.specs.Values.{Value}
 use Rattle.rasn_schema.specs.Enumerations.{addeds_of, is_extensible}
-use Rattle.rasn_schema.specs.Lawful.{presence_bits}
+use Rattle.rasn_schema.specs.Structures.{presence_bits}
 use Rattle.rasn_schema.specs.Normal.{settle}
 use Rattle.rasn_schema.specs.Schemas.{count, group, listed, no_parts, part, Parts, Schema}
 use Rattle.rasn_traits.specs.Additions.{AdditionClosed}
 use Rattle.rasn_traits.specs.Counted.{IsGroupOf}
 use Rattle.per_pieces.specs.Pieces.{placed_bits}
 use Rattle.per_write.specs.Additions.{ClosesOrNot, is_group_there, Opens, OutsideAddition}
-use Rattle.per_write.specs.declared.error.EncodeError.{EncodeError}
+use Rattle.per_core.specs.declared.encode_error.EncodeError.{EncodeError}
 use Rattle.per_write.specs.Rules.{encoder_rules}
 use Rattle.per_write.specs.State.{Presents, State}
 use Rattle.per_enc.specs.Records.{behind_marker, part_count}

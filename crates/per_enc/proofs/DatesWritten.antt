@@ -3,10 +3,9 @@ use lib.Signed.{le_z}
 use Rattle.std.proofs.Common.{◌≡◌, sym, ap, ap₂, ◌∙◌, subst, ℕ, ◌+◌, ◌-◌, ◌<◌, Bool, true, false, cond, leb-true, arith, Some, None, ℤ, pos, negsuc}
 use Rattle.std.specs.Prelude.{Result, Ok, Err}
 use Rattle.std.proofs.Common.{inl}
-use Rattle.rasn_types.specs.Codecs.{variant_of}
+use Rattle.rasn_types.specs.Variants.{variant_of, Variant}
 use Rattle.rasn_types.specs.Contents.{is_date}
 use Rattle.rasn_types.specs.Values.{day}
-use Rattle.rasn_types.specs.Variants.{Variant}
 use Rattle.rasn_schema.specs.Schemas.{Schema}
 use Rattle.rasn_traits.specs.Calls.{Written}
 use Rattle.per_core.specs.Canon.{canon, date_of, in_range, year_of, year_writer}
@@ -14,7 +13,7 @@ use Rattle.per_core.specs.Counts.{constrained_whole, number_under}
 use Rattle.per_core.specs.Writers.{Writer, ◌▹◌, written_if}
 use Rattle.per_core.proofs.Fits.{fits_small}
 use Rattle.per_core.proofs.LengthForms.{and_right}
-use Rattle.per_write.specs.declared.error.EncodeError.{EncodeError}
+use Rattle.per_core.specs.declared.encode_error.EncodeError.{EncodeError}
 use Rattle.per_write.specs.Faults.{IsMemory}
 use Rattle.per_write.specs.Rules.{encoder_rules}
 use Rattle.per_write.specs.State.{Puts, State, StateAppends}

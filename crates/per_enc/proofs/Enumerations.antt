@@ -1,6 +1,6 @@
 -- Items of an ENUMERATED, as they are written (X.691 14).
 use Rattle.std.proofs.Common.{◌≡◌, sym, subst, ℕ, ◌+◌, ◌<◌, Bool, true, false, lt-ltb, ltb}
-use Rattle.rasn_types.specs.Codecs.{variant_of}
+use Rattle.rasn_types.specs.Variants.{variant_of}
 use Rattle.rasn_types.specs.declared.types.Codec.{Codec}
 use Rattle.rasn_types.specs.Values.{Value, item, root, added}
 use Rattle.rasn_schema.specs.Enumerations.{IsItemAt, is_added}

@@ -1,9 +1,8 @@
 -- What additions write, one after another, behind the root of a record (ITU-T X.691, 19.7 to 19.9).
 use Rattle.std.proofs.Common.{◌≡◌, refl, sym, ap, ap₂, ◌∙◌, subst, inl, inr, ℕ, suc, ◌+◌, Bool, true, false, ◌||◌, List, [], ◌∷◌, length, Option, Some, None, arith, length-append}
 use Rattle.rasn_types.specs.Bits.{Bits}
-use Rattle.rasn_types.specs.Codecs.{variant_of}
+use Rattle.rasn_types.specs.Variants.{variant_of, Variant}
 use Rattle.rasn_types.specs.Values.{Value}
-use Rattle.rasn_types.specs.Variants.{Variant}
 use Rattle.rasn_types.specs.declared.types.Codec.{Codec}
 use Rattle.rasn_schema.specs.Schemas.{Schema, Parts, no_parts, part, Presence, required, optional, group, default}
 use Rattle.rasn_traits.specs.Additions.{addition_bit, PresentsAddition, presents_added, presents_skipped, PresentsAdditions, presents_no_more, presents_further, refuses_added, refuses_skipped, RefusesAdditions, refuses_addition, refuses_further, refuses_inside, refuses_surplus}
@@ -11,9 +10,10 @@ use Rattle.per_core.proofs.Presenting.{some_both}
 use Rattle.per_core.specs.Canon.{Member, any_set, bitmap_of, canon, members, opens_of, shown}
 use Rattle.per_core.specs.Counts.{open_bits}
 use Rattle.per_core.specs.Writers.{go_on}
-use Rattle.per_write.specs.declared.error.EncodeError.{EncodeError}
+use Rattle.per_core.specs.declared.encode_error.EncodeError.{EncodeError}
 use Rattle.per_write.specs.Additions.{IsSurplus, NoneLeft, with_next}
-use Rattle.per_write.specs.Faults.{HasPart, part_here, part_behind, RefusesValue}
+use Rattle.per_core.specs.WritingFaults.{HasPart, part_here, part_behind}
+use Rattle.per_write.specs.Faults.{RefusesValue}
 use Rattle.per_write.specs.Rules.{encoder_rules}
 use Rattle.per_write.specs.State.{Additions, State}
 use Rattle.per_write.proofs.Gathering.{Gathers, gathers_none, gathers_absent, gathers_there}

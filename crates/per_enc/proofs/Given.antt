@@ -3,19 +3,18 @@ use Rattle.std.specs.Prelude.{Result, Ok, Err, not, nat_lt}
 use Rattle.std.proofs.Common.{◌≡◌, refl, sym, ap, ap₂, ◌∙◌, subst, inl, inr, ℕ, zero, suc, ◌<◌, ◌≤◌, Bool, true, false, length, Some, None, arith, append-nil, lt-ltb}
 use Rattle.std.proofs.lemmas.Bool.{le-ltb}
 use Rattle.rasn_types.specs.Bits.{Bits}
-use Rattle.rasn_types.specs.Codecs.{variant_of}
+use Rattle.rasn_types.specs.Variants.{variant_of, Variant}
 use Rattle.rasn_types.specs.Values.{Value, fields, slots}
-use Rattle.rasn_types.specs.Variants.{Variant}
 use Rattle.rasn_types.specs.declared.types.Codec.{Codec}
 use Rattle.rasn_schema.specs.Fields.{shapes_from}
-use Rattle.rasn_schema.specs.Lawful.{presence_bits}
+use Rattle.rasn_schema.specs.Structures.{presence_bits, extended}
 use Rattle.rasn_schema.specs.Normal.{is_vacant, settle}
 use Rattle.rasn_schema.specs.Records.{record_at}
 use Rattle.rasn_schema.specs.Schemas.{listed, Schema, Parts, no_parts, part, required, optional, group, default}
-use Rattle.rasn_traits.specs.Additions.{AdditionClosed, AdditionOpened, AdditionSkipped, extended}
+use Rattle.rasn_traits.specs.Additions.{AdditionClosed, AdditionOpened, AdditionSkipped}
 use Rattle.per_core.specs.Canon.{canon}
 use Rattle.per_pieces.specs.Pieces.{Pieces, placed_bits}
-use Rattle.per_write.specs.declared.error.EncodeError.{EncodeError}
+use Rattle.per_core.specs.declared.encode_error.EncodeError.{EncodeError}
 use Rattle.per_write.specs.declared.presences.Presences.{Presences}
 use Rattle.per_write.specs.Additions.{ClosesOrNot, has_required, is_group_there, open_if, Opens, OpensOrNot, OutsideAddition, SkipsOrNot, with_next}
 use Rattle.per_write.specs.Rules.{encoder_rules}

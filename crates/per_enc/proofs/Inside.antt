@@ -5,7 +5,7 @@ use Rattle.rasn_schema.specs.Schemas.{count, Schema, Parts, no_parts, part, Pres
 use Rattle.rasn_traits.specs.Additions.{PresentsAddition, presents_added, presents_skipped, PresentsAdditions, presents_no_more, presents_further, RefusesAdded, RefusesAddition, refuses_added, refuses_skipped, RefusesAdditions, refuses_addition, refuses_further, refuses_inside, refuses_surplus}
 use Rattle.rasn_traits.specs.Scopes.{PresentsPart, presents_required, presents_there, presents_left_out, PresentsParts, presents_end, presents_next, RefusesPart, refuses_required, refuses_there, refuses_bit, RefusesParts, refuses_here, refuses_behind, PresentsFields, presents_fields, RefusesFields, refuses_root, refuses_behind_root}
 use Rattle.per_write.specs.Components.{Encoding, noted, stepped}
-use Rattle.per_write.specs.declared.error.EncodeError.{EncodeError}
+use Rattle.per_core.specs.declared.encode_error.EncodeError.{EncodeError}
 use Rattle.per_write.specs.Presences.{Marks as MarksIn}
 use Rattle.per_write.specs.Rules.{encoder_rules}
 use Rattle.per_write.specs.State.{Presents as PresentsIn}

@@ -6,7 +6,7 @@ use Rattle.std.proofs.lemmas.List.{length-replicate}
 use Rattle.std.proofs.lemmas.Option.{none-some, same_Some}
 use Rattle.rasn_types.specs.Values.{Value, bag_of, nothing}
 use Rattle.rasn_constraints.specs.Bounds.{Size}
-use Rattle.rasn_schema.specs.Lists.{list_value}
+use Rattle.rasn_schema.specs.Structures.{list_value}
 use Rattle.rasn_schema.specs.Schemas.{Schema}
 use Rattle.rasn_traits.specs.Amounts.{only_values}
 use Rattle.rasn_traits.specs.Bags.{bag_schema, BagOpened, ClosesBag, MemberAwaited, WritesMember}
@@ -14,7 +14,7 @@ use Rattle.rasn_traits.specs.Calls.{Written}
 use Rattle.rasn_traits.specs.Lists.{ClosesList, ElementAwaited, ListForm, ListOpened, schema_of, WritesNext}
 use Rattle.rasn_traits.specs.ListsInTurn.{ClosesBagInTurn, ClosesListInTurn, WritesMemberInTurn, WritesNextInTurn}
 use Rattle.per_write.specs.Components.{Encoding}
-use Rattle.per_write.specs.declared.error.EncodeError.{EncodeError}
+use Rattle.per_core.specs.declared.encode_error.EncodeError.{EncodeError}
 use Rattle.per_write.specs.declared.lists.UnwrittenElements.{UnwrittenElements}
 use Rattle.per_write.specs.Faults.{IsMemory, RefusesValue}
 use Rattle.per_write.specs.Lists.{IsOpenList as IsOpenListIn, NextElement}

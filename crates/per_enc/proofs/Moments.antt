@@ -2,10 +2,9 @@
 use Rattle.std.specs.Prelude.{Result, Ok, Err, IsErrAnd}
 use Rattle.std.proofs.Common.{◌≡◌, refl, sym, ap, ◌∙◌, subst, ℕ, Bool, true, false, List, inl, inr}
 use Rattle.rasn_types.specs.Alphabets.{char_width, visible}
-use Rattle.rasn_types.specs.Codecs.{variant_of}
+use Rattle.rasn_types.specs.Variants.{variant_of, Variant}
 use Rattle.rasn_types.specs.Contents.{is_identifier, is_time, TimeKind}
 use Rattle.rasn_types.specs.Values.{characters, octets}
-use Rattle.rasn_types.specs.Variants.{Variant}
 use Rattle.rasn_constraints.specs.Bounds.{any_size}
 use Rattle.rasn_schema.specs.Schemas.{Schema}
 use Rattle.rasn_types.specs.Identifiers.{are_arcs, contents}
@@ -15,12 +14,13 @@ use Rattle.rasn_traits.specs.Moments.{identifier_value}
 use Rattle.per_core.specs.Canon.{canon, char_writers}
 use Rattle.per_core.specs.Counts.{char_items, counted, counted_in, unconstrained_octets}
 use Rattle.per_core.specs.Writers.{Writer, written_if}
-use Rattle.per_write.specs.declared.error.EncodeError.{EncodeError}
-use Rattle.per_write.specs.declared.error.EncodeErrorKind.TheVariants.{Below}
+use Rattle.per_core.specs.declared.encode_error.EncodeError.{EncodeError}
+use Rattle.per_core.specs.declared.encode_error.EncodeErrorKind.TheVariants.{Below}
 use Rattle.rasn_strings.specs.declared.time_error.TimeError.{TimeError}
 use Rattle.rasn_strings.specs.declared.time_error.TimeError.TheVariants.{Unrepresentable}
 use Rattle.per_write.specs.Characters.{text_characters}
-use Rattle.per_write.specs.Faults.{at_once, IsError, IsMemory, RefusesValue, Stands}
+use Rattle.per_core.specs.WritingFaults.{at_once}
+use Rattle.per_write.specs.Faults.{IsError, IsMemory, RefusesValue, Stands}
 use Rattle.per_write.specs.Items.{PutsItems, unconstrained_items}
 use Rattle.per_enc.specs.Times.{Unwritten}
 use Rattle.per_write.specs.Rules.{encoder_rules}

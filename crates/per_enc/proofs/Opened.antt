@@ -4,12 +4,11 @@ use Rattle.std.proofs.Common.{◌≡◌, ◌⊎◌, inl, inr, refl, sym, ap, ap�
 use Rattle.std.proofs.Math.Path.{fun_ext}
 use Rattle.std.proofs.lemmas.List.{drop_all, length-append, map-append}
 use Rattle.rasn_types.specs.Bits.{Bits}
-use Rattle.rasn_types.specs.Codecs.{variant_of}
+use Rattle.rasn_types.specs.Variants.{variant_of, Variant}
 use Rattle.rasn_types.specs.Values.{Value, bag_of}
-use Rattle.rasn_types.specs.Variants.{Variant}
 use Rattle.rasn_types.specs.declared.types.Codec.{Codec}
 use Rattle.rasn_constraints.specs.Bounds.{allows, Size}
-use Rattle.rasn_schema.specs.Lists.{list_value}
+use Rattle.rasn_schema.specs.Structures.{list_value}
 use Rattle.rasn_schema.specs.Schemas.{Schema}
 use Rattle.rasn_traits.specs.Bags.{AwaitsMember, BagOpened, bag_schema}
 use Rattle.rasn_traits.specs.Calls.{Written}
@@ -22,10 +21,11 @@ use Rattle.per_core.proofs.Positions.{canon_p}
 use Rattle.per_pieces.specs.Pieces.{Piece, Pieces, unplaced, writer_of}
 use Rattle.per_enc.specs.Members.{writers_of}
 use Rattle.per_enc.specs.Written.{AreWritten}
-use Rattle.per_write.specs.declared.error.EncodeError.{EncodeError}
+use Rattle.per_core.specs.declared.encode_error.EncodeError.{EncodeError}
 use Rattle.per_write.specs.declared.lists.UnwrittenElements.{UnwrittenElements}
-use Rattle.per_write.specs.declared.error.EncodeErrorKind.TheVariants.{OutOfTurn}
-use Rattle.per_write.specs.Faults.{HasElement, IsError, IsMemory, RefusesValue}
+use Rattle.per_core.specs.declared.encode_error.EncodeErrorKind.TheVariants.{OutOfTurn}
+use Rattle.per_core.specs.WritingFaults.{HasElement}
+use Rattle.per_write.specs.Faults.{IsError, IsMemory, RefusesValue}
 use Rattle.per_write.specs.Unplaced.{BeginsUnplaced, OutsideUnplaced}
 use Rattle.per_write.specs.Lists.{IsOpenList, Enters, EntersItems, RefusesCount, count_left, count_memory, count_outside}
 use Rattle.per_write.specs.Rules.{encoder_rules}

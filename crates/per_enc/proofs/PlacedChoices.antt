@@ -2,11 +2,10 @@
 use Rattle.std.specs.Prelude.{Result, Ok, Err, IsOk, OnErr}
 use Rattle.std.proofs.Common.{◌≡◌, refl, sym, ap, ap₂, ◌∙◌, subst, inl, inr, ℕ, suc, Bool, true, false, length, Option, Some, None, arith}
 use Rattle.rasn_types.specs.Bits.{Bits}
-use Rattle.rasn_types.specs.Codecs.{variant_of}
+use Rattle.rasn_types.specs.Variants.{variant_of, Variant}
 use Rattle.rasn_types.specs.Values.{Value, alternative, Side, root, added}
-use Rattle.rasn_types.specs.Variants.{Variant}
 use Rattle.rasn_types.specs.declared.types.Codec.{Codec}
-use Rattle.rasn_schema.specs.Choices.{alternative_at, alternative_in, choice_schema}
+use Rattle.rasn_schema.specs.Structures.{alternative_at, alternative_in, choice_schema}
 use Rattle.rasn_schema.specs.Enumerations.{is_extensible}
 use Rattle.rasn_schema.specs.Schemas.{count, Parts, no_parts, part, Schema}
 use Rattle.rasn_schema.specs.declared.items.ItemCounts.{ItemCounts}
@@ -21,7 +20,7 @@ use Rattle.per_core.specs.Writers.{Writer, ◌▹◌}
 use Rattle.per_pieces.specs.Pieces.{Pieces}
 use Rattle.per_pieces.proofs.Writing.{then_assoc, then_same}
 use Rattle.per_write.specs.Components.{Encoding}
-use Rattle.per_write.specs.declared.error.EncodeError.{EncodeError}
+use Rattle.per_core.specs.declared.encode_error.EncodeError.{EncodeError}
 use Rattle.per_write.specs.Faults.{IsMemory}
 use Rattle.per_write.specs.Rules.{encoder_rules}
 use Rattle.per_write.specs.State.{Puts, Scope, State, Presents, StateAppends, empty_scope, view}

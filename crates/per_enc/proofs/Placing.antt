@@ -2,13 +2,12 @@
 use Rattle.std.specs.Prelude.{Result, Ok, Err, unwrap_or}
 use Rattle.std.proofs.Common.{◌≡◌, refl, sym, ap, ◌∙◌, subst, ℕ, zero, suc, Bool, true, false, leb, ◌<◌, ◌≤◌, [], replicate, Option, Some, None, is_some, arith}
 use Rattle.rasn_types.specs.Bits.{Bits, to_bits}
-use Rattle.rasn_types.specs.Codecs.{variant_of}
-use Rattle.rasn_types.specs.Variants.{Variant, aligned, unaligned}
+use Rattle.rasn_types.specs.Variants.{variant_of, Variant, aligned, unaligned}
 use Rattle.rasn_schema.specs.declared.items.Place.{Place}
 use Rattle.per_core.specs.Counts.{constrained_whole}
 use Rattle.per_core.specs.Writers.{Writer, just, pad, join, go_on, after, ◌▹◌}
 use Rattle.per_pieces.specs.Pieces.{Pieces, writer_of}
-use Rattle.per_write.specs.declared.error.EncodeError.{EncodeError}
+use Rattle.per_core.specs.declared.encode_error.EncodeError.{EncodeError}
 use Rattle.per_enc.specs.Choices.{OutsideChoice, OpensChoiceOf, OpensUnplaced, OpensInPlace, OpensOrNot, placed_alternative, restored, root_index}
 use Rattle.per_write.specs.Choices.{index_padding, index_width}
 use Rattle.per_write.specs.Faults.{IsMemory}

@@ -2,10 +2,9 @@
 use Rattle.std.specs.Prelude.{OnOk, OnErr, IfErr, Result, Ok, Err, Bool}
 use Rattle.std.proofs.Common.{◌≡◌, refl, sym, ap, ◌∙◌, subst, true, false, ℕ, List, [], ◌∷◌, Some, inl, inr, None, Option, ℤ, rules}
 use Rattle.rasn_types.specs.Bits.{Bits}
-use Rattle.rasn_types.specs.Codecs.{variant_of}
+use Rattle.rasn_types.specs.Variants.{variant_of, Variant}
 use Rattle.rasn_types.specs.Values.{Value, truth, nothing, octets, whole}
 use Rattle.rasn_types.specs.Contents.{is_text, other, TextKind}
-use Rattle.rasn_types.specs.Variants.{Variant}
 use Rattle.rasn_constraints.specs.Bounds.{Bounds, holds, unbounded}
 use Rattle.rasn_constraints.specs.Constraints.{bounds_in, bounds_of, is_marked}
 use Rattle.rasn_constraints.specs.declared.constraints.Bounded.{Bounded}
@@ -17,7 +16,7 @@ use Rattle.per_core.specs.Writers.{Writer, join, just, written_if, ◌▹◌}
 use Rattle.per_core.specs.Canon.{canon}
 use Rattle.per_pieces.specs.Pieces.{Pieces, no_pieces, writer_of}
 use Rattle.per_pieces.proofs.Placed.{appends_none}
-use Rattle.per_write.specs.declared.error.EncodeError.{EncodeError}
+use Rattle.per_core.specs.declared.encode_error.EncodeError.{EncodeError}
 use Rattle.per_write.specs.Faults.{IsMemory, IsAlready, RefusesValue, Stands}
 use Rattle.per_write.specs.Numbers.{unconstrained_whole}
 use Rattle.per_write.specs.Rules.{encoder_rules}

@@ -1,21 +1,29 @@
 -- What refuses a SET OF (ITU-T X.691, 22): its count, or a member, in whatever order they are written.
 use Rattle.std.proofs.Common.{◌≡◌, refl, sym, ap, subst, ◌∙◌, ℕ, Bool, true, false, cond, List, [], ◌∷◌, map, length, Option, None}
-use Rattle.rasn_types.specs.Codecs.{variant_of}
+use Rattle.rasn_types.specs.Variants.{variant_of, Variant}
 use Rattle.rasn_types.specs.Values.{Value, as_values, bag_of, before, code, put, same, sorted, values}
-use Rattle.rasn_types.specs.Variants.{Variant}
 use Rattle.rasn_types.proofs.Values.{values-as_values}
-use Rattle.rasn_constraints.specs.Bounds.{allows, Size}
-use Rattle.rasn_schema.specs.Lists.{list_value}
+use Rattle.rasn_constraints.specs.Bounds.{allows, Size, value_of, lower_of, upper_of}
+use Rattle.rasn_schema.specs.Structures.{list_value}
 use Rattle.rasn_schema.specs.Schemas.{Schema}
 use Rattle.per_core.specs.Canon.{ascending, canon, octet_key}
 use Rattle.per_core.specs.Counts.{counted, list_items}
 use Rattle.per_core.specs.Writers.{Writer, written_if}
 use Rattle.rasn_schema.proofs.Bags.{sort}
-use Rattle.rasn_constraints.specs.ToldBounds.{value_of, lower_of, upper_of}
-use Rattle.per_write.specs.declared.error.EncodeError.{EncodeError}
-use Rattle.per_write.specs.declared.error.EncodeErrorKind.{EncodeErrorKind}
-use Rattle.per_write.specs.declared.error.EncodeErrorKind.TheVariants.{SizeConstraintNotSatisfied, ValueConstraintNotSatisfied, AlphabetConstraintNotSatisfied, IntegerTypeConversionFailed, VariantNotInChoice, RealNotSupported, TooManyAdditions, Below, AlreadyFailed, OutOfMemory, OutOfTurn, WrongKind}
-use Rattle.per_write.specs.Faults.{HasElement, element_here, element_behind, IsAbsent, IsForeign, IsOther, IsOutOfBounds, IsOutOfSize, IsPastBounds, IsReal, IsUnlawful, OutsideSize, RefusesValue, Stands, StandsIn, at_once, in_addition, in_alternative, in_contents, in_element, in_member, in_part, in_set}
+use Rattle.per_core.specs.declared.encode_error.EncodeError.{EncodeError}
+use Rattle.per_core.specs.declared.encode_error.EncodeErrorKind.{EncodeErrorKind}
+use Rattle.per_core.specs.declared.encode_error.EncodeErrorKind.TheVariants.{SizeConstraintNotSatisfied}
+use Rattle.per_core.specs.declared.encode_error.EncodeErrorKind.TheVariants.{ValueConstraintNotSatisfied}
+use Rattle.per_core.specs.declared.encode_error.EncodeErrorKind.TheVariants.{AlphabetConstraintNotSatisfied}
+use Rattle.per_core.specs.declared.encode_error.EncodeErrorKind.TheVariants.{IntegerTypeConversionFailed}
+use Rattle.per_core.specs.declared.encode_error.EncodeErrorKind.TheVariants.{VariantNotInChoice, RealNotSupported}
+use Rattle.per_core.specs.declared.encode_error.EncodeErrorKind.TheVariants.{TooManyAdditions, Below, AlreadyFailed}
+use Rattle.per_core.specs.declared.encode_error.EncodeErrorKind.TheVariants.{OutOfMemory, OutOfTurn, WrongKind}
+use Rattle.per_core.specs.WritingFaults.{HasElement, element_here, element_behind, IsAbsent, IsForeign, IsOther}
+use Rattle.per_core.specs.WritingFaults.{IsOutOfBounds, IsOutOfSize, IsPastBounds, IsReal, IsUnlawful, OutsideSize}
+use Rattle.per_core.specs.WritingFaults.{StandsIn, at_once, in_addition, in_alternative, in_contents, in_element}
+use Rattle.per_core.specs.WritingFaults.{in_member, in_part, in_set}
+use Rattle.per_write.specs.Faults.{RefusesValue, Stands}
 use Rattle.per_write.specs.Items.{HasRefused, refused_behind, refused_here}
 use Rattle.per_write.specs.State.{State}
 use Rattle.per_write.proofs.Elements.{length-forms}

@@ -4,14 +4,14 @@ use Rattle.std.specs.Prelude.{Result, Ok, Err}
 use Rattle.std.proofs.Common.{◌≡◌, refl, ap, ◌∙◌, ◌⊎◌, subst, inl, ℕ, suc, Bool, false, List, length, Option, Some, None, arith}
 use Rattle.rasn_types.specs.Values.{Value}
 use Rattle.rasn_schema.specs.Fields.{Shape, shapes_from}
-use Rattle.rasn_schema.specs.Records.{record_value}
+use Rattle.rasn_schema.specs.Structures.{record_value}
 use Rattle.rasn_schema.specs.Schemas.{by_tag, count, Schema, Parts, no_parts, part}
 use Rattle.rasn_traits.specs.Calls.{Written}
 use Rattle.rasn_traits.specs.Scopes.{OpenedToWrite, PresentsFields}
 use Rattle.per_pieces.specs.OpenSets.{closed, opened, OpenSet}
 use Rattle.per_write.specs.Components.{Encoding, going_on, OpensComponents, PutsInOrder, underway}
-use Rattle.per_write.specs.declared.error.EncodeError.{EncodeError}
-use Rattle.per_write.specs.declared.error.EncodeErrorKind.TheVariants.{OutOfTurn}
+use Rattle.per_core.specs.declared.encode_error.EncodeError.{EncodeError}
+use Rattle.per_core.specs.declared.encode_error.EncodeErrorKind.TheVariants.{OutOfTurn}
 use Rattle.per_write.specs.Faults.{IsError, IsMemory}
 use Rattle.per_write.specs.Records.{ClosesOrNot, Opens as OpensRecord, OpensOrNot}
 use Rattle.per_write.specs.State.{Scope, State}

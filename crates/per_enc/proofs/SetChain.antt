@@ -2,11 +2,11 @@
 use Rattle.std.proofs.Common.{◌≡◌, refl, sym, ap, ap₂, ◌∙◌, subst, ℕ, suc, ◌+◌, ◌%◌, ◌<◌, ◌≤◌, Bool, false, true, ◌&&◌, List, [], ◌∷◌, ◌++◌, length, Option, Some, None, arith, append-nil, append_assoc, length-append}
 use Rattle.std.proofs.Math.Path.{fun_ext}
 use Rattle.rasn_types.specs.Bits.{Bits}
-use Rattle.rasn_types.specs.Codecs.{variant_of}
+use Rattle.rasn_types.specs.Variants.{variant_of, Variant}
 use Rattle.rasn_types.specs.Values.{Value}
-use Rattle.rasn_types.specs.Variants.{Variant}
 use Rattle.rasn_types.specs.declared.types.Codec.{Codec}
-use Rattle.rasn_schema.specs.Fields.{field_tag, presence_of, shapes_from}
+use Rattle.rasn_schema.specs.Structures.{field_tag}
+use Rattle.rasn_schema.specs.Fields.{presence_of, shapes_from}
 use Rattle.rasn_schema.specs.Schemas.{TagTree, count, Schema, Parts, no_parts, part, Presence, required, optional, group, default}
 use Rattle.rasn_traits.specs.Presences.{presence_bit}
 use Rattle.rasn_traits.specs.Scopes.{PresentsPart, presents_required, presents_there, presents_left_out, PresentsParts, presents_end, presents_next, refuses_required, refuses_there, refuses_bit, RefusesParts, refuses_here, refuses_behind}
@@ -18,8 +18,9 @@ use Rattle.per_pieces.specs.OpenSets.{are_of, is_of, begins, begins_value, bit_w
 use Rattle.per_pieces.specs.Pieces.{Appends, Pieces, unplaced, writer_of}
 use Rattle.per_pieces.proofs.Presented.{BeginsComponent, HasPresented, presents_absent, presents_present, presents_required as presents_value}
 use Rattle.per_write.specs.Components.{begun_with, Encoding, going_on, noted, underway}
-use Rattle.per_write.specs.declared.error.EncodeError.{EncodeError}
-use Rattle.per_write.specs.Faults.{HasPart, part_here, part_behind, RefusesValue}
+use Rattle.per_core.specs.declared.encode_error.EncodeError.{EncodeError}
+use Rattle.per_core.specs.WritingFaults.{HasPart, part_here, part_behind}
+use Rattle.per_write.specs.Faults.{RefusesValue}
 use Rattle.per_write.specs.State.{Presents as PresentsIn, Scope, State}
 use Rattle.per_pieces.specs.Turns.{Enclosing, gathers}
 use Rattle.per_enc.specs.Rules.{encoding_rules, IsUnmarkedWhere, Marks, MarksWhere, noting, Presents}

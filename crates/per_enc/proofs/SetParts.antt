@@ -2,14 +2,13 @@
 use Rattle.std.proofs.Common.{◌≡◌, sym, ap, ◌∙◌, ℕ, zero, suc, true, List, [], ◌∷◌, length, Option, Some, None, arith}
 use Rattle.rasn_types.specs.Values.{Value}
 use Rattle.rasn_types.specs.Variants.{Variant}
-use Rattle.rasn_schema.specs.Canonised.{canonised, canonised_slots, put_part}
-use Rattle.rasn_schema.specs.Orders.{by_tags, how_many_less, insert_at}
+use Rattle.rasn_schema.specs.Orders.{canonised, canonised_slots, put_part, by_tags, how_many_less, insert_at}
 use Rattle.rasn_schema.specs.Schemas.{count, Schema, Parts, no_parts, part, Presence, smallest, tags, TagTree}
 use Rattle.rasn_schema.proofs.Canonised.{count_ordered, length-by_tags}
 use Rattle.per_core.specs.Canon.{bodies_of, canon, if_shown, members, shown}
 use Rattle.per_core.specs.Writers.{go_on}
 use Rattle.per_pieces.proofs.Writing.{none_behind}
-use Rattle.per_write.specs.Faults.{HasPart, part_here, part_behind}
+use Rattle.per_core.specs.WritingFaults.{HasPart, part_here, part_behind}
 
 -- a part among others, to which one more is put
 has_put : (s : Schema) (v : Value) (n : ℕ) (t : TagTree) (q : Presence) (c : Schema) (r : Option Value) (ps : Parts) (rs : List (Option Value)) → HasPart s v ps rs → HasPart s v (put_part n t q c ps) (insert_at n r rs)

@@ -2,7 +2,7 @@
 use Rattle.std.specs.Prelude.{Result, Ok, Err, if◌then◌else◌, is_some, is_none, not}
 use Rattle.std.proofs.Common.{◌≡◌, refl, sym, ap, ◌∙◌, ◌⊎◌, ◌&&◌, subst, inl, inr, ℕ, zero, suc, ◌+◌, Bool, true, false, List, [], ◌∷◌, ◌++◌, length, length-append, Option, Some, None, arith}
 use Rattle.rasn_schema.specs.Fields.{is_not_required, presence_of, Shape, shapes_from}
-use Rattle.rasn_schema.specs.Lawful.{has_bit, presence_bits}
+use Rattle.rasn_schema.specs.Structures.{has_bit, presence_bits}
 use Rattle.rasn_schema.specs.Schemas.{count, default, group, no_parts, optional, part, Parts, Presence, required}
 use Rattle.rasn_traits.specs.Amounts.{Amount, amount_of}
 use Rattle.rasn_traits.specs.Turns.{Came, came_added, came_bit, came_nothing, came_skipped, came_value, RefusesOther}
@@ -12,7 +12,7 @@ use Rattle.per_pieces.specs.Pieces.{Pieces}
 use Rattle.per_pieces.specs.Turns.{Enclosing, gathers}
 use Rattle.per_write.specs.Additions.{with_next}
 use Rattle.per_write.specs.Components.{begun_with, Encoding, going_on, noted, PutsInOrder, underway}
-use Rattle.per_write.specs.declared.error.EncodeError.{EncodeError}
+use Rattle.per_core.specs.declared.encode_error.EncodeError.{EncodeError}
 use Rattle.per_write.specs.Records.{AreGiven, ClosesOrNot, kept_additions}
 use Rattle.per_write.specs.State.{Additions, Scope, State}
 use Rattle.per_enc.specs.Records.{behind_marker, part_count}

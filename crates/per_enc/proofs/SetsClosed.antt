@@ -1,15 +1,14 @@
 -- A SET whose components were presented in the order of its fields, closed, and what refuses it (ITU-T X.691, 21.1).
 use Rattle.std.specs.Prelude.{Result, Ok, Err}
 use Rattle.std.proofs.Common.{◌≡◌, refl, sym, ap, ap₂, ◌∙◌, ◌⊎◌, subst, inl, inr, ℕ, ◌+◌, ◌%◌, ◌<◌, ◌≤◌, Bool, false, true, List, [], ◌∷◌, ◌++◌, length, Option, Some, None, arith, append-nil}
-use Rattle.rasn_types.specs.Codecs.{variant_of}
+use Rattle.rasn_types.specs.Variants.{variant_of, Variant}
 use Rattle.rasn_types.specs.Values.{Value}
-use Rattle.rasn_types.specs.Variants.{Variant}
 use Rattle.rasn_types.specs.declared.types.Codec.{Codec}
-use Rattle.rasn_schema.specs.Canonised.{canonised, canonised_slots}
+use Rattle.rasn_schema.specs.Orders.{canonised, canonised_slots}
 use Rattle.rasn_schema.specs.Fields.{Shape, shapes_from}
-use Rattle.rasn_schema.specs.Records.{record_value}
+use Rattle.rasn_schema.specs.Structures.{record_value, extended}
 use Rattle.rasn_schema.specs.Schemas.{by_tag, count, Schema, Parts, no_parts}
-use Rattle.rasn_traits.specs.Additions.{extended, PresentsAdditions, RefusesAdditions}
+use Rattle.rasn_traits.specs.Additions.{PresentsAdditions, RefusesAdditions}
 use Rattle.rasn_traits.specs.Calls.{Written}
 use Rattle.rasn_traits.specs.Scopes.{PresentsParts, PresentsFields, presents_fields, RefusesFields, refuses_root, refuses_behind_root}
 use Rattle.per_core.specs.Canon.{bitmap_of, canon, any_set, members}
@@ -21,8 +20,8 @@ use Rattle.per_pieces.specs.Pieces.{Appends, bit, bit_count, Piece, Pieces, plac
 use Rattle.per_pieces.proofs.Presented.{all_presented as closed_all, closed_as, HasPresented, none_presented}
 use Rattle.per_pieces.proofs.Writing.{then_nothing}
 use Rattle.per_write.specs.Components.{Encoding, PutsInOrder, underway}
-use Rattle.per_write.specs.declared.error.EncodeError.{EncodeError}
-use Rattle.per_write.specs.declared.error.EncodeErrorKind.TheVariants.{OutOfTurn}
+use Rattle.per_core.specs.declared.encode_error.EncodeError.{EncodeError}
+use Rattle.per_core.specs.declared.encode_error.EncodeErrorKind.TheVariants.{OutOfTurn}
 use Rattle.per_write.specs.Faults.{IsError, IsMemory, RefusesValue}
 use Rattle.per_write.specs.Records.{AreGiven, ClosedBehind, ClosesOrNot, IsUngiven, to_be_given}
 use Rattle.per_write.specs.Rules.{encoder_rules}

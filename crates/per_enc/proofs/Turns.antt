@@ -2,11 +2,10 @@
 use Rattle.std.specs.Prelude.{IsErrAnd, Result, Ok, Err}
 use Rattle.std.proofs.Common.{◌≡◌, refl, sym, ap, ap₂, ◌∙◌, ◌⊎◌, subst, inl, inr, ℕ, zero, suc, ◌+◌, Bool, true, false, List, [], ◌∷◌, length, length-append, Option, Some, None, arith}
 use Rattle.rasn_types.specs.Values.{Side, Value}
-use Rattle.rasn_schema.specs.Lawful.{presence_bits}
+use Rattle.rasn_schema.specs.Structures.{presence_bits, extended}
 use Rattle.rasn_schema.specs.Schemas.{count, no_parts, Parts, Schema}
 use Rattle.rasn_schema.specs.declared.items.Place.{Place}
 use Rattle.rasn_schema.specs.declared.items.Place.TheVariants.{Root, Added}
-use Rattle.rasn_traits.specs.Additions.{extended}
 use Rattle.rasn_traits.specs.Calls.{Behaves}
 use Rattle.rasn_traits.specs.Lists.{Mistimed}
 use Rattle.rasn_traits.specs.Scopes.{PresentsFields}
@@ -14,7 +13,7 @@ use Rattle.rasn_traits.specs.Amounts.{Amount, amount_of, one_value, only_values}
 use Rattle.rasn_traits.specs.Turns.{Came, came_added, came_bit, came_nothing, came_skipped, came_value, RefusesOther}
 use Rattle.per_write.specs.Additions.{OutsideAddition, with_next}
 use Rattle.per_write.specs.Components.{Encoding}
-use Rattle.per_write.specs.declared.error.EncodeError.{EncodeError}
+use Rattle.per_core.specs.declared.encode_error.EncodeError.{EncodeError}
 use Rattle.per_write.specs.Records.{AreGiven, ClosesOrNot, kept_additions, Opens as OpensRecord}
 use Rattle.per_write.specs.State.{Additions, Scope, State}
 use Rattle.per_write.specs.Unplaced.{OutsideUnplaced}

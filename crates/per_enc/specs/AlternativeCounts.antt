@@ -1,6 +1,7 @@
 -- What opening a CHOICE does to an encoder.
 use Rattle.std.specs.Prelude.{ℕ, List, length, Option, Some, None}
-use Rattle.rasn_schema.specs.Choices.{VariantShape, tags_of}
+use Rattle.rasn_schema.specs.Choices.{VariantShape}
+use Rattle.rasn_schema.specs.Structures.{tags_of}
 use Rattle.rasn_schema.specs.Schemas.{Schema}
 use Rattle.per_core.specs.Versions.{alternatives_of}
 use Rattle.per_enc.specs.Choices.{OutsideChoice, OpensChoiceOf}

@@ -1,10 +1,10 @@
 -- An open SET OF, of which each member is written before its place is known (ITU-T X.691, 22).
 use Rattle.std.specs.Prelude.{ℕ, ◌≡◌, Bool, true, false, List, [], ◌∷◌, ◌++◌, map, length, Option, Some, None, Result}
 use Rattle.std.specs.Prelude.{OnOk, OnErr, IfOk, IfErr}
-use Rattle.rasn_types.specs.Codecs.{variant_of}
+use Rattle.rasn_types.specs.Variants.{variant_of}
 use Rattle.rasn_types.specs.Values.{Value}
 use Rattle.rasn_constraints.specs.Bounds.{Size}
-use Rattle.rasn_schema.specs.Lists.{list_value}
+use Rattle.rasn_schema.specs.Structures.{list_value}
 use Rattle.rasn_traits.specs.Bags.{OpensBag, WritesMember}
 use Rattle.rasn_traits.specs.Calls.{Written}
 use Rattle.rasn_traits.specs.Lists.{ListForm, schema_of}
@@ -12,7 +12,7 @@ use Rattle.per_core.specs.Canon.{canon}
 use Rattle.per_core.specs.Writers.{Writer}
 use Rattle.per_pieces.specs.Pieces.{Piece}
 use Rattle.per_enc.specs.Members.{writers_of}
-use Rattle.per_write.specs.declared.error.EncodeError.{EncodeError}
+use Rattle.per_core.specs.declared.encode_error.EncodeError.{EncodeError}
 use Rattle.per_write.specs.declared.lists.UnwrittenElements.{UnwrittenElements}
 use Rattle.per_write.specs.Faults.{IsMemory}
 use Rattle.per_write.specs.Unplaced.{OutsideUnplaced}

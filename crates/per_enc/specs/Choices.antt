@@ -3,16 +3,15 @@
 use Rattle.std.specs.Prelude.{ℕ, zero, suc, ◌≡◌, Bool, true, false, Option, Some, None, Result, IfOk, IfErr, OnErr}
 use Rattle.std.specs.Prelude.{OnOk, IsErrAnd}
 use Rattle.rasn_types.specs.Bits.{to_bits}
-use Rattle.rasn_types.specs.Codecs.{variant_of}
-use Rattle.rasn_types.specs.Variants.{Variant}
+use Rattle.rasn_types.specs.Variants.{variant_of, Variant}
 use Rattle.rasn_schema.specs.declared.items.Place.{Place}
 use Rattle.rasn_schema.specs.declared.items.Place.TheVariants.{Root, Added}
 use Rattle.per_core.specs.Canon.{extension_bit}
 use Rattle.per_core.specs.Counts.{open_bits, small}
 use Rattle.per_core.specs.Writers.{Writer, just, ◌▹◌}
 use Rattle.per_pieces.specs.Pieces.{Pieces, unplaced}
-use Rattle.per_write.specs.declared.error.EncodeError.{EncodeError}
-use Rattle.per_write.specs.declared.error.EncodeErrorKind.TheVariants.{OutOfTurn, VariantNotInChoice}
+use Rattle.per_core.specs.declared.encode_error.EncodeError.{EncodeError}
+use Rattle.per_core.specs.declared.encode_error.EncodeErrorKind.TheVariants.{OutOfTurn, VariantNotInChoice}
 use Rattle.per_write.specs.Choices.{FillsIndexOrNot, OpensIndex, index_padding, index_width}
 use Rattle.per_write.specs.Faults.{IsError, IsMemory}
 use Rattle.per_write.specs.State.{Puts, Scope, State, StateAppends, empty_scope, view}

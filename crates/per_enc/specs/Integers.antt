@@ -1,15 +1,16 @@
 -- INTEGER, with and without bounds (ITU-T X.691, 13).
 use Rattle.std.specs.Prelude.{◌≡◌, ◌≤ℤ◌, ◌⊎◌, ℤ, true, false, Some, Result}
-use Rattle.rasn_types.specs.Codecs.{variant_of}
+use Rattle.rasn_types.specs.Variants.{variant_of}
 use Rattle.rasn_constraints.specs.Bounds.{Bounds, holds}
 use Rattle.rasn_constraints.specs.Constraints.{bounds_of}
 use Rattle.rasn_constraints.specs.declared.constraints.Bounded.{Bounded}
 use Rattle.rasn_constraints.specs.declared.constraints.Extensible.{Extensible}
 use Rattle.rasn_schema.specs.Schemas.{Schema}
 use Rattle.per_core.specs.Counts.{number_under}
-use Rattle.per_write.specs.declared.error.EncodeError.{EncodeError}
-use Rattle.per_write.specs.declared.error.EncodeErrorKind.TheVariants.{IntegerTypeConversionFailed}
-use Rattle.per_write.specs.Faults.{IsError, IsMemory, IsPast}
+use Rattle.per_core.specs.declared.encode_error.EncodeError.{EncodeError}
+use Rattle.per_core.specs.declared.encode_error.EncodeErrorKind.TheVariants.{IntegerTypeConversionFailed}
+use Rattle.per_write.specs.Faults.{IsError, IsMemory}
+use Rattle.per_core.specs.WritingFaults.{IsPast}
 use Rattle.per_write.specs.State.{Puts, State}
 use Rattle.per_enc.specs.declared.integers.Between.{Between}
 

@@ -1,8 +1,7 @@
 -- What stands at a place that is known, an item or an alternative, and an open CHOICE of which the alternative is known
 -- (ITU-T X.691, 14 and 23).
 use Rattle.std.specs.Prelude.{◌≡◌, true, false, Option, Some, None, Result, IsOk}
-use Rattle.rasn_types.specs.Codecs.{variant_of}
-use Rattle.rasn_types.specs.Variants.{Variant}
+use Rattle.rasn_types.specs.Variants.{variant_of, Variant}
 use Rattle.rasn_schema.specs.Enumerations.{is_extensible}
 use Rattle.rasn_schema.specs.declared.items.ItemCounts.{ItemCounts}
 use Rattle.rasn_schema.specs.declared.items.Place.{Place}
@@ -11,7 +10,7 @@ use Rattle.per_core.specs.Canon.{extension_bit}
 use Rattle.per_core.specs.Counts.{constrained_whole, open_bits, small}
 use Rattle.per_core.specs.Writers.{Writer, ◌▹◌}
 use Rattle.per_pieces.specs.Pieces.{Pieces}
-use Rattle.per_write.specs.declared.error.EncodeError.{EncodeError}
+use Rattle.per_core.specs.declared.encode_error.EncodeError.{EncodeError}
 use Rattle.per_write.specs.Faults.{IsMemory}
 use Rattle.per_write.specs.State.{Puts, Scope, State, StateAppends, empty_scope, view}
 use Rattle.per_enc.specs.Choices.{OpensUnplaced, OutsideChoice, restored}

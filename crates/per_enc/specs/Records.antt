@@ -2,7 +2,7 @@
 use Rattle.std.specs.Prelude.{ℕ, suc, Bool, true, false, List, length, Option, Some, None}
 use Rattle.rasn_schema.specs.Extensions.{fields_behind}
 use Rattle.rasn_schema.specs.Fields.{Shape}
-use Rattle.rasn_schema.specs.Lawful.{presence_bits}
+use Rattle.rasn_schema.specs.Structures.{presence_bits}
 use Rattle.rasn_schema.specs.Normal.{root_of}
 use Rattle.rasn_schema.specs.Schemas.{Schema, Parts, no_parts, part}
 use Rattle.per_write.specs.Records.{Opens as OpensRecord}

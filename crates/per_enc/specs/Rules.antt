@@ -8,8 +8,8 @@ use Rattle.rasn_traits.specs.Calls.{EncoderRules}
 use Rattle.per_pieces.specs.Pieces.{no_pieces}
 use Rattle.per_write.specs.Additions.{Adds as AddsTo, Begins as BeginsTo, IsSurplus, Skips as SkipsIn}
 use Rattle.per_write.specs.Components.{begun_with, Encoding, noted}
-use Rattle.per_write.specs.declared.error.EncodeError.{EncodeError}
-use Rattle.per_write.specs.declared.error.EncodeErrorKind.TheVariants.{OutOfTurn, VariantNotInChoice}
+use Rattle.per_core.specs.declared.encode_error.EncodeError.{EncodeError}
+use Rattle.per_core.specs.declared.encode_error.EncodeErrorKind.TheVariants.{OutOfTurn, VariantNotInChoice}
 use Rattle.per_write.specs.Faults.{IsAlready, IsError, IsMemory, RefusesValue}
 use Rattle.per_write.specs.Presences.{IsUnmarked, Marks as MarksIn}
 use Rattle.per_write.specs.State.{fresh as fresh_state, Presents as PresentsIn, State}

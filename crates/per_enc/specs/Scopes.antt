@@ -2,15 +2,15 @@
 -- X.691, 19, 21.1, 23).
 use Rattle.std.specs.Prelude.{ℕ, ◌≡◌, ◌⊎◌, Bool, true, false, List, Option, Some, None}
 use Rattle.rasn_types.specs.Values.{Value}
-use Rattle.rasn_schema.specs.Lawful.{presence_bits}
+use Rattle.rasn_schema.specs.Structures.{presence_bits}
 use Rattle.rasn_schema.specs.Normal.{root_of}
 use Rattle.rasn_schema.specs.Schemas.{by_tag, count, Schema}
 use Rattle.rasn_traits.specs.Lists.{ListForm}
 use Rattle.per_pieces.specs.OpenSets.{opened}
 use Rattle.per_write.specs.Additions.{Opens as OpensOpenTypeIn, OutsideAddition}
 use Rattle.per_write.specs.Components.{Encoding, going_on}
-use Rattle.per_write.specs.declared.error.EncodeError.{EncodeError}
-use Rattle.per_write.specs.declared.error.EncodeErrorKind.TheVariants.{OutOfTurn}
+use Rattle.per_core.specs.declared.encode_error.EncodeError.{EncodeError}
+use Rattle.per_core.specs.declared.encode_error.EncodeErrorKind.TheVariants.{OutOfTurn}
 use Rattle.per_write.specs.declared.lists.UnwrittenElements.{UnwrittenElements}
 use Rattle.per_write.specs.Faults.{IsAlready, IsError}
 use Rattle.per_write.specs.Lists.{IsOpenList as IsOpenListIn}

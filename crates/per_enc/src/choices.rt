@@ -2,7 +2,7 @@
 //! known behind it alone: it is written before its place is known.
 
 ghost use Rattle.std.specs.Prelude.{◌≡◌, Some, None, false};
-ghost use Rattle.rasn_types.specs.Codecs.{variant_of};
+ghost use Rattle.rasn_types.specs.Variants.{variant_of};
 ghost use Rattle.rasn_schema.specs.declared.items.Place.TheVariants.{Root, Added};
 ghost use Rattle.per_pieces.specs.Pieces.{writer_of};
 ghost use Rattle.per_enc.specs.Choices.{ClosesChoiceOf, ClosesBehind, KnowsPlace, OpensChoiceOf, OpensUnplaced};

@@ -1,7 +1,7 @@
 //! INTEGER (X.691 13).
 
 ghost use Rattle.std.specs.Prelude.{◌≡◌, ◌<ℤ◌, ◌↔◌, IsTrue, pos, true, false, IfOk, MatchOption};
-ghost use Rattle.rasn_types.specs.Octets.{signed};
+ghost use Rattle.rasn_types.specs.Bits.{signed};
 ghost use Rattle.rasn_types.specs.Values.{whole};
 ghost use Rattle.rasn_constraints.specs.Bounds.{holds};
 ghost use Rattle.rasn_traits.specs.Calls.{Writes};

@@ -3,7 +3,11 @@ use Rattle.std.proofs.Common.{◌≡◌, refl, sym, ap, ◌∙◌, ap₂, subst,
 use Rattle.rasn_types.specs.Values.{Value, elements, bag, bag_of, fields, alternative, root, added, values, slots, same}
 use Rattle.rasn_constraints.specs.LawfulConstraints.{are_lawful_bounds, is_lawful_size}
 use Rattle.rasn_schema.specs.Depth.{CutOf, CutParts, cut_here, alike, cut_containing, cut_list, cut_set_of, cut_sequence, cut_choice, no_cut, cut_part, any_of, meets_cut, slots_meet_cut, meets_cut_at}
-use Rattle.rasn_schema.specs.Lawful.{IsLawfulDefault, leaves, are_distinct, are_lawful_tags, are_required, is_group_schema, is_value, are_values, is_value_at, no_groups, has_bit, presence_bits, tags_below, all_pass, is_countable, if_bag, slot_passes, IsLawful, AreLawful, IsLawfulPresence, IsLawfulRecord, IsLawfulChoice, IsLawfulType}
+use Rattle.rasn_schema.specs.Lawful.{IsLawfulDefault, leaves, are_distinct, are_lawful_tags, are_required}
+use Rattle.rasn_schema.specs.Lawful.{is_group_schema, is_value, are_values, is_value_at, no_groups, tags_below}
+use Rattle.rasn_schema.specs.Lawful.{all_pass, is_countable, if_bag, slot_passes, IsLawful, AreLawful, IsLawfulPresence}
+use Rattle.rasn_schema.specs.Lawful.{IsLawfulRecord, IsLawfulChoice, IsLawfulType}
+use Rattle.rasn_schema.specs.Structures.{has_bit, presence_bits}
 use Rattle.rasn_schema.specs.Levels.{Levelled}
 use Rattle.rasn_schema.specs.Normal.{normal}
 use Rattle.rasn_schema.specs.Schemas.{Presence, required, optional, group, default, Order, listed, by_tag, Schema, Parts, no_parts, part}

@@ -4,7 +4,9 @@ use Rattle.rasn_constraints.specs.Bounds.{Size}
 use Rattle.rasn_constraints.specs.LawfulConstraints.{is_lawful_size}
 use Rattle.rasn_schema.specs.Bags.{set_at, set_levelled}
 use Rattle.rasn_schema.specs.Components.{Component, alternatives_at, alternatives_levelled, components_levelled, parts_of}
-use Rattle.rasn_schema.specs.Lawful.{leaves, are_distinct, are_lawful_tags, are_required, has_bit, no_groups, presence_bits, tags_below, IsLawful, AreLawful, IsLawfulRecord, IsLawfulChoice, IsLawfulType}
+use Rattle.rasn_schema.specs.Lawful.{leaves, are_distinct, are_lawful_tags, are_required, no_groups, tags_below}
+use Rattle.rasn_schema.specs.Lawful.{IsLawful, AreLawful, IsLawfulRecord, IsLawfulChoice, IsLawfulType}
+use Rattle.rasn_schema.specs.Structures.{has_bit, presence_bits}
 use Rattle.rasn_schema.specs.Levels.{Levelled, containing_levelled, record_levelled}
 use Rattle.rasn_schema.specs.Lists.{list_at, list_levelled}
 use Rattle.rasn_schema.specs.Records.{record_at}

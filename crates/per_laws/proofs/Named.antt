@@ -2,8 +2,7 @@
 use Rattle.std.proofs.Common.{◌≡◌, ◌↔◌, refl, sym, ap, subst, ◌∙◌, ℕ, ◌+◌, ◌-◌, ◌^◌, ◌<◌, ◌≤◌, Bool, true, false, cond, ltb, ◌&&◌, ◌++◌, length, replicate, arith, Option, Some, None, append_assoc, ltb-true, lt-ltb, leb-true, le-leb, ap₂}
 use Rattle.std.proofs.Math.Nat.{lt_of_le_of_lt}
 use Rattle.std.proofs.lemmas.List.{replicate-append-replicate}
-use Rattle.rasn_types.specs.Bits.{Bits}
-use Rattle.rasn_types.specs.Trimmed.{filled_up, trimmed}
+use Rattle.rasn_types.specs.Bits.{Bits, filled_up, trimmed}
 use Rattle.rasn_types.specs.Values.{Value}
 use Rattle.rasn_types.proofs.Trimming.{trimmed-few, trimmed-filled, trimmed-split, trimmed-trimmed, trimmed-zeros, length-filled}
 use Rattle.rasn_constraints.specs.Bounds.{allows, at_least, at_most, Size}

@@ -1,8 +1,7 @@
 -- The normal form of a normal form is itself.
 use Rattle.std.proofs.Common.{◌≡◌, refl, sym, ap, ◌∙◌, ℕ, zero, suc, ◌^◌, Bool, true, false, cond, ltb, List, [], ◌∷◌, map, Option, Some, None}
 use Rattle.rasn_types.specs.Values.{Value, elements, bag, bag_of, fields, alternative, root, added, as_values, as_slots, values, slots}
-use Rattle.rasn_types.specs.Bits.{Bits}
-use Rattle.rasn_types.specs.Trimmed.{filled_up, trimmed}
+use Rattle.rasn_types.specs.Bits.{Bits, filled_up, trimmed}
 use Rattle.rasn_types.proofs.Trimming.{trimmed-trimmed, trimmed-filled}
 use Rattle.rasn_types.proofs.Values.{slots-as_slots, values-as_values}
 use Rattle.rasn_constraints.specs.Bounds.{Size}

@@ -2,8 +2,7 @@
 use Rattle.std.proofs.Common.{◌≡◌, refl, sym, ap, ◌∙◌, ap₂, ℕ, zero, suc, ◌^◌, Bool, true, false, cond, ltb, ◌&&◌, ◌+◌, ◌-◌, ◌<◌, List, [], ◌∷◌, map, length, Option, Some, None, ltb-true, lt-ltb, arith}
 use Rattle.std.proofs.Math.Nat.{lt_of_le_of_lt}
 use Rattle.rasn_types.specs.Values.{Value, code, before, put, sorted, same, elements, bag, bag_of, fields, alternative, root, added, as_values, values, slots}
-use Rattle.rasn_types.specs.Bits.{Bits}
-use Rattle.rasn_types.specs.Trimmed.{filled_up, trimmed}
+use Rattle.rasn_types.specs.Bits.{Bits, filled_up, trimmed}
 use Rattle.rasn_types.proofs.Trimming.{trimmed-few, length-filled}
 use Rattle.rasn_types.proofs.Values.{slots-as_slots, values-as_values}
 use Rattle.rasn_constraints.specs.Bounds.{Size}

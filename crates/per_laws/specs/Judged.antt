@@ -3,7 +3,8 @@ use Rattle.std.specs.Prelude.{ℕ, suc, Bool, ◌&&◌, nat_lt, ◌++◌}
 use Rattle.rasn_types.specs.Values.{Value, same}
 use Rattle.rasn_constraints.specs.LawfulConstraints.{are_lawful_bounds, is_lawful_size}
 use Rattle.rasn_schema.specs.Lawful.{leaves, are_distinct, are_required, is_group_schema, is_value, no_groups}
-use Rattle.rasn_schema.specs.Lawful.{presence_bits, tags_below}
+use Rattle.rasn_schema.specs.Lawful.{tags_below}
+use Rattle.rasn_schema.specs.Structures.{presence_bits}
 use Rattle.rasn_schema.specs.Normal.{normal}
 use Rattle.rasn_schema.specs.Schemas.{Presence, required, optional, group, default, Order, listed, by_tag, Schema}
 use Rattle.rasn_schema.specs.Schemas.{Parts, no_parts, part}

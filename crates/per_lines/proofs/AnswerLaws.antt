@@ -7,7 +7,7 @@ use Rattle.hex.specs.Hex.{encode_lower}
 use Rattle.rasn_below.specs.Types.{Schema, normal}
 use Rattle.per_core.specs.Rows.{variant_of, Variant, bytes}
 use Rattle.per_core.specs.Spellings.{Settings}
-use Rattle.rasn_per.specs.Complete.{reading, basically}
+use Rattle.rasn_per.specs.Calls.{reading, basically}
 use Rattle.per_lines.specs.declared.arguments.TypeName.{TypeName}
 use Rattle.per_lines.specs.declared.arguments.Form.{Form}
 use Rattle.per_lines.specs.declared.arguments.Form.TheVariants.{OneLine, Lines, Zero, As}

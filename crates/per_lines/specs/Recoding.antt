@@ -4,8 +4,7 @@ use Rattle.rasn_below.specs.Values.{utc, Value}
 use Rattle.rasn_below.specs.Types.{visible, from_to, unbounded, between, Size, any_size, Schema, always}
 use Rattle.rasn_below.specs.Types.{list_at, lower_bound, upper_bound, sequence_at, alternatives_at}
 use Rattle.rasn_below.specs.Types.{set_of_at, date_at, set_at}
-use Rattle.rasn_schema.specs.AtDepths.{AtDepths}
-use Rattle.rasn_schema.specs.Normal.{normal}
+use Rattle.rasn_schema.specs.Normal.{AtDepths, normal}
 use Rattle.per_core.specs.Rows.{Codec, variant_of, Variant}
 use Rattle.per_samples_a.specs.Absents.{one_default}
 use Rattle.per_samples_a.specs.Fours.{four}
@@ -30,15 +29,15 @@ use Rattle.per_samples_b.specs.Second.{alt2}
 use Rattle.per_samples_b.specs.Many.{many}
 use Rattle.per_samples_b.specs.Picks.{spare, pick, picked}
 use Rattle.per_core.specs.Spellings.{Settings}
-use Rattle.rasn_per.specs.Complete.{AreBytes, HasNoBytes, AreReadBy, AreUnreadBy, reading, basically}
+use Rattle.rasn_per.specs.Calls.{AreBytes, HasNoBytes, AreReadBy, AreUnreadBy, reading, basically}
 use Rattle.per_samples_sets.specs.Connects.{connect}
 use Rattle.per_samples_sets.specs.Sets.{set, set_choice, set_optional}
 use Rattle.per_samples_sets.specs.Dnests.{dnest}
 use Rattle.rasn_per.specs.Kinds.{IsInOctetsBy}
-use Rattle.per_write.specs.Faults.{IsInValue}
-use Rattle.per_write.specs.declared.error.EncodeErrorKind.{EncodeErrorKind}
-use Rattle.per_write.specs.declared.error.EncodeErrorKind.TheVariants as Encoding
-use Rattle.per_read.specs.declared.error.DecodeErrorKind.TheVariants as Decoding
+use Rattle.per_core.specs.WritingFaults.{IsInValue}
+use Rattle.per_core.specs.declared.encode_error.EncodeErrorKind.{EncodeErrorKind}
+use Rattle.per_core.specs.declared.encode_error.EncodeErrorKind.TheVariants as Encoding
+use Rattle.per_core.specs.declared.decode_error.DecodeErrorKind.TheVariants as Decoding
 use Rattle.per_lines.specs.declared.arguments.TypeName.{TypeName}
 use Rattle.per_lines.specs.declared.arguments.TypeName.TheVariants.{Boolean, Null, Integer, UpTo65535, FromMinusOne}
 use Rattle.per_lines.specs.declared.arguments.TypeName.TheVariants.{Natural, ZeroTo65536, OneToTenExtensible, Four}

@@ -5,7 +5,7 @@ use Rattle.rasn_below.specs.Types.{Schema}
 use Rattle.rasn_below.specs.Values.{Value}
 use Rattle.rasn_jer.specs.Calls.{AreText, IsRefusedBy}
 use Rattle.rasn_jer.specs.declared.error.EncodeError.{EncodeError}
-use Rattle.rasn_per.specs.Complete.{AreReadBy}
+use Rattle.rasn_per.specs.Calls.{AreReadBy}
 
 -- octets are read as one value, of which a text is the JSON
 pub record AreShown (a : Settings) (schema : ℕ → Schema) (octets text : List ℕ) : Type 0 where

@@ -5,10 +5,9 @@ use Rattle.per_lines.specs.Types.{schema_of}
 use Rattle.per_lines.specs.Showing.{AreShown, HasNoText}
 use Rattle.line_replies.specs.declared.fault.Fault.TheVariants.{BadHexadecimal}
 use Rattle.per_located.specs.Placed.{IsPlaced}
-use Rattle.per_read.specs.declared.error.DecodeErrorKind.TheVariants as Decoding
+use Rattle.per_core.specs.declared.decode_error.DecodeErrorKind.TheVariants as Decoding
 use Rattle.per_core.specs.Rows.{Codec, variant_of}
-use Rattle.rasn_per.specs.Complete.{AreUnread, basically}
-use Rattle.rasn_per.specs.Kinds.{IsInOctets}
+use Rattle.rasn_per.specs.Calls.{AreUnread, basically, IsInOctets}
 use Rattle.rasn_schema.specs.Schemas.{Schema}
 use Rattle.line_replies.specs.Layouts.{IsLaidOut}
 use Rattle.per_lines.specs.Told.{IsToldAs}

@@ -4,7 +4,7 @@ use Rattle.line_replies.specs.Faults.{AppendsFront}
 use Rattle.line_replies.specs.Faults.{status_of as lines_status, text_of as lines_text}
 use Rattle.line_replies.specs.declared.fault.Fault.{Fault as TheFault}
 use Rattle.line_replies.specs.declared.fault.Fault.TheVariants as Faults
-use Rattle.per_read.specs.Names.{name_of as decode_name}
+use Rattle.per_core.specs.ReadingNames.{name_of as decode_name}
 use Rattle.rasn_jer.specs.Names.{name_of as encode_name}
 use Rattle.per_lines.specs.declared.show_fault.Fault.{Fault}
 use Rattle.per_lines.specs.declared.show_fault.Fault.TheVariants.{WrongArguments, UnknownType, Decode, Encode, OfLines}

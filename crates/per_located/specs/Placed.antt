@@ -1,7 +1,7 @@
 -- What a refusal says beside why octets or a value are refused.
 use Rattle.std.specs.Prelude.{◌≡◌, ◌≤◌, ◌*◌, ℕ, List, length, Result, Ok, Err}
-use Rattle.per_read.specs.declared.error.DecodeError.{DecodeError}
-use Rattle.per_write.specs.declared.error.EncodeError.{EncodeError}
+use Rattle.per_core.specs.declared.decode_error.DecodeError.{DecodeError}
+use Rattle.per_core.specs.declared.encode_error.EncodeError.{EncodeError}
 use Rattle.per_located.specs.declared.refusal.EncodeRefusal.{EncodeRefusal}
 use Rattle.per_located.specs.declared.refusal.Refusal.{Refusal}
 

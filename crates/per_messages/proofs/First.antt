@@ -8,7 +8,7 @@ use Rattle.rasn_dynamic.specs.Values.{value_of}
 use Rattle.rasn_dynamic.specs.declared.types.Types.{Types}
 use Rattle.rasn_dynamic.specs.declared.values.Value.{Value}
 use Rattle.per_core.specs.Rows.{Codec, variant_of}
-use Rattle.rasn_per.specs.Complete.{AreReadBy, basically, BeginWith}
+use Rattle.rasn_per.specs.Calls.{AreReadBy, basically, BeginWith}
 use Rattle.per_messages.specs.Messages.{IsFirst, type_at}
 
 -- a rest is no longer than the whole

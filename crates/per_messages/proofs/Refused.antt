@@ -1,8 +1,7 @@
 -- Why octets are not recoded, not shown, and begin with no encoding.
 use Rattle.std.proofs.Common.{◌≡◌, ◌≢◌, ◌⊎◌, ◌∙◌, ap, inl, inr, sym, subst, ℕ, List}
 use Rattle.json.specs.Json.{max_depth}
-use Rattle.rasn_schema.specs.AtDepths.{AtDepths}
-use Rattle.rasn_schema.specs.Normal.{normal}
+use Rattle.rasn_schema.specs.Normal.{AtDepths, normal}
 use Rattle.rasn_dynamic.specs.Values.{levels_of, value_of}
 use Rattle.rasn_dynamic.specs.declared.types.Types.{Types}
 use Rattle.rasn_dynamic.specs.declared.values.Value.{Value}
@@ -10,13 +9,13 @@ use Rattle.rasn_dynamic_jer.specs.Puts.{IsRefused}
 use Rattle.rasn_dynamic_jer.specs.Shown.{json_at}
 use Rattle.rasn_dynamic_jer.specs.declared.error.ToJsonError.{ToJsonError}
 use Rattle.per_core.specs.Rows.{Codec, variant_of}
-use Rattle.rasn_per.specs.Complete.{AreUnreadBy, basically, BeginWithNone, HasNoBytes}
+use Rattle.rasn_per.specs.Calls.{AreUnreadBy, basically, BeginWithNone, HasNoBytes}
 use Rattle.rasn_per.specs.Kinds.{IsInFront, IsInOctetsBy}
-use Rattle.per_read.specs.declared.error.DecodeErrorKind.{DecodeErrorKind}
-use Rattle.per_read.specs.declared.error.DecodeErrorKind.TheVariants as Decoding
-use Rattle.per_write.specs.Faults.{IsInValue}
-use Rattle.per_write.specs.declared.error.EncodeErrorKind.{EncodeErrorKind}
-use Rattle.per_write.specs.declared.error.EncodeErrorKind.TheVariants as Encoding
+use Rattle.per_core.specs.declared.decode_error.DecodeErrorKind.{DecodeErrorKind}
+use Rattle.per_core.specs.declared.decode_error.DecodeErrorKind.TheVariants as Decoding
+use Rattle.per_core.specs.WritingFaults.{IsInValue}
+use Rattle.per_core.specs.declared.encode_error.EncodeErrorKind.{EncodeErrorKind}
+use Rattle.per_core.specs.declared.encode_error.EncodeErrorKind.TheVariants as Encoding
 use Rattle.per_messages.specs.Errors.{to_json_error_of}
 use Rattle.per_messages.specs.Messages.{AreRead, AreRefused, AreUnshown, AreWithoutFirst, type_at}
 use Rattle.per_messages.specs.declared.error.MessageError.{MessageError}

@@ -1,16 +1,15 @@
 -- Why texts make no octets.
 use Rattle.std.proofs.Common.{◌≡◌, ◌≢◌, ◌⊎◌, inl, inr, sym, subst, ℕ, List, true, false}
-use Rattle.rasn_schema.specs.AtDepths.{AtDepths}
-use Rattle.rasn_schema.specs.Normal.{normal}
+use Rattle.rasn_schema.specs.Normal.{AtDepths, normal}
 use Rattle.rasn_dynamic.specs.Values.{levels_of, value_of}
 use Rattle.rasn_dynamic.specs.declared.types.Types.{Types}
 use Rattle.rasn_dynamic.specs.declared.values.Value.{Value}
 use Rattle.rasn_dynamic_jer.specs.Told.{IsTextOf}
 use Rattle.per_core.specs.Rows.{Codec, variant_of}
-use Rattle.rasn_per.specs.Complete.{HasNoBytes}
-use Rattle.per_write.specs.Faults.{IsInValue}
-use Rattle.per_write.specs.declared.error.EncodeErrorKind.{EncodeErrorKind}
-use Rattle.per_write.specs.declared.error.EncodeErrorKind.TheVariants as Encoding
+use Rattle.rasn_per.specs.Calls.{HasNoBytes}
+use Rattle.per_core.specs.WritingFaults.{IsInValue}
+use Rattle.per_core.specs.declared.encode_error.EncodeErrorKind.{EncodeErrorKind}
+use Rattle.per_core.specs.declared.encode_error.EncodeErrorKind.TheVariants as Encoding
 use Rattle.per_dynamic.specs.OpenTypes.{IsUntaken}
 use Rattle.per_dynamic.specs.declared.open_types.OpenTypeError.{OpenTypeError}
 use Rattle.per_dynamic.specs.declared.open_types.OpenTypeError.TheVariants as Open

@@ -2,8 +2,8 @@
 use Rattle.std.specs.Prelude.{ℕ, List, codes}
 use Rattle.per_dynamic.specs.declared.open_types.OpenTypeError.{OpenTypeError}
 use Rattle.per_dynamic.specs.declared.open_types.OpenTypeError.TheVariants as Taken
-use Rattle.per_read.specs.Names.{name_of as decode_name}
-use Rattle.per_write.specs.Names.{name_of as encode_name}
+use Rattle.per_core.specs.ReadingNames.{name_of as decode_name}
+use Rattle.per_core.specs.WritingNames.{name_of as encode_name}
 use Rattle.rasn_dynamic_jer.specs.declared.error.ToJsonError.{ToJsonError}
 use Rattle.rasn_dynamic_jer.specs.declared.error.ToJsonError.TheVariants as Shown
 use Rattle.rasn_dynamic_jer.specs.declared.from_json_error.FromJsonError.{FromJsonError}

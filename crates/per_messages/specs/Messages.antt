@@ -1,8 +1,7 @@
 -- What messages are answered with, by a table of types.
 use Rattle.std.specs.Prelude.{ℕ, ◌≡◌, ◌≢◌, ◌≤◌, ◌⊎◌, true, false, List, [], None, drop, length, take}
 use Rattle.json.specs.Json.{max_depth}
-use Rattle.rasn_schema.specs.AtDepths.{AtDepths}
-use Rattle.rasn_schema.specs.Normal.{normal}
+use Rattle.rasn_schema.specs.Normal.{AtDepths, normal}
 use Rattle.rasn_schema.specs.Schemas.{Schema}
 use Rattle.rasn_dynamic.specs.Types.{schema_at}
 use Rattle.rasn_dynamic.specs.Values.{levels_of, value_of}
@@ -15,13 +14,13 @@ use Rattle.per_core.specs.Rows.{Codec, variant_of}
 use Rattle.per_dynamic.specs.OpenTypes.{IsUntaken, Takes}
 use Rattle.per_dynamic.specs.declared.open_types.OpenTypeError.{OpenTypeError}
 use Rattle.per_dynamic.specs.declared.open_types.OpenTypeError.TheVariants as Open
-use Rattle.rasn_per.specs.Complete.{AreBytes, AreReadBy, AreUnreadBy, basically, BeginWith, BeginWithNone, HasNoBytes}
+use Rattle.rasn_per.specs.Calls.{AreBytes, AreReadBy, AreUnreadBy, basically, BeginWith, BeginWithNone, HasNoBytes}
 use Rattle.rasn_per.specs.Kinds.{IsInFront, IsInOctetsBy}
-use Rattle.per_read.specs.declared.error.DecodeErrorKind.{DecodeErrorKind}
-use Rattle.per_read.specs.declared.error.DecodeErrorKind.TheVariants as Decoding
-use Rattle.per_write.specs.Faults.{IsInValue}
-use Rattle.per_write.specs.declared.error.EncodeErrorKind.{EncodeErrorKind}
-use Rattle.per_write.specs.declared.error.EncodeErrorKind.TheVariants as Encoding
+use Rattle.per_core.specs.declared.decode_error.DecodeErrorKind.{DecodeErrorKind}
+use Rattle.per_core.specs.declared.decode_error.DecodeErrorKind.TheVariants as Decoding
+use Rattle.per_core.specs.WritingFaults.{IsInValue}
+use Rattle.per_core.specs.declared.encode_error.EncodeErrorKind.{EncodeErrorKind}
+use Rattle.per_core.specs.declared.encode_error.EncodeErrorKind.TheVariants as Encoding
 use Rattle.per_messages.specs.Remarks.{remarks_at, Told}
 use Rattle.per_messages.specs.declared.error.MessageError.{MessageError}
 use Rattle.per_messages.specs.declared.error.MessageError.TheVariants.{Decode, Encode, NoJson, OtherType, FromJson}

@@ -1,8 +1,7 @@
 -- Whole numbers under bounds, as they are written.
 use Rattle.std.proofs.Common.{◌≡◌, refl, sym, ap, ◌∙◌, subst, ℕ, zero, suc, ◌+◌, ◌-◌, ◌*◌, ◌/◌, ◌^◌, ◌<◌, ◌≤◌, Bool, true, false, cond, max, min, ◌%◌, eqb, leb, lt-ltb, le-leb, List, [], ◌∷◌, length, get_or, arith, Some}
 use Rattle.std.proofs.lemmas.Bool.{lt-leb, ne_eqb}
-use Rattle.rasn_types.specs.Bits.{Bits, to_bits, width, unpack, pack, AreOctets}
-use Rattle.rasn_types.specs.Octets.{natural_bits, octets_of_natural}
+use Rattle.rasn_types.specs.Bits.{Bits, to_bits, width, unpack, pack, AreOctets, natural_bits, octets_of_natural}
 use Rattle.rasn_types.specs.Variants.{Variant, aligned, unaligned}
 use Rattle.rasn_types.proofs.Bits.{width_holds, length-to_bits}
 use Rattle.rasn_types.proofs.Octets.{unpack-pack, length-pack, octets-pack}

@@ -1,7 +1,7 @@
 -- Whole numbers by how far they are above a lower bound, as they are written.
 use Rattle.std.proofs.Common.{◌≡◌, sym, ap, ◌∙◌, ℕ, ◌+◌, Bool, Some, None, ℤ, FitsSigned}
 use Rattle.std.specs.Int.{w128}
-use Rattle.rasn_types.specs.Octets.{natural_bits}
+use Rattle.rasn_types.specs.Bits.{natural_bits}
 use Rattle.rasn_types.specs.Variants.{Variant}
 use Rattle.rasn_types.proofs.Reading.{fits-is_i128}
 use Rattle.rasn_constraints.specs.Bounds.{above}

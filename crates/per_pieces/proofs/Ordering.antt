@@ -1,7 +1,8 @@
 -- What components wrote, in the order of their fields.
 use Rattle.std.proofs.Common.{◌≡◌, refl, sym, ap, ap₂, ◌∙◌, subst, ℕ, zero, suc, ◌+◌, ◌<◌, ◌≤◌, List, [], ◌∷◌, map, length, drop, get_or, arith}
 use Rattle.std.proofs.lemmas.List.{drop_all, drop_more, get_or-map, get_or_default, get_or_past, length-map}
-use Rattle.rasn_schema.specs.Fields.{Shape, field_tag, in_tag_order, shape_of, shapes_from}
+use Rattle.rasn_schema.specs.Fields.{Shape, in_tag_order, shape_of, shapes_from}
+use Rattle.rasn_schema.specs.Structures.{field_tag}
 use Rattle.rasn_schema.specs.Orders.{insert_at, how_many_less, by_tags}
 use Rattle.rasn_schema.specs.Schemas.{Parts, no_parts, part, Tag, TagTree, leaf, one_of, count, smallest, tags}
 use Rattle.rasn_schema.specs.declared.fields.Field.{Field}

@@ -3,8 +3,7 @@ use Rattle.std.proofs.Common.{◌≡◌, refl, sym, ap, ◌∙◌, ℕ, suc, ◌
 use Rattle.std.proofs.lemmas.Nat.{mod_low}
 use Rattle.std.specs.Int.{w128, cast_unsigned}
 use lib.Signed.{mag, lt_z}
-use Rattle.rasn_types.specs.Bits.{Bits, to_bits, width}
-use Rattle.rasn_types.specs.Octets.{octets_of_whole, twos_complement, whole_bits}
+use Rattle.rasn_types.specs.Bits.{Bits, to_bits, width, octets_of_whole, twos_complement, whole_bits}
 use Rattle.rasn_types.specs.Variants.{Variant}
 use Rattle.rasn_types.proofs.Bits.{to_bits-same}
 use Rattle.rasn_types.proofs.Integers.{octets_of_i128}

@@ -1,7 +1,7 @@
 //! Counts in front of items: unconstrained lengths, and counts within bounds (X.691 11.9.3 and 11.9.4).
 
 ghost use Rattle.std.specs.Prelude.{◌≤◌, OnOk};
-ghost use Rattle.rasn_types.specs.Codecs.{variant_of};
+ghost use Rattle.rasn_types.specs.Variants.{variant_of};
 ghost use Rattle.per_core.specs.Writers.{just, padding};
 ghost use Rattle.per_core.specs.Counts.{determinant};
 ghost use Rattle.per_pieces.specs.Fragments.{constrained_length, unconstrained_length};

@@ -1,10 +1,8 @@
 //! Whole numbers under bounds (X.691 11.5, 11.7 and 13.2).
 
 ghost use Rattle.std.specs.Prelude.{◌≡◌, ◌+◌, ◌*◌, ◌%◌, ◌^◌, ◌<◌, ◌≤◌, ◌≤ℤ◌, ℤ, true, Some, OnOk};
-ghost use Rattle.rasn_types.specs.Bits.{to_bits};
-ghost use Rattle.rasn_types.specs.Codecs.{variant_of};
-ghost use Rattle.rasn_types.specs.Octets.{natural_bits, octets_of_natural, octets_of_whole, whole_bits};
-ghost use Rattle.rasn_types.specs.Variants.{aligned};
+ghost use Rattle.rasn_types.specs.Bits.{to_bits, natural_bits, octets_of_natural, octets_of_whole, whole_bits};
+ghost use Rattle.rasn_types.specs.Variants.{variant_of, aligned};
 ghost use Rattle.per_core.specs.Writers.{just, padding, ◌▹◌};
 ghost use Rattle.per_core.specs.Counts.{constrained_whole, counted_octets, number_under};
 ghost use Rattle.rasn_constraints.specs.Bounds.{above, not_above};

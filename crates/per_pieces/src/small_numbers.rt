@@ -1,7 +1,7 @@
 //! Normally small non-negative whole numbers (X.691 11.6).
 
 ghost use Rattle.std.specs.Prelude.{OnOk};
-ghost use Rattle.rasn_types.specs.Codecs.{variant_of};
+ghost use Rattle.rasn_types.specs.Variants.{variant_of};
 ghost use Rattle.per_core.specs.Counts.{small};
 ghost use Rattle.per_pieces.specs.Pieces.{Appends};
 

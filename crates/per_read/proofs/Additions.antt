@@ -4,11 +4,11 @@ use Rattle.std.proofs.Common.{◌≡◌, refl, sym, subst, List, [], ◌∷◌, 
 use Rattle.rasn_types.specs.Bits.{Bits}
 use Rattle.rasn_types.specs.Values.{Value}
 use Rattle.per_core.specs.Basic.{Additions, Rule, Unknown}
-use Rattle.per_core.specs.Spellings.{Settings, Spelling, When, exactly}
-use Rattle.per_core.specs.Took.{Took}
+use Rattle.per_core.specs.Spellings.{Settings, Spelling, When, exactly, Took}
 use Rattle.per_core.proofs.Took.{nothing_took, then_took, took_map, took_nothing, took_then}
 use Rattle.per_read.proofs.Fields.{when_took}
-use Rattle.per_read.specs.Additions.{Addition, FirstAddition, NextFlag}
+use Rattle.per_core.specs.AdditionFaults.{Addition, NextFlag}
+use Rattle.per_read.specs.Additions.{FirstAddition}
 
 -- what is left out takes nothing
 left_out : {A : Type 0} {g : Spelling} {b m t : Bits} → Took (When A (exactly [])) b m → Took g m t → Took (When A g) b t

@@ -7,17 +7,16 @@ use Rattle.std.proofs.lemmas.List.{take-append-drop}
 use Rattle.std.proofs.lemmas.Result.{IfOk-weaker, IfErr-weaker}
 use Rattle.rasn_types.specs.Bits.{Bits}
 use Rattle.rasn_types.specs.Bits as binary
-use Rattle.rasn_constraints.specs.Counts.{count_of, number_of}
+use Rattle.rasn_constraints.specs.Bounds.{count_of, number_of}
 use Rattle.per_core.specs.Basic.{bit}
-use Rattle.per_core.specs.Spellings.{Settings, Spelling, Field}
-use Rattle.per_core.specs.Took.{Took}
+use Rattle.per_core.specs.Spellings.{Settings, Spelling, Field, Took, NoneIn}
 use Rattle.per_core.proofs.Took.{took_bit}
 use Rattle.per_read.specs.Items.{TookItems, TakesItems}
-use Rattle.per_read.specs.Fields.{IsOfField}
-use Rattle.per_read.specs.Kinds.{IsTested, NoneIn}
+use Rattle.per_core.specs.FieldFaults.{IsOfField}
+use Rattle.per_read.specs.Kinds.{IsTested}
 use Rattle.per_read.specs.State.{State, settings_of}
 use Rattle.per_read.specs.Takes.{Reason, Takes}
-use Rattle.per_read.specs.declared.error.DecodeErrorKind.{DecodeErrorKind}
+use Rattle.per_core.specs.declared.decode_error.DecodeErrorKind.{DecodeErrorKind}
 use Rattle.per_read.proofs.Fields.{field_wide, field_one}
 
 module _ {T X : Type 0} {why : Reason} {form : Settings → X → Spelling} {of : (X → Type 0) → T → Type 0} {x y : State} where

@@ -11,19 +11,17 @@ use Rattle.rasn_types.specs.Variants.{Variant}
 use Rattle.rasn_constraints.specs.Bounds.{Size}
 use Rattle.per_core.specs.Basic.{Char, OneByOne, String}
 use Rattle.per_core.specs.Counts.{char_items}
-use Rattle.per_core.specs.Spellings.{Settings, Field}
-use Rattle.per_core.specs.Took.{Took}
+use Rattle.per_core.specs.Spellings.{Settings, Field, Took, NoneIn}
 use Rattle.per_core.proofs.Agree.{Agree, field_agree}
 use Rattle.per_core.proofs.LengthForms.{Zip, lengthy_agree}
 use Rattle.per_core.proofs.Took.{took_agree, took_map, took_nothing, took_then}
-use Rattle.per_read.specs.Items.{counted_items}
-use Rattle.per_read.specs.Kinds.{NoneIn}
-use Rattle.per_read.specs.Sizes.{IsOfItems}
-use Rattle.per_read.specs.Strings.{AreKnown, AreRead, HasUnknown, IsUnpermitted, IsOfString}
+use Rattle.per_core.specs.Lengths.{counted_items}
+use Rattle.per_core.specs.SizeFaults.{IsOfItems, HasUnknown, IsUnpermitted, IsOfString}
+use Rattle.per_read.specs.Strings.{AreKnown, AreRead}
 use Rattle.per_core.specs.declared.items.Item.{Item}
 use Rattle.per_core.specs.declared.items.Item.TheVariants.{Character}
-use Rattle.per_read.specs.declared.error.DecodeErrorKind.{DecodeErrorKind}
-use Rattle.per_read.specs.declared.error.DecodeErrorKind.TheVariants.{PermittedAlphabet}
+use Rattle.per_core.specs.declared.decode_error.DecodeErrorKind.{DecodeErrorKind}
+use Rattle.per_core.specs.declared.decode_error.DecodeErrorKind.TheVariants.{PermittedAlphabet}
 use Rattle.per_read.proofs.OfFields.{counted_items_tested}
 use Rattle.per_read.proofs.Coded.{lengthy_as, zip_to, zip_equal}
 

@@ -4,13 +4,12 @@ use Rattle.rasn_types.specs.Bits.{Bits, number_of}
 use Rattle.rasn_constraints.specs.Bounds.{Size, any_size, allows}
 use Rattle.per_core.specs.Basic.{OneByOne, LastCount, Fragment, InFragments, UnconstrainedLength, PaddingIf, IsConstrainedWhole, length_form, Sized, Counted, bit}
 use Rattle.per_core.specs.Counts.{ItemKind, bit_items, is_aligned}
-use Rattle.per_core.specs.Spellings.{Settings, Spelling, Then, Field}
-use Rattle.per_core.specs.Took.{Took}
+use Rattle.per_core.specs.Spellings.{Settings, Spelling, Then, Field, Took, NoneIn}
 use Rattle.per_core.specs.Writers.{after}
 use Rattle.per_core.proofs.LengthForms.{Zip}
 use Rattle.per_core.proofs.Took.{took_map}
-use Rattle.per_read.specs.Items.{bit_code, counted_items}
-use Rattle.per_read.specs.Kinds.{NoneIn}
+use Rattle.per_read.specs.Items.{bit_code}
+use Rattle.per_core.specs.Lengths.{counted_items}
 use Rattle.per_core.specs.declared.items.Item.TheVariants.{Bit}
 
 module _ {X Y : Type 0} (R : X → Y → Type 0) (f : X → Spelling) (g : Y → Spelling) (each : (x : X) (y : Y) (p : ℕ) (b : Bits) → R x y → f x p b → g y p b) where

@@ -1,19 +1,18 @@
 -- Lengths, seen from the first of their bits (X.691 11.9.3.6 to 11.9.3.8).
 use Rattle.std.proofs.Common.{◌≡◌, ◌<◌, ◌≤◌, ◌⊎◌, inl, inr, ℕ, ◌+◌, ◌*◌, Bool, true, false, [], ◌∷◌, ◌++◌, length, refl, sym, ◌∙◌, ap, subst, arith}
 use Rattle.rasn_types.specs.Bits.{Bits}
-use Rattle.per_core.specs.Spellings.{Settings, exactly, Then, When, Field, AnyPadding}
+use Rattle.per_core.specs.Spellings.{Settings, exactly, Then, When, Field, AnyPadding, Took}
 use Rattle.per_core.specs.Basic.{LastCount}
 use Rattle.per_core.specs.Basic
-use Rattle.per_core.specs.Took.{Took}
 use Rattle.per_core.proofs.Took.{took_then, then_took, took_agree}
 use Rattle.per_core.proofs.Agree.{field_agree, padding_agree}
-use Rattle.per_read.specs.declared.error.DecodeErrorKind.{DecodeErrorKind}
-use Rattle.per_read.specs.declared.error.DecodeErrorKind.TheVariants.{ParserFail}
-use Rattle.per_read.specs.declared.error.ParserFailCause.TheVariants.{FragmentCode}
-use Rattle.per_read.specs.declared.lengths.Length.{Length}
-use Rattle.per_read.specs.declared.lengths.Length.TheVariants.{Last, Fragment}
-use Rattle.per_read.specs.Fields.{IsOfCount, IsOfField, count_field}
-use Rattle.per_read.specs.Lengths.{CountOf, LengthOf}
+use Rattle.per_core.specs.declared.decode_error.DecodeErrorKind.{DecodeErrorKind}
+use Rattle.per_core.specs.declared.decode_error.DecodeErrorKind.TheVariants.{ParserFail}
+use Rattle.per_core.specs.declared.decode_error.ParserFailCause.TheVariants.{FragmentCode}
+use Rattle.per_core.specs.declared.lengths.Length.{Length}
+use Rattle.per_core.specs.declared.lengths.Length.TheVariants.{Last, Fragment}
+use Rattle.per_core.specs.FieldFaults.{IsOfCount, IsOfField, count_field}
+use Rattle.per_core.specs.Lengths.{CountOf, LengthOf}
 use Rattle.per_read.proofs.Fields.{either_took, when_took, exactly_took, took_exactly, field_wide, field_below, took_more, more_took}
 
 -- what the first bits say of a length

@@ -2,28 +2,29 @@
 use Rattle.std.proofs.Common.{◌≡◌, ◌∙◌, ◌<◌, ◌&&◌, inl, inr, refl, sym, ap, subst, ℕ, ◌+◌, ◌-◌, ◌*◌, ◌%◌, ltb, leb, eqb, Bool, true, false, cond, [], ◌∷◌, ◌++◌, length, Option, Some, None, ℤ, arith, append_assoc, length-append}
 use Rattle.rasn_types.specs.Bits.{Bits, width}
 use Rattle.rasn_types.specs.Variants.{Variant, aligned, unaligned}
-use Rattle.rasn_constraints.specs.Bounds.{Bounds, Size, above, any_size, unbounded}
-use Rattle.rasn_constraints.specs.Counts.{count_of, number_of}
+use Rattle.rasn_constraints.specs.Bounds.{Bounds, Size, above, any_size, unbounded, count_of, number_of}
 use Rattle.rasn_constraints.specs.declared.count.Count.{Count}
 use Rattle.per_core.specs.Basic.{InOctets, IsBitmap, IsNumber, IsNumberOf, Marked, Octets, Sized, UnconstrainedLength, constrained_by, constrained_form, number_spelling}
-use Rattle.per_core.specs.Counts.{ItemKind, bit_items, is_aligned, octet_items}
-use Rattle.per_core.specs.Items.{bits_of, counted_of}
-use Rattle.per_core.specs.Spellings.{AnyPadding, Field, Settings, Spelling, Then}
-use Rattle.per_core.specs.Took.{Took, place}
+use Rattle.per_core.specs.Counts.{ItemKind, bit_items, is_aligned, octet_items, bits_of, counted_of}
+use Rattle.per_core.specs.Spellings.{AnyPadding, Field, Settings, Spelling, Then, Took, place, NoneIn}
 use Rattle.per_core.proofs.Agree.{cancel, fronts}
 use Rattle.per_core.proofs.Took.{took_map}
 use Rattle.per_core.specs.declared.items.Item.{Item}
-use Rattle.per_read.specs.Bitmaps.{IsOfBitmap, IsOfLargeBitmap, IsOfSmallBitmap, large_bitmap, small_bitmap}
-use Rattle.per_read.specs.Fields.{IsOfCount, IsOfField, IsOfFragments, IsOfLength, IsOfMarked, IsOfPadded, IsOfUnconstrained, Says, count_field, in_items, in_length, past_fragment, too_many}
-use Rattle.per_read.specs.Items.{coded, counted_items, sized_items, unconstrained_items}
-use Rattle.per_read.specs.Kinds.{NoneIn}
-use Rattle.per_read.specs.Lengths as lengths
-use Rattle.per_read.specs.Lengths.{CountOf, LengthOf}
-use Rattle.per_read.specs.Numbers.{IsOfConstrained, IsOfConstrainedBy, IsOfCounted, IsOfForm, IsOfNumber, IsOfOctets}
-use Rattle.per_read.specs.Sizes.{Between, IsOfBetween, IsOfItems, IsOfPaddingIf, IsOfUnder, items_between, under_size}
-use Rattle.per_read.specs.declared.error.DecodeErrorKind.TheVariants.{ExceedsMaxLength, Incomplete, ParserFail}
-use Rattle.per_read.specs.declared.error.ParserFailCause.TheVariants.{EmptyBitmap, FragmentCode, NonzeroPadding}
-use Rattle.per_read.specs.declared.lengths.Length.TheVariants.{Fragment}
+use Rattle.per_core.specs.AdditionFaults.{IsOfBitmap, IsOfLargeBitmap, IsOfSmallBitmap}
+use Rattle.per_read.specs.Bitmaps.{large_bitmap, small_bitmap}
+use Rattle.per_core.specs.FieldFaults.{IsOfCount, IsOfField, IsOfFragments, IsOfLength, IsOfMarked, IsOfPadded}
+use Rattle.per_core.specs.FieldFaults.{IsOfUnconstrained, Says, count_field, in_items, in_length, past_fragment}
+use Rattle.per_core.specs.FieldFaults.{too_many}
+use Rattle.per_core.specs.Lengths.{coded, counted_items, CountOf, LengthOf, Between, under_size}
+use Rattle.per_read.specs.Items.{sized_items, unconstrained_items}
+use Rattle.per_core.specs.Lengths as lengths
+use Rattle.per_core.specs.NumberFaults.{IsOfConstrained, IsOfConstrainedBy, IsOfCounted, IsOfForm, IsOfNumber}
+use Rattle.per_core.specs.NumberFaults.{IsOfOctets}
+use Rattle.per_core.specs.SizeFaults.{IsOfBetween, IsOfItems, IsOfPaddingIf, IsOfUnder}
+use Rattle.per_read.specs.Sizes.{items_between}
+use Rattle.per_core.specs.declared.decode_error.DecodeErrorKind.TheVariants.{ExceedsMaxLength, Incomplete, ParserFail}
+use Rattle.per_core.specs.declared.decode_error.ParserFailCause.TheVariants.{EmptyBitmap, FragmentCode, NonzeroPadding}
+use Rattle.per_core.specs.declared.lengths.Length.TheVariants.{Fragment}
 use Rattle.per_read.proofs.Calls.{no_field_in}
 use Rattle.per_read.proofs.Counts
 use Rattle.per_read.proofs.Counts.{ended_first, ended_fragment, ended_long, ended_second, ended_short}

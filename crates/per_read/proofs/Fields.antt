@@ -2,8 +2,7 @@
 use Rattle.std.proofs.Common.{◌≡◌, ◌<◌, ◌≤◌, ◌⊎◌, inl, inr, ℕ, suc, ◌+◌, ◌^◌, Bool, true, false, cond, nat_eq, [], ◌∷◌, ◌++◌, length, refl, sym, ◌∙◌, ap, arith, length-append}
 use Rattle.rasn_types.specs.Bits.{Bits, number_of}
 use Rattle.rasn_types.proofs.Bits.{number_below}
-use Rattle.per_core.specs.Spellings.{Spelling, exactly, Either, When, Field}
-use Rattle.per_core.specs.Took.{place, Took}
+use Rattle.per_core.specs.Spellings.{Spelling, exactly, Either, When, Field, place, Took}
 
 pub either_took : {f g : Spelling} {s t : Bits} → Took (Either f g) s t → Took f s t ⊎ Took g s t
 either_took {f} {g} {s} {t} a = go a.spelled

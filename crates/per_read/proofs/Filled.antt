@@ -3,8 +3,7 @@ use Rattle.std.proofs.Common.{◌≡◌, inl, inr, refl, sym, ap, ◌∙◌, sub
 use Rattle.rasn_types.specs.Bits.{Bits, AreOctets, unpack}
 use Rattle.per_core.specs.Basic.{Fills}
 use Rattle.per_core.specs.Ends.{Ends}
-use Rattle.per_core.specs.Spellings.{Settings, Spelling}
-use Rattle.per_core.specs.Took.{Took}
+use Rattle.per_core.specs.Spellings.{Settings, Spelling, Took}
 use Rattle.per_core.proofs.Filling.{place-unpack, zero_octet}
 use Rattle.per_read.specs.Ends.{EndsAs}
 

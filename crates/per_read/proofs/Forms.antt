@@ -4,12 +4,11 @@ use Rattle.std.proofs.lemmas.Bool.{lt-leb}
 use Rattle.rasn_types.specs.Bits.{Bits, width}
 use Rattle.rasn_types.specs.Variants.{aligned}
 use Rattle.rasn_types.proofs.Bits.{width_least}
-use Rattle.per_core.specs.Spellings.{Settings, Spelling, Then, AnyPadding, Field}
+use Rattle.per_core.specs.Spellings.{Settings, Spelling, Then, AnyPadding, Field, Took}
 use Rattle.per_core.specs.Basic.{InOctets, constrained_by}
-use Rattle.per_core.specs.Took.{Took}
 use Rattle.per_core.proofs.Agree.{field_agree, padding_agree}
 use Rattle.per_core.proofs.Took.{took_then, then_took, took_map, took_agree}
-use Rattle.per_read.specs.Numbers.{count_width}
+use Rattle.per_core.specs.NumberFaults.{count_width}
 use Rattle.per_read.proofs.Fields.{field_wide, field_below}
 
 -- a number behind padding that isn't there

@@ -3,10 +3,8 @@ use Rattle.std.proofs.Common.{◌≡◌, ◌<◌, refl, sym, ap, ◌∙◌, ℕ,
 use Rattle.std.proofs.lemmas.List.{take-append-drop, take-append-le}
 use Rattle.rasn_types.specs.Bits.{Bits, number_of, pack}
 use Rattle.per_core.specs.Basic.{OneByOne, bit, octet}
-use Rattle.per_core.specs.Spellings.{Spelling}
-use Rattle.per_core.specs.Took.{Took, place}
+use Rattle.per_core.specs.Spellings.{Spelling, Took, place, NoneIn}
 use Rattle.per_core.specs.Writers.{after}
-use Rattle.per_read.specs.Kinds.{NoneIn}
 use Rattle.per_read.specs.Takes.{Front}
 use Rattle.per_read.proofs.Fronts.{front_took}
 use Rattle.per_read.specs.Stands.{LastTaken}

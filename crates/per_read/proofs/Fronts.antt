@@ -3,8 +3,7 @@ use Rattle.std.proofs.Common.{◌≡◌, ◌<◌, ◌≤◌, ◌⊎◌, inl, inr
 use Rattle.std.proofs.lemmas.Bool.{cases_lt}
 use Rattle.std.proofs.lemmas.List.{take-append-drop}
 use Rattle.rasn_types.specs.Bits.{Bits}
-use Rattle.per_core.specs.Took.{Took}
-use Rattle.per_read.specs.Kinds.{NoneIn}
+use Rattle.per_core.specs.Spellings.{Took, NoneIn}
 use Rattle.per_read.specs.Takes.{Front}
 
 -- a front that was taken

@@ -3,15 +3,13 @@ use Rattle.std.proofs.Common.{◌≡◌, refl, sym, subst, ℕ, ◌+◌, ◌*◌
 use Rattle.std.specs.Option.{SomeIff}
 use Rattle.std.specs.Prelude.{Result, Ok, Err, IsErrAnd}
 use Rattle.std.specs.Result.{OkIff, result_ok}
-use Rattle.rasn_types.specs.Bits.{Bits}
-use Rattle.rasn_types.specs.Octets.{unsigned}
+use Rattle.rasn_types.specs.Bits.{Bits, unsigned}
 use Rattle.per_core.specs.Basic.{IsSemiConstrainedWhole, Octets}
-use Rattle.per_core.specs.Spellings.{Settings}
-use Rattle.per_core.specs.Took.{Took}
+use Rattle.per_core.specs.Spellings.{Settings, Took}
 use Rattle.per_read.specs.Items.{Adds}
-use Rattle.per_read.specs.Fields.{IsOfField}
+use Rattle.per_core.specs.FieldFaults.{IsOfField}
 use Rattle.per_read.specs.State.{State}
-use Rattle.per_read.specs.declared.error.DecodeErrorKind.{DecodeErrorKind}
+use Rattle.per_core.specs.declared.decode_error.DecodeErrorKind.{DecodeErrorKind}
 use Rattle.per_read.specs.SmallNumbers.{AppendsOctets, Means, MeansSince, OfIndex}
 use Rattle.per_read.proofs.Naturals.{octets_natural, unsigned_more}
 

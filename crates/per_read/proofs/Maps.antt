@@ -4,26 +4,25 @@ use Rattle.rasn_types.specs.Bits.{Bits}
 use Rattle.rasn_constraints.specs.Bounds.{allows, any_size}
 use Rattle.per_core.specs.Basic.{IsBitmap, Marked, Sized, bit}
 use Rattle.per_core.specs.Counts.{bit_items}
-use Rattle.per_core.specs.Spellings.{Settings, Then, Field, exactly}
-use Rattle.per_core.specs.Took.{Took}
+use Rattle.per_core.specs.Spellings.{Settings, Then, Field, exactly, Took, NoneIn}
 use Rattle.per_core.proofs.Agree.{field_agree}
 use Rattle.per_core.proofs.Took.{then_took, took_agree, took_map, took_then}
-use Rattle.per_read.specs.Fields.{IsOfUnconstrained}
-use Rattle.per_read.specs.Kinds.{NoneIn}
-use Rattle.per_read.specs.Sizes.{IsOfItems}
-use Rattle.per_read.specs.declared.error.DecodeErrorKind.TheVariants.{SizeConstraintNotSatisfied}
+use Rattle.per_core.specs.FieldFaults.{IsOfUnconstrained}
+use Rattle.per_core.specs.SizeFaults.{IsOfItems}
+use Rattle.per_core.specs.declared.decode_error.DecodeErrorKind.TheVariants.{SizeConstraintNotSatisfied}
 use Rattle.per_core.specs.declared.items.Item.TheVariants.{Bit}
-use Rattle.per_read.specs.Lengths.{LengthOf, count_of}
+use Rattle.per_core.specs.Lengths.{LengthOf, count_of}
 use Rattle.per_read.specs.Takes.{Front}
-use Rattle.per_read.specs.declared.error.DecodeErrorKind.{DecodeErrorKind}
-use Rattle.per_read.specs.declared.lengths.Length.{Length}
-use Rattle.per_read.specs.declared.lengths.Length.TheVariants.{Last, Fragment}
+use Rattle.per_core.specs.declared.decode_error.DecodeErrorKind.{DecodeErrorKind}
+use Rattle.per_core.specs.declared.lengths.Length.{Length}
+use Rattle.per_core.specs.declared.lengths.Length.TheVariants.{Last, Fragment}
 use Rattle.per_read.proofs.Coded.{none_of_bits}
 use Rattle.per_read.proofs.Fields.{either_took, when_took}
 use Rattle.per_read.proofs.Marked.{in_mark, mark_in, mark_past, no_mark, past_mark, behind_bit}
 use Rattle.per_read.proofs.OfFields.{past_marked}
 use Rattle.per_read.proofs.Parts.{Tail, first_part, items_begin, no_items_length, no_items_short, one_length}
-use Rattle.per_read.specs.Bitmaps.{IsOfBitmap, IsOfLargeBitmap, IsOfSmallBitmap, large_bitmap, small_bitmap, large_fragments_of}
+use Rattle.per_core.specs.AdditionFaults.{IsOfBitmap, IsOfLargeBitmap, IsOfSmallBitmap}
+use Rattle.per_read.specs.Bitmaps.{large_bitmap, small_bitmap, large_fragments_of}
 use Rattle.per_read.specs.Flags.{AreFlags}
 use Rattle.per_read.specs.OpenTypes.{fragments_of}
 use Rattle.per_read.specs.Reasons.{gathering}

@@ -1,11 +1,9 @@
 -- An extensible constraint's bit, and what stands behind it.
 use Rattle.std.proofs.Common.{◌≡◌, ◌∙◌, sym, subst, Bool, true, false, [], ◌∷◌, ◌⊎◌, inl, inr}
 use Rattle.rasn_types.specs.Bits.{Bits}
-use Rattle.per_core.specs.Spellings.{Spelling, exactly, Then}
+use Rattle.per_core.specs.Spellings.{Spelling, exactly, Then, Took, NoneIn}
 use Rattle.per_core.specs.Basic.{Marked}
-use Rattle.per_core.specs.Took.{Took}
 use Rattle.per_core.proofs.Took.{took_then, then_took, took_bit}
-use Rattle.per_read.specs.Kinds.{NoneIn}
 use Rattle.per_read.proofs.Fields.{exactly_took, either_took}
 
 pub behind_bit : {f : Spelling} {s m : Bits} (b : Bool) → s ≡ b ∷ m → (t : Bits) → Took f m t → Took (Then (exactly (b ∷ [])) f) s t

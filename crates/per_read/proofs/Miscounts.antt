@@ -2,15 +2,17 @@
 use Rattle.std.proofs.Common.{◌≡◌, ◌∙◌, inl, inr, ℕ, true, false, List, [], ◌∷◌, length, sym, ap, Option}
 use Rattle.rasn_types.specs.Bits.{Bits}
 use Rattle.rasn_constraints.specs.Bounds.{allows, Size, any_size}
-use Rattle.per_core.specs.Spellings.{Settings, never}
-use Rattle.per_core.specs.Items.{bits_of, counted_of}
-use Rattle.per_read.specs.Items.{TookItems, coded, unconstrained_items, sized_items, counted_items}
-use Rattle.per_read.specs.Fields.{IsOfField, IsOfUnconstrained}
-use Rattle.per_read.specs.Kinds.{Faulty, NoneIn}
-use Rattle.per_read.specs.Sizes.{IsOfItems, IsOfUnder, items_under}
+use Rattle.per_core.specs.Spellings.{Settings, never, NoneIn}
+use Rattle.per_core.specs.Counts.{bits_of, counted_of}
+use Rattle.per_read.specs.Items.{TookItems, unconstrained_items, sized_items}
+use Rattle.per_core.specs.Lengths.{coded, counted_items}
+use Rattle.per_core.specs.FieldFaults.{IsOfField, IsOfUnconstrained}
+use Rattle.per_read.specs.Kinds.{Faulty}
+use Rattle.per_core.specs.SizeFaults.{IsOfItems, IsOfUnder}
+use Rattle.per_read.specs.Sizes.{items_under}
 use Rattle.per_core.specs.declared.items.Item.{Item}
-use Rattle.per_read.specs.declared.error.DecodeErrorKind.{DecodeErrorKind}
-use Rattle.per_read.specs.declared.error.DecodeErrorKind.TheVariants.{SizeConstraintNotSatisfied}
+use Rattle.per_core.specs.declared.decode_error.DecodeErrorKind.{DecodeErrorKind}
+use Rattle.per_core.specs.declared.decode_error.DecodeErrorKind.TheVariants.{SizeConstraintNotSatisfied}
 use Rattle.per_read.proofs.Refusals.{faulty_map}
 use Rattle.per_read.proofs.OfFields.{in_marked, of_items, past_marked}
 use Rattle.per_read.proofs.Marked.{mark_in, mark_past, in_mark, past_mark, no_mark}

@@ -3,13 +3,11 @@ use Rattle.std.proofs.Common.{◌≡◌, ◌∙◌, refl, sym, ap, subst, ℕ, �
 use Rattle.std.proofs.Math.Nat.{le-mul_of_pos_right}
 use Rattle.std.proofs.lemmas.List.{take_more, take-append-drop}
 use Rattle.std.specs.Prelude.{MatchOption}
-use Rattle.rasn_types.specs.Bits.{Bits, number_of, to_bits, unpack}
-use Rattle.rasn_types.specs.Octets.{unsigned}
+use Rattle.rasn_types.specs.Bits.{Bits, number_of, to_bits, unpack, unsigned}
 use Rattle.rasn_types.proofs.Bits.{number-to_bits, unpack-append}
 use Rattle.rasn_types.proofs.Reading.{number_of-append}
-use Rattle.per_core.specs.Spellings.{Settings}
+use Rattle.per_core.specs.Spellings.{Settings, Took}
 use Rattle.per_core.specs.Basic.{Octets, IsSemiConstrainedWhole}
-use Rattle.per_core.specs.Took.{Took}
 use Rattle.per_core.proofs.LengthForms.{same_octets}
 use Rattle.per_core.proofs.Took.{took_agree, took_map}
 use Rattle.per_read.specs.Numbers.{OfNatural}

@@ -5,8 +5,7 @@ use Rattle.rasn_types.specs.Bits.{Bits}
 use Rattle.rasn_strings.specs.Prepared.{AreOwn}
 use Rattle.per_bits.specs.Octets.{low_bits_of}
 use Rattle.per_core.specs.Basic.{OneByOne}
-use Rattle.per_core.specs.Spellings.{Field}
-use Rattle.per_core.specs.Took.{Took}
+use Rattle.per_core.specs.Spellings.{Field, Took}
 use Rattle.per_read.proofs.CharacterCodes.{own_took}
 
 -- octets that are each written as their own value are spelled by their low bits

@@ -2,9 +2,9 @@
 use Rattle.std.proofs.Common.{sym, subst, inl, inr, Bool, List, [], ◌∷◌, true, false}
 use Rattle.rasn_types.specs.Bits.{Bits}
 use Rattle.per_core.specs.Spellings.{Settings}
-use Rattle.per_read.specs.Bitmaps.{IsOfBitmap, IsOfLargeBitmap, IsOfSmallBitmap, IsOfUnknown}
+use Rattle.per_core.specs.AdditionFaults.{IsOfBitmap, IsOfLargeBitmap, IsOfSmallBitmap, IsOfUnknown}
 use Rattle.per_read.specs.Kinds.{IsTested}
-use Rattle.per_read.specs.declared.error.DecodeErrorKind.{DecodeErrorKind}
+use Rattle.per_core.specs.declared.decode_error.DecodeErrorKind.{DecodeErrorKind}
 use Rattle.per_read.proofs.Calls.{of_short}
 use Rattle.per_read.proofs.OfFields.{marked_tested, unconstrained_tested}
 

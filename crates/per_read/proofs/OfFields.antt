@@ -4,19 +4,20 @@ use Rattle.std.proofs.lemmas.Bool.{lt-leb, lt-ltb}
 use Rattle.rasn_types.specs.Bits.{Bits, width}
 use Rattle.rasn_types.specs.Variants.{Variant, aligned, unaligned}
 use Rattle.rasn_constraints.specs.Bounds.{Size}
-use Rattle.per_core.specs.Counts.{is_aligned}
-use Rattle.per_core.specs.Items.{bits_of, counted_of}
-use Rattle.per_core.specs.Spellings.{Settings, exactly}
-use Rattle.per_core.specs.Took.{Took}
+use Rattle.per_core.specs.Counts.{is_aligned, bits_of, counted_of}
+use Rattle.per_core.specs.Spellings.{Settings, exactly, Took}
 use Rattle.per_core.proofs.ConstrainedLengths.{IsConstrained, IsFree}
 use Rattle.per_core.proofs.Took.{took_bit}
 use Rattle.per_core.specs.declared.items.Item.{Item}
-use Rattle.per_read.specs.Fields.{IsOfCount, IsOfField, IsOfFragments, IsOfLength, IsOfMarked, IsOfPadded, IsOfPadding, IsOfUnconstrained, Says, in_items, in_length, past_fragment, too_many}
+use Rattle.per_core.specs.FieldFaults.{IsOfCount, IsOfField, IsOfFragments, IsOfLength, IsOfMarked, IsOfPadded}
+use Rattle.per_core.specs.FieldFaults.{IsOfPadding, IsOfUnconstrained, Says, in_items, in_length, past_fragment}
+use Rattle.per_core.specs.FieldFaults.{too_many}
 use Rattle.per_read.specs.Kinds.{IsTested}
-use Rattle.per_read.specs.Numbers.{IsOfConstrained, IsOfConstrainedBy, IsOfCounted, IsOfOctets}
-use Rattle.per_read.specs.Sizes.{IsOfBetween, IsOfItems, IsOfPaddingIf, IsOfUnder}
-use Rattle.per_read.specs.declared.error.DecodeErrorKind.{DecodeErrorKind}
-use Rattle.per_read.specs.declared.error.DecodeErrorKind.TheVariants.{SizeConstraintNotSatisfied, UnexpectedEmptyInput}
+use Rattle.per_core.specs.NumberFaults.{IsOfConstrained, IsOfConstrainedBy, IsOfCounted, IsOfOctets}
+use Rattle.per_core.specs.SizeFaults.{IsOfBetween, IsOfItems, IsOfPaddingIf, IsOfUnder}
+use Rattle.per_core.specs.declared.decode_error.DecodeErrorKind.{DecodeErrorKind}
+use Rattle.per_core.specs.declared.decode_error.DecodeErrorKind.TheVariants.{SizeConstraintNotSatisfied}
+use Rattle.per_core.specs.declared.decode_error.DecodeErrorKind.TheVariants.{UnexpectedEmptyInput}
 use Rattle.per_read.proofs.Calls.{of_short}
 use Rattle.per_read.proofs.Forms.{differs}
 

@@ -5,11 +5,12 @@ use Rattle.rasn_types.specs.Bits.{Bits}
 use Rattle.rasn_constraints.specs.Bounds.{Size}
 use Rattle.per_core.specs.Spellings.{Settings, Spelling}
 use Rattle.per_core.proofs.ConstrainedLengths.{IsConstrained}
-use Rattle.per_read.specs.InLists.{AreUncounted, IsOfList, IsOfListCount, IsOfNextLength, IsOfNone, IsOfOpening}
+use Rattle.per_core.specs.SizeFaults.{AreUncounted, IsOfList, IsOfListCount, IsOfNextLength, IsOfNone, IsOfOpening}
 use Rattle.per_read.specs.Kinds.{IsTested}
-use Rattle.per_read.specs.Numbers.{IsOfConstrained}
-use Rattle.per_read.specs.declared.error.DecodeErrorKind.{DecodeErrorKind}
-use Rattle.per_read.specs.declared.error.DecodeErrorKind.TheVariants.{ExceedsMaxLength, SizeConstraintNotSatisfied}
+use Rattle.per_core.specs.NumberFaults.{IsOfConstrained}
+use Rattle.per_core.specs.declared.decode_error.DecodeErrorKind.{DecodeErrorKind}
+use Rattle.per_core.specs.declared.decode_error.DecodeErrorKind.TheVariants.{ExceedsMaxLength}
+use Rattle.per_core.specs.declared.decode_error.DecodeErrorKind.TheVariants.{SizeConstraintNotSatisfied}
 use Rattle.per_read.proofs.OfFields.{constrained_tested, marked_tested}
 
 module _ {X : Type 0} (a : Settings) (size : Size) (mark : Bool) (item : X → Spelling) (s : Bits) where

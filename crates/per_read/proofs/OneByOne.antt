@@ -7,9 +7,8 @@ use Rattle.rasn_types.specs.Packed.{packed}
 use Rattle.rasn_types.proofs.Bits.{length-to_bits, number-to_bits, to_bits-split}
 use Rattle.rasn_types.proofs.Octets.{length-pack}
 use Rattle.per_core.specs.Writers.{after}
-use Rattle.per_core.specs.Spellings.{Field, Spelling}
+use Rattle.per_core.specs.Spellings.{Field, Spelling, place, Took}
 use Rattle.per_core.specs.Basic.{OneByOne}
-use Rattle.per_core.specs.Took.{place, Took}
 use Rattle.per_core.proofs.Took.{took_then, then_took, took_nothing, nothing_took}
 use Rattle.per_read.specs.Items.{Adds, TookItems, bit_code}
 

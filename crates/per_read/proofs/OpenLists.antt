@@ -8,21 +8,18 @@ use Rattle.rasn_constraints.specs.Constraints.{start_of, end_of, size_between}
 use Rattle.per_core.specs.Basic
 use Rattle.per_core.specs.Basic.{OneByOne, UnconstrainedLength}
 use Rattle.per_core.specs.Counts.{list_items}
-use Rattle.per_core.specs.Spellings.{Settings, Spelling}
-use Rattle.per_core.specs.Took.{Took}
+use Rattle.per_core.specs.Spellings.{Settings, Spelling, Took, NoneIn}
 use Rattle.per_core.proofs.Agree.{Agree}
 use Rattle.per_core.proofs.Took.{took_then, then_took, took_map, took_agree, took_nothing, nothing_took}
-use Rattle.per_read.specs.Kinds.{NoneIn}
-use Rattle.per_read.specs.Lengths.{LengthOf, count_of, is_followed}
-use Rattle.per_read.specs.Fields.{IsOfLength}
-use Rattle.per_read.specs.InLists.{AreUncounted, IsOfList}
+use Rattle.per_core.specs.Lengths.{LengthOf, count_of, is_followed, InWhole, LengthUpTo, UpTo, UpToFragment}
+use Rattle.per_core.specs.Lengths.{UpToUnconstrained, WholeFragments}
+use Rattle.per_core.specs.FieldFaults.{IsOfLength}
+use Rattle.per_core.specs.SizeFaults.{AreUncounted, IsOfList, Miscounted}
 use Rattle.per_read.specs.Lists.{AreOpenItems, AwaitsItem, IsLeft, ListRule, RefusesList, Rest, RestUpTo, RestUpToLength, list_form}
-use Rattle.per_read.specs.Sizes.{Miscounted}
-use Rattle.per_read.specs.UpTo.{InWhole, LengthUpTo, UpTo, UpToFragment, UpToUnconstrained, WholeFragments}
-use Rattle.per_read.specs.declared.error.DecodeErrorKind.{DecodeErrorKind}
-use Rattle.per_read.specs.declared.error.DecodeErrorKind.TheVariants.{SizeConstraintNotSatisfied}
-use Rattle.per_read.specs.declared.lengths.Length.{Length}
-use Rattle.per_read.specs.declared.lengths.Length.TheVariants.{Last, Fragment}
+use Rattle.per_core.specs.declared.decode_error.DecodeErrorKind.{DecodeErrorKind}
+use Rattle.per_core.specs.declared.decode_error.DecodeErrorKind.TheVariants.{SizeConstraintNotSatisfied}
+use Rattle.per_core.specs.declared.lengths.Length.{Length}
+use Rattle.per_core.specs.declared.lengths.Length.TheVariants.{Last, Fragment}
 use Rattle.per_read.specs.declared.lists.UnreadElements.{UnreadElements}
 use Rattle.per_read.proofs.OfFields.{length_tested}
 use Rattle.per_read.proofs.OfLists.{of_list}

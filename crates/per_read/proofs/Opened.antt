@@ -3,12 +3,10 @@ use Rattle.std.proofs.Common.{◌≡◌, ◌<◌, sym, ap, subst, ℕ, zero, suc
 use Rattle.rasn_types.specs.Bits.{Bits, AreOctets, unpack}
 use Rattle.rasn_types.proofs.Bits.{number_below}
 use Rattle.per_core.specs.Basic.{Fills, InFragments, Octets, OneByOne, Open, octet}
-use Rattle.per_core.specs.Spellings.{Settings, Spelling}
-use Rattle.per_core.specs.Took.{Took}
+use Rattle.per_core.specs.Spellings.{Settings, Spelling, Took, NoneIn}
 use Rattle.per_core.proofs.Agree.{Agree}
 use Rattle.per_core.proofs.LengthForms.{same_octets}
 use Rattle.per_core.proofs.Took.{took_agree, took_map}
-use Rattle.per_read.specs.Kinds.{NoneIn}
 use Rattle.per_read.specs.Ends.{EndsAs}
 use Rattle.per_read.proofs.Filled.{fills_took, took_fills}
 

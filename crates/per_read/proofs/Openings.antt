@@ -10,16 +10,14 @@ use Rattle.rasn_constraints.specs.declared.constraints.Bounded.{Bounded}
 use Rattle.rasn_schema.specs.Schemas.{Schema}
 use Rattle.per_core.specs.Basic.{OneByOne, PaddingIf, Sized, UnconstrainedLength}
 use Rattle.per_core.specs.Counts.{list_items}
-use Rattle.per_core.specs.Spellings.{Settings, Spelling, never}
-use Rattle.per_core.specs.Took.{Took}
+use Rattle.per_core.specs.Spellings.{Settings, Spelling, never, Took, NoneIn}
 use Rattle.per_core.proofs.Took.{took_then, then_took, took_map, took_agree, took_nothing, nothing_took}
-use Rattle.per_read.specs.InLists.{IsOfOpening}
-use Rattle.per_read.specs.Kinds.{NoneIn}
+use Rattle.per_core.specs.SizeFaults.{IsOfOpening}
 use Rattle.per_read.specs.Lists.{AreOpenItems, Leaves, ListRule, OpensList, Rest, RestUpTo, list_form, list_rule}
-use Rattle.per_read.specs.Sizes.{Between, CountFrom, under_size}
+use Rattle.per_core.specs.Lengths.{Between, CountFrom, under_size, LengthUpToSized, UpToBetween, UpToSized}
+use Rattle.per_core.specs.Lengths.{UpToUnconstrained, WholeFragments}
 use Rattle.per_read.specs.State.{State, settings_of}
-use Rattle.per_read.specs.UpTo.{LengthUpToSized, UpToBetween, UpToSized, UpToUnconstrained, WholeFragments}
-use Rattle.per_read.specs.declared.error.DecodeErrorKind.{DecodeErrorKind}
+use Rattle.per_core.specs.declared.decode_error.DecodeErrorKind.{DecodeErrorKind}
 use Rattle.per_read.specs.declared.lists.UnreadElements.{UnreadElements}
 use Rattle.per_read.proofs.Marked.{mark_in, mark_past, in_mark, past_mark, no_mark}
 use Rattle.per_read.proofs.OpenLists.{counted, length_split, of_counted, up_to_split}

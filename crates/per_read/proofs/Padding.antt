@@ -1,19 +1,17 @@
 -- Padding, seen from the bits that are left.
 use Rattle.std.proofs.Common.{◌≡◌, ◌≢◌, ℕ, ◌%◌, Bool, true, false, ◌++◌, length, take, take_all, refl, sym, ◌∙◌, ap, subst, arith}
 use Rattle.rasn_types.specs.Bits.{Bits, number_of}
-use Rattle.rasn_types.specs.Codecs.{variant_of}
+use Rattle.rasn_types.specs.Variants.{variant_of}
 use Rattle.rasn_types.specs.declared.types.Codec.{Codec}
 use Rattle.rasn_types.specs.declared.types.Codec.TheVariants.{Aper, Uper}
 use Rattle.rasn_types.proofs.Packing.{number-zeros}
-use Rattle.per_core.specs.Spellings.{AnyPadding, Settings, Spelling, Then, ZeroIf}
-use Rattle.per_core.specs.Took.{place, Took}
+use Rattle.per_core.specs.Spellings.{AnyPadding, Settings, Spelling, Then, ZeroIf, place, Took, NoneIn}
 use Rattle.per_core.specs.Writers.{pad}
 use Rattle.per_core.proofs.Agree.{fronts}
 use Rattle.per_core.proofs.Took.{then_took}
 use Rattle.per_core.proofs.Within.{zero_if}
 use Rattle.per_core.proofs.Zeros.{zeros}
-use Rattle.per_read.specs.Fields.{AreNonzero}
-use Rattle.per_read.specs.Kinds.{NoneIn}
+use Rattle.per_core.specs.FieldFaults.{AreNonzero}
 use Rattle.per_read.specs.Options.{settings}
 use Rattle.per_read.specs.Takes.{alone}
 use Rattle.per_read.specs.declared.ReaderOptions.{ReaderOptions}

@@ -5,20 +5,18 @@ use Rattle.std.proofs.lemmas.Bool.{lt-ltb, ltb-true}
 use Rattle.rasn_types.specs.Bits.{Bits}
 use Rattle.rasn_constraints.specs.Bounds.{allows, any_size}
 use Rattle.per_core.specs.Counts.{ItemKind}
-use Rattle.per_core.specs.Spellings.{Settings, Spelling, Field}
+use Rattle.per_core.specs.Spellings.{Settings, Spelling, Field, place, Took, NoneIn}
 use Rattle.per_core.specs.Basic
 use Rattle.per_core.specs.Basic.{OneByOne, Sized, UnconstrainedLength, InFragments, LastCount}
-use Rattle.per_core.specs.Took.{place, Took}
 use Rattle.per_core.proofs.Agree.{field_agree, weaken}
 use Rattle.per_core.proofs.LengthForms.{row_agree, Zip-same}
 use Rattle.per_core.proofs.Took.{took_then, then_took, took_map, took_agree}
-use Rattle.per_read.specs.declared.lengths.Length.{Length}
-use Rattle.per_read.specs.declared.lengths.Length.TheVariants.{Last, Fragment}
-use Rattle.per_read.specs.declared.error.DecodeErrorKind.{DecodeErrorKind}
+use Rattle.per_core.specs.declared.lengths.Length.{Length}
+use Rattle.per_core.specs.declared.lengths.Length.TheVariants.{Last, Fragment}
+use Rattle.per_core.specs.declared.decode_error.DecodeErrorKind.{DecodeErrorKind}
 use Rattle.per_read.specs.Items.{Adds, TookItems, Gathered}
-use Rattle.per_read.specs.Lengths.{CountOf, LengthOf, count_of}
-use Rattle.per_read.specs.Fields.{IsOfFragments, IsOfUnconstrained, past_fragment}
-use Rattle.per_read.specs.Kinds.{NoneIn}
+use Rattle.per_core.specs.Lengths.{CountOf, LengthOf, count_of}
+use Rattle.per_core.specs.FieldFaults.{IsOfFragments, IsOfUnconstrained, past_fragment}
 use Rattle.per_read.proofs.Fields.{field_below}
 use Rattle.per_read.proofs.Counts.{Begins, short, long, fragment, count_begins, one_count, unpadded}
 use Rattle.per_read.proofs.OneByOne.{items_exact, items_wide, adds_none, adds_more}

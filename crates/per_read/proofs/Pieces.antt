@@ -6,16 +6,15 @@ use Rattle.rasn_types.proofs.Octets.{length-pack, unpack-pack}
 use Rattle.rasn_constraints.specs.Bounds.{allows, any_size}
 use Rattle.per_core.specs.Basic.{Octets, OneByOne, Sized, octet}
 use Rattle.per_core.specs.Counts.{ItemKind, octet_items}
-use Rattle.per_core.specs.Spellings.{Settings, Spelling}
-use Rattle.per_core.specs.Took.{Took}
+use Rattle.per_core.specs.Spellings.{Settings, Spelling, Took, NoneIn}
 use Rattle.per_core.proofs.Took.{took_map}
 use Rattle.per_read.specs.Items.{TookItems}
-use Rattle.per_read.specs.Fields.{Says}
-use Rattle.per_read.specs.Kinds.{Faulty, NoneIn}
-use Rattle.per_read.specs.Lengths.{LengthOf}
+use Rattle.per_core.specs.FieldFaults.{Says}
+use Rattle.per_read.specs.Kinds.{Faulty}
+use Rattle.per_core.specs.Lengths.{LengthOf}
 use Rattle.per_read.specs.Takes.{Front}
-use Rattle.per_read.specs.declared.error.DecodeErrorKind.{DecodeErrorKind}
-use Rattle.per_read.specs.declared.lengths.Length.TheVariants.{Last, Fragment}
+use Rattle.per_core.specs.declared.decode_error.DecodeErrorKind.{DecodeErrorKind}
+use Rattle.per_core.specs.declared.lengths.Length.TheVariants.{Last, Fragment}
 use Rattle.per_read.proofs.Parts.{items_begin, last_part, no_items_length, no_items_short, small_length}
 use Rattle.per_read.specs.OpenTypes.{fragments_of}
 use Rattle.per_read.specs.Reasons.{gathering}

@@ -7,8 +7,7 @@ use Rattle.std.proofs.lemmas.Bool.{cases_lt, lt-ltb}
 use Rattle.std.proofs.lemmas.List.{length-replicate, take-append-drop, take-append-le, take-replicate}
 use Rattle.std.proofs.lemmas.Nat.{shr_high, shr-shr}
 use Rattle.std.proofs.Math.Seq.{take-append-add}
-use Rattle.rasn_types.specs.Bits.{Bits, number_of, unpack, pack}
-use Rattle.rasn_types.specs.Octets.{signed, signed_bits}
+use Rattle.rasn_types.specs.Bits.{Bits, number_of, unpack, pack, signed, signed_bits}
 use Rattle.rasn_types.proofs.Bits.{length-unpack, number_below}
 use Rattle.rasn_types.proofs.Octets.{length-pack, unpack-pack}
 use Rattle.rasn_types.proofs.Packing.{number-zeros}
@@ -16,19 +15,17 @@ use Rattle.rasn_types.proofs.Reading.{number_of-append}
 use Rattle.rasn_constraints.specs.Bounds.{allows, any_size}
 use Rattle.per_core.specs.Basic.{LastCount, Octets, OneByOne, octet}
 use Rattle.per_core.specs.Counts.{octet_items}
-use Rattle.per_core.specs.Spellings.{AnyPadding, Settings, Field, ZeroIf}
-use Rattle.per_core.specs.Took.{place, Took}
+use Rattle.per_core.specs.Spellings.{AnyPadding, Settings, Field, ZeroIf, place, Took, NoneIn}
 use Rattle.per_core.specs.Writers.{pad}
 use Rattle.per_core.proofs.Took.{took_map, took_then, then_took}
 use Rattle.per_read.specs.FewOctets.{AreOctetsOf, AtOnce, TookFew, TakesFew}
-use Rattle.per_read.specs.Fields.{IsOfUnconstrained}
-use Rattle.per_read.specs.Kinds.{NoneIn}
-use Rattle.per_read.specs.Lengths.{LengthOf, count_of}
+use Rattle.per_core.specs.FieldFaults.{IsOfUnconstrained}
+use Rattle.per_core.specs.Lengths.{LengthOf, count_of}
 use Rattle.per_read.specs.State.{State, settings_of}
-use Rattle.per_read.specs.declared.error.DecodeErrorKind.{DecodeErrorKind}
+use Rattle.per_core.specs.declared.decode_error.DecodeErrorKind.{DecodeErrorKind}
 use Rattle.per_read.specs.declared.few_octets.FewOctets.{FewOctets}
-use Rattle.per_read.specs.declared.lengths.Length.{Length}
-use Rattle.per_read.specs.declared.lengths.Length.TheVariants.{Last}
+use Rattle.per_core.specs.declared.lengths.Length.{Length}
+use Rattle.per_core.specs.declared.lengths.Length.TheVariants.{Last}
 use Rattle.per_read.proofs.OneByOne.{items_wide, octets_one_by_one, took_within}
 use Rattle.per_read.proofs.Parts.{items_begin, last_part, no_items_length, no_items_short}
 

@@ -3,8 +3,7 @@ use Rattle.std.proofs.Common.{refl, List, ◌∷◌, [], Bool, true, false, Opti
 use Rattle.rasn_types.specs.Bits.{Bits}
 use Rattle.rasn_types.specs.Values.{Value}
 use Rattle.per_core.specs.Basic.{Additions, Extended, Record, IsBitmap, Root, Rule}
-use Rattle.per_core.specs.Spellings.{Settings, Then, exactly}
-use Rattle.per_core.specs.Took.{Took}
+use Rattle.per_core.specs.Spellings.{Settings, Then, exactly, Took}
 use Rattle.per_core.proofs.Took.{then_took, took_bit, took_map, took_then}
 use Rattle.per_read.proofs.Fields.{either_took}
 use Rattle.per_read.proofs.Marked.{bit_behind}

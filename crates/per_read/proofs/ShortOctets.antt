@@ -4,15 +4,13 @@ use Rattle.rasn_types.specs.Bits.{Bits}
 use Rattle.rasn_constraints.specs.Bounds.{allows, Size}
 use Rattle.per_core.specs.Basic.{OneByOne, octet}
 use Rattle.per_core.specs.Counts.{octet_items}
-use Rattle.per_core.specs.Spellings.{Settings, Spelling}
-use Rattle.per_core.specs.Took.{Took}
+use Rattle.per_core.specs.Spellings.{Settings, Spelling, Took, NoneIn}
 use Rattle.per_core.specs.declared.items.Item.TheVariants.{Octet}
 use Rattle.per_core.proofs.Took.{then_took, took_map}
 use Rattle.per_read.specs.Items.{HasCount, TookItems, items_below, sized_items, unconstrained_items}
-use Rattle.per_read.specs.Kinds.{NoneIn}
-use Rattle.per_read.specs.Lengths.{LengthOf, count_of}
+use Rattle.per_core.specs.Lengths.{LengthOf, count_of}
 use Rattle.per_read.specs.Sizes.{items_under}
-use Rattle.per_read.specs.declared.lengths.Length.TheVariants.{Last, Fragment}
+use Rattle.per_core.specs.declared.lengths.Length.TheVariants.{Last, Fragment}
 use Rattle.per_read.proofs.Fields.{when_took}
 use Rattle.per_read.proofs.OneByOne.{items_within, octets_skipped}
 use Rattle.per_read.proofs.Parts.{first_part, items_begin, items_end, no_items_length, no_items_short, one_length}

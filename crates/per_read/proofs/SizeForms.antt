@@ -9,15 +9,13 @@ use Rattle.rasn_constraints.specs.Bounds.{allows, any_size, at_least, at_most, h
 use Rattle.per_core.specs.Basic.{OneByOne, UnconstrainedLength, PaddingIf, Sized, InOctets, IsConstrainedWhole, length_form, constrained_by, constrained_form}
 use Rattle.per_core.specs.Counts.{ItemKind, is_aligned}
 use Rattle.per_core.proofs.ConstrainedLengths.{IsConstrained, IsFree}
-use Rattle.per_core.specs.Spellings.{Settings, Spelling, Then, AnyPadding, Field}
-use Rattle.per_core.specs.Took.{Took}
+use Rattle.per_core.specs.Spellings.{Settings, Spelling, Then, AnyPadding, Field, Took, NoneIn}
 use Rattle.per_core.proofs.Agree.{Agree, weaken, when_agree, padding_agree, field_agree}
 use Rattle.per_core.proofs.LengthForms.{Zip-same, bounded_form_agree, unsized_agree, and_left, and_right}
 use Rattle.per_core.proofs.Took.{took_then, then_took, took_map, took_agree, nothing_took}
-use Rattle.per_read.specs.Kinds.{NoneIn}
 use Rattle.per_read.specs.Items.{TookItems}
 use Rattle.per_read.specs.Takes.{alone}
-use Rattle.per_read.specs.Sizes.{CountFrom, Between, under_size}
+use Rattle.per_core.specs.Lengths.{CountFrom, Between, under_size}
 use Rattle.per_read.proofs.Fields.{when_took, field_below}
 use Rattle.per_read.proofs.OneByOne.{items_wide}
 

@@ -2,15 +2,12 @@
 use Rattle.std.proofs.Common.{◌≡◌, sym, subst, inl, inr, List, [], ◌∷◌, Bool, true, false}
 use Rattle.rasn_types.specs.Bits.{Bits}
 use Rattle.per_core.specs.Basic.{Unknown}
-use Rattle.per_core.specs.Spellings.{Settings}
-use Rattle.per_core.specs.Took.{Took}
+use Rattle.per_core.specs.Spellings.{Settings, Took, NoneIn}
 use Rattle.per_core.proofs.Took.{then_took, took_agree, took_nothing, took_then}
 use Rattle.per_core.proofs.Unique.{open_agree}
-use Rattle.per_read.specs.Kinds.{NoneIn}
-use Rattle.per_read.specs.Bitmaps.{IsOfUnknown, skipped_unknown}
-use Rattle.per_read.specs.Fields.{IsOfUnconstrained}
-use Rattle.per_read.specs.declared.error.DecodeErrorKind.{DecodeErrorKind}
-use Rattle.per_read.specs.OpenTypes.{skipped_open}
+use Rattle.per_core.specs.AdditionFaults.{IsOfUnknown, skipped_unknown, skipped_open}
+use Rattle.per_core.specs.FieldFaults.{IsOfUnconstrained}
+use Rattle.per_core.specs.declared.decode_error.DecodeErrorKind.{DecodeErrorKind}
 
 -- The additions from `start` on are those that were skipped and those from here.
 pub record SkippedSoFar (a : Settings) (flags left : List Bool) (start here : Bits) : Type 0 where

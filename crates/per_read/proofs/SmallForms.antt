@@ -3,14 +3,13 @@ use Rattle.std.proofs.Common.{◌≡◌, ◌⊎◌, ◌&&◌, ap, subst, ℕ, �
 use Rattle.rasn_types.specs.Bits.{Bits}
 use Rattle.rasn_constraints.specs.Bounds.{fits_i128}
 use Rattle.per_core.specs.Basic.{IsNumber, IsSemiConstrainedWhole, Small, at_least_zero}
-use Rattle.per_core.specs.Spellings.{Settings, Then, exactly, Field}
-use Rattle.per_core.specs.Took.{Took}
+use Rattle.per_core.specs.Spellings.{Settings, Then, exactly, Field, Took}
 use Rattle.per_core.proofs.Took.{took_then, then_took, took_map}
-use Rattle.per_read.specs.Fields.{IsOfField, IsOfMarked, IsOfUnconstrained}
-use Rattle.per_read.specs.Numbers.{IsOfOctets}
-use Rattle.per_read.specs.SmallNumbers.{IsOfSmall, small_form}
-use Rattle.per_read.specs.declared.error.DecodeErrorKind.{DecodeErrorKind}
-use Rattle.per_read.specs.declared.error.DecodeErrorKind.TheVariants.{UnexpectedEmptyInput}
+use Rattle.per_core.specs.FieldFaults.{IsOfField, IsOfMarked, IsOfUnconstrained}
+use Rattle.per_core.specs.NumberFaults.{IsOfOctets, small_form}
+use Rattle.per_read.specs.SmallNumbers.{IsOfSmall}
+use Rattle.per_core.specs.declared.decode_error.DecodeErrorKind.{DecodeErrorKind}
+use Rattle.per_core.specs.declared.decode_error.DecodeErrorKind.TheVariants.{UnexpectedEmptyInput}
 use Rattle.per_read.proofs.Calls.{of_short}
 use Rattle.per_read.proofs.Fields.{either_took}
 use Rattle.per_read.proofs.Marked.{behind_bit}

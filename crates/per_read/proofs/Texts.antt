@@ -3,15 +3,13 @@ use Rattle.std.proofs.Common.{◌≡◌, ◌∙◌, ℕ, List, true, false, sym,
 use Rattle.rasn_types.specs.Bits.{Bits}
 use Rattle.rasn_types.specs.Contents.{TextKind, is_text}
 use Rattle.per_core.specs.Basic.{Octets, Proper}
-use Rattle.per_core.specs.Spellings.{Settings}
-use Rattle.per_core.specs.Took.{Took}
+use Rattle.per_core.specs.Spellings.{Settings, Took, NoneIn}
 use Rattle.per_core.proofs.LengthForms.{same_octets}
 use Rattle.per_core.proofs.Took.{took_map, took_agree}
-use Rattle.per_read.specs.Fields.{IsOfUnconstrained}
-use Rattle.per_read.specs.Kinds.{NoneIn}
-use Rattle.per_read.specs.Strings.{IsNoText, IsOfText}
-use Rattle.per_read.specs.declared.error.DecodeErrorKind.{DecodeErrorKind}
-use Rattle.per_read.specs.declared.error.DecodeErrorKind.TheVariants.{StringConversionFailed}
+use Rattle.per_core.specs.FieldFaults.{IsOfUnconstrained}
+use Rattle.per_core.specs.SizeFaults.{IsNoText, IsOfText}
+use Rattle.per_core.specs.declared.decode_error.DecodeErrorKind.{DecodeErrorKind}
+use Rattle.per_core.specs.declared.decode_error.DecodeErrorKind.TheVariants.{StringConversionFailed}
 use Rattle.per_read.proofs.Fields.{when_took}
 use Rattle.per_read.proofs.OfFields.{unconstrained_tested}
 

@@ -2,7 +2,7 @@
 use Rattle.std.proofs.Common.{◌≡◌, ◌<◌, ◌≤◌, refl, sym, ap, ◌∙◌, subst, ℕ, zero, suc, ◌+◌, true, false, nat_eq, [], ◌∷◌, ◌++◌, length, take, drop, Some, arith}
 use Rattle.std.specs.Prelude.{slice_get}
 use Rattle.rasn_types.specs.Bits.{Bits, number_of}
-use Rattle.per_read.specs.Additions.{NextFlag}
+use Rattle.per_core.specs.AdditionFaults.{NextFlag}
 
 -- one bit
 pub one_bit : (s front t : Bits) (n : ℕ) → s ≡ front ++ t → length front ≡ 1 → n ≡ number_of (take 1 front) → NextFlag s (Some (nat_eq n 1)) t

@@ -1,12 +1,10 @@
 -- Numbers without bounds (X.691 11.8, 13).
 use Rattle.std.proofs.Common.{◌≡◌, ◌<◌, ℕ, true, false, List, [], length, refl, sym, ◌∙◌, ap, subst, arith, ℤ}
-use Rattle.rasn_types.specs.Bits.{Bits}
-use Rattle.rasn_types.specs.Octets.{signed}
+use Rattle.rasn_types.specs.Bits.{Bits, signed}
 use Rattle.rasn_constraints.specs.Bounds.{Bounds, unbounded, holds}
-use Rattle.per_core.specs.Spellings.{Settings}
+use Rattle.per_core.specs.Spellings.{Settings, Took}
 use Rattle.per_core.specs.Basic.{Octets, IsNumberOf}
-use Rattle.per_core.specs.Took.{Took}
-use Rattle.per_read.specs.Numbers.{IsUnheld}
+use Rattle.per_core.specs.NumberFaults.{IsUnheld}
 use Rattle.per_core.proofs.LengthForms.{same_octets}
 use Rattle.per_core.proofs.Took.{took_agree, took_map}
 

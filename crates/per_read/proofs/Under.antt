@@ -2,14 +2,13 @@
 use Rattle.std.proofs.Common.{◌≡◌, ◌∙◌, sym, ap, subst, ℕ, ◌+◌, ◌^◌, ◌<◌, ◌≤◌, List, [], length, arith, Some, None, ℤ, pos, negsuc, FitsSigned}
 use Rattle.std.specs.Int.{w128}
 use Rattle.rasn_constraints.specs.Bounds.{above}
-use Rattle.rasn_types.specs.Bits.{Bits}
-use Rattle.rasn_types.specs.Octets.{signed}
-use Rattle.per_core.specs.Spellings.{Settings}
+use Rattle.rasn_types.specs.Bits.{Bits, signed}
+use Rattle.per_core.specs.Spellings.{Settings, Took}
 use Rattle.per_core.specs.Basic.{IsUnconstrainedWhole, IsSemiConstrainedWhole, Octets, constrained_form}
-use Rattle.per_core.specs.Took.{Took}
 use Rattle.per_core.proofs.LengthForms.{same_octets}
 use Rattle.per_core.proofs.Took.{took_agree, took_map}
-use Rattle.per_read.specs.Numbers.{IsAbove, OfRead, under_bounds}
+use Rattle.per_read.specs.Numbers.{IsAbove, OfRead}
+use Rattle.per_core.specs.NumberFaults.{under_bounds}
 use Rattle.per_read.specs.declared.numbers.ReadNumber.{ReadNumber}
 use Rattle.per_read.specs.declared.numbers.ReadNumber.TheVariants.{Held, Below, Above}
 use Rattle.per_read.proofs.Above.{far_above}

@@ -1,17 +1,10 @@
 -- How the contents of an open type end (X.691 11.1, 11.2).
-use Rattle.std.specs.Prelude.{◌≡◌, ℕ, List, length, Result, OnOk, IfErr}
+use Rattle.std.specs.Prelude.{ℕ, List, length, Result, OnOk, IfErr}
 use Rattle.rasn_types.specs.Bits.{Bits, unpack}
-use Rattle.per_core.specs.Ends.{Ends}
-use Rattle.per_bits.specs.Surpluses.{IsWhy}
-use Rattle.per_core.specs.Spellings.{Settings, Spelling}
-use Rattle.per_core.specs.Took.{Took}
-use Rattle.rasn_constraints.specs.Counts.{count_of}
-use Rattle.per_bits.specs.declared.ended.Surplus.{Surplus}
-use Rattle.per_bits.specs.declared.ended.Surplus.TheVariants.{Missing, NonzeroOctet, NonzeroSpareBits, ExtraOctets}
+use Rattle.per_core.specs.Ends.{Ends, IsOfEnd}
+use Rattle.per_core.specs.Spellings.{Settings, Spelling, Took}
 use Rattle.per_read.specs.State.{State, settings_of}
-use Rattle.per_read.specs.declared.error.DecodeErrorKind.{DecodeErrorKind}
-use Rattle.per_read.specs.declared.error.DecodeErrorKind.TheVariants.{Incomplete, ParserFail, UnexpectedExtraData}
-use Rattle.per_read.specs.declared.error.ParserFailCause.TheVariants.{NonzeroEmptyValue, NonzeroPadding}
+use Rattle.per_core.specs.declared.decode_error.DecodeErrorKind.{DecodeErrorKind}
 
 -- X.691 11.1: what is left of n bits behind a value ends a complete encoding, in zero bits where the settings ask for
 -- them
@@ -23,19 +16,6 @@ pub record IsWhole (a : Settings) (f : Spelling) (octets : List ℕ) : Type 0 wh
   pub left : Bits
   pub took : Took f (unpack octets) left
   pub ends : EndsAs a left (length (unpack octets))
-
--- the kind of a refusal that says why
-abbrev pub kind_of : Surplus → DecodeErrorKind
-kind_of (Missing bits) = Incomplete (count_of bits)
-kind_of NonzeroOctet = ParserFail NonzeroEmptyValue
-kind_of NonzeroSpareBits = ParserFail NonzeroPadding
-kind_of (ExtraOctets octets) = UnexpectedExtraData (count_of octets)
-
--- why bits don't end a complete encoding, as a kind says it
-pub record IsOfEnd (a : Settings) (left : Bits) (n : ℕ) (k : DecodeErrorKind) : Type 0 where
-  pub why : Surplus
-  pub names : k ≡ kind_of why
-  pub is_why : IsWhy a.strict left n why
 
 -- Ok comes exactly where what is left of n bits ends a complete encoding, and Err says why it doesn't.
 pub record EndsOpen (x : State) (n : ℕ) (result : Result (Unit {0}) DecodeErrorKind) : Type 0 where

@@ -1,15 +1,12 @@
 -- Numbers in few octets, which are read as one field (X.691 11.3, 11.4).
 use Rattle.std.specs.Prelude.{◌≡◌, ◌<◌, ◌≤◌, ℕ, List, length, Option, Some, None, Result, IfOk, IfErr}
-use Rattle.rasn_types.specs.Bits.{Bits}
-use Rattle.rasn_types.specs.Octets.{unsigned}
+use Rattle.rasn_types.specs.Bits.{Bits, unsigned}
 use Rattle.per_core.specs.Basic.{Octets, OneByOne, octet}
-use Rattle.per_core.specs.Spellings.{Settings, Field, Then}
-use Rattle.per_core.specs.Took.{Took}
+use Rattle.per_core.specs.Spellings.{Settings, Field, Then, Took, NoneIn}
 use Rattle.per_core.specs.Writers.{pad}
-use Rattle.per_read.specs.Fields.{IsOfUnconstrained}
-use Rattle.per_read.specs.Kinds.{NoneIn}
+use Rattle.per_core.specs.FieldFaults.{IsOfUnconstrained}
 use Rattle.per_read.specs.State.{State, settings_of}
-use Rattle.per_read.specs.declared.error.DecodeErrorKind.{DecodeErrorKind}
+use Rattle.per_core.specs.declared.decode_error.DecodeErrorKind.{DecodeErrorKind}
 use Rattle.per_read.specs.declared.few_octets.FewOctets.{FewOctets}
 
 -- the octets of a field, from 1 to 16

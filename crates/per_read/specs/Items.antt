@@ -4,20 +4,16 @@ use Rattle.std.specs.Prelude.{◌≡◌, ◌<◌, ◌≤◌, ◌+◌, ◌*◌, �
 use Rattle.std.specs.Prelude.{IfErr}
 use Rattle.rasn_types.specs.Bits.{Bits}
 use Rattle.rasn_constraints.specs.Bounds.{Size, any_size}
-use Rattle.per_core.specs.Basic.{OneByOne, Sized, Counted}
-use Rattle.per_core.specs.Spellings.{Settings, Spelling, Field, When}
-use Rattle.per_core.specs.Took.{Took}
-use Rattle.per_read.specs.Fields.{IsOfField}
-use Rattle.per_read.specs.Kinds.{Faulty, NoneIn}
+use Rattle.per_core.specs.Basic.{OneByOne, Sized}
+use Rattle.per_core.specs.Spellings.{Settings, Spelling, When, Took, NoneIn}
+use Rattle.per_core.specs.FieldFaults.{IsOfField}
+use Rattle.per_read.specs.Kinds.{Faulty}
 use Rattle.per_read.specs.State.{State, settings_of}
 use Rattle.per_read.specs.Takes.{Reason}
-use Rattle.per_read.specs.declared.error.DecodeErrorKind.{DecodeErrorKind}
+use Rattle.per_core.specs.declared.decode_error.DecodeErrorKind.{DecodeErrorKind}
 use Rattle.per_core.specs.declared.items.Item.{Item}
-use Rattle.per_core.specs.Items.{counted_of, bits_of}
-
--- an item, by its code
-abbrev pub coded : Item → ℕ → Spelling
-coded i = Field (bits_of i)
+use Rattle.per_core.specs.Counts.{counted_of, bits_of}
+use Rattle.per_core.specs.Lengths.{coded}
 
 -- X.691 11.9.3.5 to 11.9.3.8: items behind an unconstrained length, as many as can be counted
 abbrev pub unconstrained_items : Settings → Item → List ℕ → Spelling
@@ -30,10 +26,6 @@ sized_items a size i = Sized a size (counted_of i) (coded i)
 -- fewer than n items
 abbrev pub items_below : {X : Type 0} → ℕ → (List X → Spelling) → List X → Spelling
 items_below n form xs = When (length xs < n) (form xs)
-
--- X.691 16, 17, 30.5: items under a size constraint
-abbrev pub counted_items : Settings → Size → Bool → Item → List ℕ → Spelling
-counted_items a size mark i = Counted a size mark (counted_of i) (coded i)
 
 -- items were appended: what was held before, since any start, is held with these behind it
 pub record Adds {C : Type 0} (holds : C → C → List ℕ → Type 0) (before : C) (codes : List ℕ) (after : C) : Type 0 where

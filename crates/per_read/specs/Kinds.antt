@@ -1,17 +1,10 @@
 -- Refusals by their kinds.
 use Rattle.std.specs.Prelude.{◌≡◌, ◌⊎◌, ◌<◌}
-use Rattle.rasn_types.specs.Bits.{Bits}
-use Rattle.per_core.specs.Spellings.{Spelling}
-use Rattle.per_core.specs.Took.{Took}
-use Rattle.rasn_constraints.specs.Counts.{number_of}
-use Rattle.per_read.specs.declared.error.DecodeErrorKind.{DecodeErrorKind}
-use Rattle.per_read.specs.declared.error.DecodeErrorKind.TheVariants.{Incomplete, ParserFail, ExceedsMaxLength}
-use Rattle.per_read.specs.declared.error.DecodeErrorKind.TheVariants.{OutOfMemory}
-use Rattle.per_read.specs.declared.error.ParserFailCause.TheVariants.{NonzeroEmptyValue}
-
--- nothing stands in some form at the front of bits
-abbrev pub NoneIn : {X : Type 0} → (X → Spelling) → Bits → Type 0
-NoneIn {X} form s = (x : X) (t : Bits) → Took (form x) s t → ⊥
+use Rattle.rasn_constraints.specs.Bounds.{number_of}
+use Rattle.per_core.specs.declared.decode_error.DecodeErrorKind.{DecodeErrorKind}
+use Rattle.per_core.specs.declared.decode_error.DecodeErrorKind.TheVariants.{Incomplete, ParserFail, ExceedsMaxLength}
+use Rattle.per_core.specs.declared.decode_error.DecodeErrorKind.TheVariants.{OutOfMemory}
+use Rattle.per_core.specs.declared.decode_error.ParserFailCause.TheVariants.{NonzeroEmptyValue}
 
 -- Kinds of which little is stated: a field that isn't there lacks a bit at least, and of a value of no bits nothing is
 -- said but at the end of an encoding. That they come where they should is tested.

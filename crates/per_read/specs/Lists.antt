@@ -8,14 +8,11 @@ use Rattle.rasn_constraints.specs.Constraints.{start_of, end_of, size_between}
 use Rattle.rasn_schema.specs.Schemas.{Schema}
 use Rattle.per_core.specs.Basic.{Counted, UnconstrainedLength, basic}
 use Rattle.per_core.specs.Counts.{list_items}
-use Rattle.per_core.specs.Spellings.{Settings, Spelling, Then, exactly, never}
-use Rattle.per_core.specs.Took.{Took}
-use Rattle.per_read.specs.InLists.{IsOfList, IsOfOpening}
-use Rattle.per_read.specs.Kinds.{NoneIn}
-use Rattle.per_read.specs.Sizes.{Miscounted}
+use Rattle.per_core.specs.Spellings.{Settings, Spelling, Then, exactly, never, Took, NoneIn}
+use Rattle.per_core.specs.SizeFaults.{IsOfList, IsOfOpening, Miscounted}
 use Rattle.per_read.specs.State.{State, settings_of}
-use Rattle.per_read.specs.UpTo.{LengthUpTo, UpTo, UpToUnconstrained, WholeFragments}
-use Rattle.per_read.specs.declared.error.DecodeErrorKind.{DecodeErrorKind}
+use Rattle.per_core.specs.Lengths.{LengthUpTo, UpTo, UpToUnconstrained, WholeFragments}
+use Rattle.per_core.specs.declared.decode_error.DecodeErrorKind.{DecodeErrorKind}
 use Rattle.per_read.specs.declared.lists.UnreadElements.{UnreadElements}
 
 -- how lists are spelled: the settings, their size, whether that is extensible, and how an item is spelled

@@ -1,10 +1,9 @@
 -- Open types as they are read (X.691 11.2).
 use Rattle.std.specs.Prelude.{◌≡◌, ℕ, List}
 use Rattle.rasn_types.specs.Bits.{Bits, unpack}
-use Rattle.per_core.specs.Basic.{Open}
 use Rattle.per_core.specs.Spellings.{Settings, Spelling}
-use Rattle.per_read.specs.Lengths.{LengthOf}
-use Rattle.per_read.specs.declared.lengths.Length.TheVariants.{Fragment}
+use Rattle.per_core.specs.Lengths.{LengthOf}
+use Rattle.per_core.specs.declared.lengths.Length.TheVariants.{Fragment}
 use Rattle.per_read.specs.Stands.{LastTaken}
 use Rattle.per_read.specs.declared.open_types.Contents.{Contents}
 use Rattle.per_read.specs.declared.open_types.Contents.TheVariants.{InPlace, Gathered}
@@ -23,7 +22,3 @@ pub record HasOctets (s t : Bits) (P : List ℕ → Type 0) (contents : Contents
 -- X.691 11.9.3.8: padding and the length of a fragment of n items
 abbrev pub fragments_of : Settings → ℕ → Spelling
 fragments_of a n = LengthOf a (Fragment n)
-
--- X.691 11.2: an open type of any octets
-abbrev pub skipped_open : Settings → Unit {0} → Spelling
-skipped_open a u = Open a (λ octets. Unit {0})

@@ -1,5 +1,5 @@
 -- What a reader is told, as the grammar has it.
-use Rattle.rasn_types.specs.Codecs.{variant_of}
+use Rattle.rasn_types.specs.Variants.{variant_of}
 use Rattle.per_core.specs.Spellings.{Settings}
 use Rattle.per_read.specs.declared.ReaderOptions.{ReaderOptions}
 

@@ -1,11 +1,10 @@
 -- Why a call refuses that gathers what stands in fragments.
 use Rattle.std.specs.Prelude.{◌≡◌, ◌⊎◌, ℕ}
 use Rattle.rasn_types.specs.Bits.{Bits}
-use Rattle.per_core.specs.Spellings.{Settings, Spelling}
-use Rattle.per_core.specs.Took.{Took}
-use Rattle.per_read.specs.Fields.{Says}
+use Rattle.per_core.specs.Spellings.{Settings, Spelling, Took}
+use Rattle.per_core.specs.FieldFaults.{Says}
 use Rattle.per_read.specs.Takes.{Reason}
-use Rattle.per_read.specs.declared.error.DecodeErrorKind.TheVariants.{OutOfMemory}
+use Rattle.per_core.specs.declared.decode_error.DecodeErrorKind.TheVariants.{OutOfMemory}
 
 -- the length of a first fragment of so many items is at the front of bits
 pub record IsFragmented (form : ℕ → Spelling) (s : Bits) : Type 0 where

@@ -1,8 +1,7 @@
 -- What isn't read of bits that end early.
 use Rattle.std.specs.Prelude.{◌≡◌, ◌%◌, ◌<◌, ◌++◌, ℕ, length}
 use Rattle.rasn_types.specs.Bits.{Bits}
-use Rattle.per_core.specs.Spellings.{Spelling}
-use Rattle.per_read.specs.Kinds.{NoneIn}
+use Rattle.per_core.specs.Spellings.{Spelling, NoneIn}
 
 -- nothing stands in some form at the front of bits, nor of what goes on from them with fewer than m further bits, which
 -- are whole octets

@@ -1,16 +1,14 @@
 -- Numbers without sign that are read octet by octet, and normally small numbers (X.691 11.6, 11.7).
-use Rattle.std.specs.Prelude.{◌≡◌, ◌<◌, ◌≤◌, ◌*◌, ◌^◌, ℕ, true, [], ◌∷◌, List, Option, Some, None, length, Result, OnOk}
-use Rattle.std.specs.Prelude.{IfErr}
-use Rattle.rasn_types.specs.Bits.{Bits}
-use Rattle.rasn_types.specs.Octets.{unsigned}
-use Rattle.per_core.specs.Basic.{IsSemiConstrainedWhole, Marked, Octets, OneByOne, octet}
-use Rattle.per_core.specs.Spellings.{Settings, Spelling, Then, Field, exactly}
-use Rattle.per_core.specs.Took.{Took}
+use Rattle.std.specs.Prelude.{◌≡◌, ◌<◌, ◌≤◌, ◌*◌, ◌^◌, ℕ, true, List, Option, Some, None, length, Result, OnOk, IfErr}
+use Rattle.rasn_types.specs.Bits.{Bits, unsigned}
+use Rattle.per_core.specs.Basic.{OneByOne, octet}
+use Rattle.per_core.specs.Spellings.{Settings, Took}
 use Rattle.per_read.specs.Items.{TookItems}
-use Rattle.per_read.specs.Fields.{IsOfField, IsOfMarked, IsOfUnconstrained}
+use Rattle.per_core.specs.FieldFaults.{IsOfField, IsOfMarked, IsOfUnconstrained}
 use Rattle.per_read.specs.State.{State}
-use Rattle.per_read.specs.declared.error.DecodeErrorKind.{DecodeErrorKind}
-use Rattle.per_read.specs.declared.error.DecodeErrorKind.TheVariants.{UnexpectedEmptyInput}
+use Rattle.per_core.specs.declared.decode_error.DecodeErrorKind.{DecodeErrorKind}
+use Rattle.per_core.specs.declared.decode_error.DecodeErrorKind.TheVariants.{UnexpectedEmptyInput}
+use Rattle.per_core.specs.NumberFaults.{empty_form}
 
 -- X.691 11.3: a number is what octets mean without sign; none stands for one past 64 bits
 abbrev pub Means : Option ℕ → List ℕ → Type 0
@@ -32,14 +30,6 @@ pub record AppendsOctets (n : ℕ) (before : Option ℕ) (x : State) (result : R
 abbrev pub OfIndex : (ℕ → Type 0) → Option ℕ → Type 0
 OfIndex P (Some n) = P n
 OfIndex P None = (n : ℕ) × (2 ^ 64 ≤ n) × P n
-
--- X.691 11.6: a normally small number in either form, also where an i128 doesn't hold it
-abbrev pub small_form : Settings → ℕ → Spelling
-small_form a = Marked true (Field 6) (IsSemiConstrainedWhole a)
-
--- X.691 11.6: the large form of no octets
-abbrev pub empty_form : Settings → Spelling
-empty_form a = Then (exactly (true ∷ [])) (Octets a [])
 
 -- what a kind says of a normally small number
 abbrev pub IsOfSmall : Settings → Bits → DecodeErrorKind → Type 0

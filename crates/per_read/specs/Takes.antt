@@ -1,12 +1,11 @@
 -- What a reading call takes off the front of the bits left, and why it refuses.
 use Rattle.std.specs.Prelude.{◌≡◌, ℕ, length, Result, IfOk, IfErr}
 use Rattle.rasn_types.specs.Bits.{Bits}
-use Rattle.per_core.specs.Spellings.{Settings, Spelling, When, exactly}
-use Rattle.per_core.specs.Took.{Took}
-use Rattle.per_read.specs.Fields.{IsOfField}
-use Rattle.per_read.specs.Kinds.{IsTested, NoneIn, Refused, Faulty}
+use Rattle.per_core.specs.Spellings.{Settings, Spelling, When, exactly, Took, NoneIn}
+use Rattle.per_core.specs.FieldFaults.{IsOfField}
+use Rattle.per_read.specs.Kinds.{IsTested, Refused, Faulty}
 use Rattle.per_read.specs.State.{State, settings_of}
-use Rattle.per_read.specs.declared.error.DecodeErrorKind.{DecodeErrorKind}
+use Rattle.per_core.specs.declared.decode_error.DecodeErrorKind.{DecodeErrorKind}
 
 -- why a call refuses, where a fact holds of the bits left
 abbrev pub Reason : Type 1

@@ -7,9 +7,9 @@ ghost use Rattle.rasn_types.specs.Values.{Value};
 ghost use Rattle.rasn_schema.specs.Orders.{ordered};
 ghost use Rattle.rasn_schema.specs.Schemas.{Order, Parts, Presence, Schema, tags};
 ghost use Rattle.per_core.specs.Basic.{Additions, Record, Octets, OpenOf, Unknown, basic, rules};
-ghost use Rattle.per_core.specs.Spellings.{Settings};
-ghost use Rattle.per_core.specs.Took.{Took};
-ghost use Rattle.per_read.specs.Additions.{FirstAddition, IsExtended, IsPlain, NextFlag, rule_of};
+ghost use Rattle.per_core.specs.Spellings.{Settings, Took};
+ghost use Rattle.per_read.specs.Additions.{FirstAddition, IsExtended, IsPlain};
+ghost use Rattle.per_core.specs.AdditionFaults.{NextFlag, rule_of};
 ghost use Rattle.per_read.specs.Ends.{IsWhole};
 
 /// Where octets were taken, they are an open type of a value exactly where the value is read of them and what is left

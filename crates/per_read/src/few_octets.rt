@@ -1,12 +1,10 @@
 //! Numbers in few octets, which are read as one field and take no memory (X.691 11.3, 11.4).
 
 ghost use Rattle.std.specs.Prelude.{◌≡◌, ◌≤◌, ◌↔◌, ◌++◌, ℕ, List, None, IsTrue, take, replicate, false};
-ghost use Rattle.rasn_types.specs.Bits.{number_of};
-ghost use Rattle.rasn_types.specs.Octets.{signed};
-ghost use Rattle.per_core.specs.Took.{place};
+ghost use Rattle.rasn_types.specs.Bits.{number_of, signed};
+ghost use Rattle.per_core.specs.Spellings.{place, NoneIn};
 ghost use Rattle.per_core.specs.Writers.{pad};
 ghost use Rattle.per_read.specs.FewOctets.{AreOctetsOf, AtOnce, OfFew, TakesFew};
-ghost use Rattle.per_read.specs.Kinds.{NoneIn};
 ghost use Rattle.per_read.specs.State.{settings_of};
 
 use crate::Reader;

@@ -3,9 +3,9 @@
 ghost use Rattle.std.specs.Prelude.{◌≡◌, ◌<◌, ◌*◌, [], ◌∷◌, length};
 ghost use Rattle.per_core.specs.Basic.{IsSemiConstrainedWhole, Octets, OneByOne, octet as an_octet};
 ghost use Rattle.per_core.specs.Spellings.{Settings};
-ghost use Rattle.per_read.specs.Fields.{IsOfUnconstrained};
+ghost use Rattle.per_core.specs.FieldFaults.{IsOfUnconstrained};
 ghost use Rattle.per_read.specs.Items.{Adds, TakesItems, TookItems};
-ghost use Rattle.per_read.specs.Numbers.{IsOfOctets};
+ghost use Rattle.per_core.specs.NumberFaults.{IsOfOctets};
 ghost use Rattle.per_read.specs.SmallNumbers.{AppendsOctets, MeansSince, OfIndex};
 ghost use Rattle.per_read.specs.Takes.{Takes, telling};
 

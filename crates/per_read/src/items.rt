@@ -7,9 +7,10 @@ ghost use Rattle.rasn_types.specs.Alphabets.{has, char_width};
 ghost use Rattle.rasn_types.specs.Bits.{to_bits};
 ghost use Rattle.per_bits.specs.Octets.{low_bits_of};
 ghost use Rattle.per_core.specs.Basic.{OneByOne};
-ghost use Rattle.per_core.specs.Items.{bits_of};
+ghost use Rattle.per_core.specs.Counts.{bits_of};
 ghost use Rattle.per_core.specs.declared.items.Item.TheVariants.{Octet, Bit, Character};
-ghost use Rattle.per_read.specs.Items.{coded, bit_code, Adds, TookItems, Collects};
+ghost use Rattle.per_core.specs.Lengths.{coded};
+ghost use Rattle.per_read.specs.Items.{bit_code, Adds, TookItems, Collects};
 ghost use Rattle.per_read.specs.Strings.{AreRead};
 
 use crate::Reader;

@@ -1,42 +1,15 @@
 //! Counts in front of items: unconstrained lengths and the padding before them (X.691 11.9.3.5 to 11.9.3.8).
 
-ghost use Rattle.std.specs.Prelude.{◌≡◌};
 ghost use Rattle.per_core.specs.Spellings.{AnyPadding};
-ghost use Rattle.per_read.specs.Fields.{IsOfCount, IsOfLength, IsOfPadding};
-ghost use Rattle.per_read.specs.Lengths.{LengthOf, CountOf, count_of, is_followed};
+ghost use Rattle.per_core.specs.FieldFaults.{IsOfCount, IsOfLength, IsOfPadding};
+ghost use Rattle.per_core.specs.Lengths.{LengthOf, CountOf};
 ghost use Rattle.per_read.specs.Takes.{Takes, alone, itself, telling};
 
 use crate::Reader;
 use crate::error::{DecodeErrorKind, ParserFailCause};
 use per_core::lengths::FRAGMENT;
+pub use per_core::lengths::Length;
 use rasn_types::types::Codec;
-
-/// How many items follow a length.
-#[derive(Clone, Copy)]
-pub enum Length {
-    /// The last items.
-    Last(u128),
-    /// 16384, 32768, 49152 or 65536 items, which a further length follows.
-    Fragment(u128),
-}
-
-impl Length {
-    /// How many items follow.
-    pub fn count(self) -> u128
-        ensures { result ≡ count_of self }
-    {
-        match self {
-            Length::Last(count) | Length::Fragment(count) => count,
-        }
-    }
-
-    /// Whether a further length stands behind them.
-    pub fn is_followed(self) -> bool
-        ensures { result ≡ is_followed self }
-    {
-        matches!(self, Length::Fragment(_))
-    }
-}
 
 impl Reader<'_> {
     /// Takes the padding before what begins on an octet in the aligned variant: the bits that are left beyond whole

@@ -6,7 +6,7 @@
 ghost use Rattle.std.specs.Prelude.{◌≡◌, ◌≤◌};
 ghost use Rattle.per_core.specs.Basic.{Octets, bit};
 ghost use Rattle.per_core.specs.Spellings.{Field};
-ghost use Rattle.per_read.specs.Fields.{IsOfUnconstrained};
+ghost use Rattle.per_core.specs.FieldFaults.{IsOfUnconstrained};
 ghost use Rattle.per_read.specs.Takes.{Front, Takes, itself, lacking, memory_or};
 
 pub mod addition_laws;

@@ -1,17 +1,16 @@
 //! Whole numbers as their bounds have them written, before these bounds are asked (X.691 11.5, 11.7, 11.8 and 13.2).
 
 ghost use Rattle.std.specs.Prelude.{◌≡◌, ◌+◌, ◌/◌, ◌^◌, ◌<◌, ◌≤◌, Some, None, Ok, MatchOption, IfOk, IfSome};
-ghost use Rattle.rasn_types.specs.Octets.{signed, unsigned};
+ghost use Rattle.rasn_types.specs.Bits.{signed, unsigned};
 ghost use Rattle.rasn_types.specs.Variants.{aligned};
 ghost use Rattle.rasn_constraints.specs.Bounds.{above};
 ghost use Rattle.per_core.specs.Basic.{InOctets, IsSemiConstrainedWhole, IsUnconstrainedWhole, constrained_by};
 ghost use Rattle.per_core.specs.Basic.{constrained_form};
-ghost use Rattle.per_core.specs.Spellings.{Settings, Field};
-ghost use Rattle.per_read.specs.Fields.{IsOfPadded};
-ghost use Rattle.per_read.specs.Numbers.{OfNatural, OfRead, IsAbove, IsOfOctets, IsOfForm, padded_field, count_width};
-ghost use Rattle.per_read.specs.Numbers.{IsOfConstrained, IsOfConstrainedBy, IsOfCounted};
-ghost use Rattle.per_read.specs.Numbers.{between_in_field, in_one_field, under_bounds};
-ghost use Rattle.per_read.specs.Kinds.{NoneIn};
+ghost use Rattle.per_core.specs.Spellings.{Settings, Field, NoneIn};
+ghost use Rattle.per_core.specs.FieldFaults.{IsOfPadded};
+ghost use Rattle.per_read.specs.Numbers.{OfNatural, OfRead, IsAbove, padded_field, between_in_field, in_one_field};
+ghost use Rattle.per_core.specs.NumberFaults.{IsOfOctets, IsOfForm, count_width, IsOfConstrained, IsOfConstrainedBy};
+ghost use Rattle.per_core.specs.NumberFaults.{IsOfCounted, under_bounds};
 ghost use Rattle.per_read.specs.State.{settings_of};
 ghost use Rattle.per_read.specs.Takes.{Takes, itself, lacking, memory_or, telling, tested};
 

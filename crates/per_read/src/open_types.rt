@@ -3,10 +3,12 @@
 ghost use Rattle.std.specs.Prelude.{◌≡◌, ◌%◌, ◌≤◌, length};
 ghost use Rattle.per_core.specs.Basic.{Octets};
 ghost use Rattle.per_core.specs.Spellings.{Settings};
-ghost use Rattle.per_read.specs.Fields.{IsOfUnconstrained};
+ghost use Rattle.per_core.specs.FieldFaults.{IsOfUnconstrained};
 ghost use Rattle.per_read.specs.Takes.{Takes, itself, telling};
-ghost use Rattle.per_read.specs.OpenTypes.{HasOctets, fragments_of, skipped_open};
-ghost use Rattle.per_read.specs.Ends.{EndsOpen, kind_of};
+ghost use Rattle.per_read.specs.OpenTypes.{HasOctets, fragments_of};
+ghost use Rattle.per_core.specs.AdditionFaults.{skipped_open};
+ghost use Rattle.per_read.specs.Ends.{EndsOpen};
+ghost use Rattle.per_core.specs.Ends.{kind_of};
 ghost use Rattle.per_read.specs.Reasons.{gathering};
 
 use crate::Reader;

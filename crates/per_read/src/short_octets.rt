@@ -5,11 +5,11 @@ ghost use Rattle.rasn_constraints.specs.Constraints.{size_between};
 ghost use Rattle.rasn_schema.specs.Forms.{size_of, is_size_marked};
 ghost use Rattle.per_core.specs.Basic.{Counted, octet};
 ghost use Rattle.per_core.specs.Counts.{octet_items};
-ghost use Rattle.per_core.specs.Spellings.{Settings};
+ghost use Rattle.per_core.specs.Spellings.{Settings, NoneIn};
 ghost use Rattle.per_core.specs.declared.items.Item.TheVariants.{Octet};
 ghost use Rattle.per_read.specs.Items.{HasCount, items_below, sized_items, unconstrained_items};
-ghost use Rattle.per_read.specs.Kinds.{NoneIn};
-ghost use Rattle.per_read.specs.Sizes.{IsOfItems, items_between, items_under, unfragmented};
+ghost use Rattle.per_core.specs.SizeFaults.{IsOfItems};
+ghost use Rattle.per_read.specs.Sizes.{items_between, items_under, unfragmented};
 ghost use Rattle.per_read.specs.State.{settings_of};
 ghost use Rattle.per_read.specs.Takes.{Takes, memory_or, stopped};
 

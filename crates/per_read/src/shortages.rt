@@ -3,22 +3,20 @@
 ghost use Rattle.std.specs.Prelude.{ℕ, List, Bool};
 ghost use Rattle.rasn_types.specs.Bits.{Bits};
 ghost use Rattle.rasn_types.specs.Contents.{TextKind, is_text};
-ghost use Rattle.rasn_constraints.specs.Bounds.{Bounds, Size};
-ghost use Rattle.rasn_constraints.specs.Counts.{number_of};
+ghost use Rattle.rasn_constraints.specs.Bounds.{Bounds, Size, number_of};
 ghost use Rattle.rasn_constraints.specs.declared.count.Count.{Count};
 ghost use Rattle.per_core.specs.Basic.{Counted, IsBitmap, IsNumberOf, Octets, Proper, String, bit, constrained_form};
 ghost use Rattle.per_core.specs.Basic.{octet};
 ghost use Rattle.per_core.specs.Counts.{bit_items, octet_items};
 ghost use Rattle.per_core.specs.Spellings.{Field, Settings};
 ghost use Rattle.per_core.specs.declared.items.Item.TheVariants.{Bit, Octet};
-ghost use Rattle.per_read.specs.Bitmaps.{IsOfBitmap};
-ghost use Rattle.per_read.specs.Fields.{IsOfField, IsOfLength, IsOfUnconstrained};
-ghost use Rattle.per_read.specs.Lengths.{LengthOf};
-ghost use Rattle.per_read.specs.Numbers.{IsOfConstrained, IsOfNumber};
+ghost use Rattle.per_core.specs.AdditionFaults.{IsOfBitmap};
+ghost use Rattle.per_core.specs.FieldFaults.{IsOfField, IsOfLength, IsOfUnconstrained};
+ghost use Rattle.per_core.specs.Lengths.{LengthOf};
+ghost use Rattle.per_core.specs.NumberFaults.{IsOfConstrained, IsOfNumber};
 ghost use Rattle.per_read.specs.Shortages.{NoneWithin};
-ghost use Rattle.per_read.specs.Sizes.{IsOfItems};
-ghost use Rattle.per_read.specs.Strings.{IsOfString, IsOfText};
-ghost use Rattle.per_read.specs.declared.error.DecodeErrorKind.TheVariants.{Incomplete};
+ghost use Rattle.per_core.specs.SizeFaults.{IsOfItems, IsOfString, IsOfText};
+ghost use Rattle.per_core.specs.declared.decode_error.DecodeErrorKind.TheVariants.{Incomplete};
 
 /// Where bits end within a field, a length, a constrained whole number or octets behind a length, none of them is read,
 /// nor with fewer further bits than are said to be missing, in whole octets (X.691 11.3, 11.5, 11.9).

@@ -1,6 +1,7 @@
 //! Normally small non-negative whole numbers (X.691 11.6).
 
-ghost use Rattle.per_read.specs.SmallNumbers.{IsOfSmall, OfIndex, small_form};
+ghost use Rattle.per_read.specs.SmallNumbers.{IsOfSmall, OfIndex};
+ghost use Rattle.per_core.specs.NumberFaults.{small_form};
 ghost use Rattle.per_read.specs.Takes.{Takes, telling};
 
 use crate::Reader;

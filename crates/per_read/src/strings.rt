@@ -9,8 +9,7 @@ ghost use Rattle.per_core.specs.Counts.{octet_items, bit_items};
 ghost use Rattle.per_core.specs.Spellings.{Settings};
 ghost use Rattle.per_core.specs.declared.items.Item.TheVariants.{Octet, Bit};
 ghost use Rattle.per_read.specs.Items.{HasCount};
-ghost use Rattle.per_read.specs.Sizes.{IsOfItems};
-ghost use Rattle.per_read.specs.Strings.{IsOfString, IsOfText};
+ghost use Rattle.per_core.specs.SizeFaults.{IsOfItems, IsOfString, IsOfText};
 ghost use Rattle.per_read.specs.Takes.{Takes, memory_or, itself};
 
 use crate::Reader;

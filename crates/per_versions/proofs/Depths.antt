@@ -16,7 +16,7 @@ use Rattle.per_laws.proofs.Wider.{wider, narrower}
 use Rattle.per_laws.proofs.FewVersions.{levelled_holds}
 use Rattle.per_laws.proofs.Levelled.{levelled_type_unfolds}
 use Rattle.per_laws.proofs.NormalForms.{one_normal_form}
-use Rattle.rasn_per.specs.Complete.{AreBytes, HasNoBytes}
+use Rattle.rasn_per.specs.Calls.{AreBytes, HasNoBytes}
 use Rattle.per_versions.specs.Readings.{depth_of, normal_form, IsProjection, IsWidening}
 
 -- one type

@@ -1,11 +1,11 @@
 -- What becomes of a value that was written, by what the reader answered to its octets.
 use Rattle.std.proofs.Common.{ℕ, List, Ok, Err}
-use Rattle.rasn_types.specs.Codecs.{variant_of}
+use Rattle.rasn_types.specs.Variants.{variant_of}
 use Rattle.rasn_types.specs.Values.{Value}
 use Rattle.rasn_types.specs.declared.types.Codec.{Codec}
 use Rattle.rasn_schema.specs.Schemas.{Schema}
-use Rattle.per_read.specs.declared.error.DecodeError.{DecodeError}
-use Rattle.rasn_per.specs.Complete.{AreBytes}
+use Rattle.per_core.specs.declared.decode_error.DecodeError.{DecodeError}
+use Rattle.rasn_per.specs.Calls.{AreBytes}
 use Rattle.per_versions.specs.Answers.{Answers}
 use Rattle.per_versions.specs.Exchanges.{Exchanges}
 use Rattle.per_versions.specs.declared.exchange.ExchangeError.TheVariants.{Decode}

@@ -1,28 +1,32 @@
 -- What was decoded is written, or refused for want of memory.
 use Rattle.std.proofs.Common.{◌≡◌, ◌≢◌, ℕ, ◌+◌, ◌≤◌, List, Vec, Result, Ok, Err, IfErr, true, refl, arith}
-use Rattle.rasn_types.specs.Codecs.{variant_of}
+use Rattle.rasn_types.specs.Variants.{variant_of}
 use Rattle.rasn_types.specs.Values.{Value}
 use Rattle.rasn_types.specs.declared.types.Codec.{Codec}
 use Rattle.rasn_schema.specs.Lawful.{IsLawfulType}
 use Rattle.rasn_schema.specs.Levels.{Levelled}
-use Rattle.rasn_schema.specs.Normal.{normal}
+use Rattle.rasn_schema.specs.Normal.{normal, AtDepths}
 use Rattle.rasn_schema.specs.Schemas.{Schema}
-use Rattle.rasn_schema.specs.AtDepths.{AtDepths}
 use Rattle.per_core.specs.Basic.{read}
 use Rattle.per_core.specs.Spellings.{Settings}
 use Rattle.per_laws.proofs.Readers.{deeper_reads}
 use Rattle.per_laws.proofs.Types.{up_to}
 use Rattle.per_laws.proofs.FewVersions.{levelled_holds}
 use Rattle.per_laws.proofs.Levelled.{levelled_type_unfolds}
-use Rattle.per_write.specs.Faults.{IsInValue}
-use Rattle.per_write.specs.declared.error.EncodeError.{EncodeError}
-use Rattle.per_write.specs.declared.error.EncodeErrorKind.{EncodeErrorKind}
-use Rattle.per_write.specs.declared.error.EncodeErrorKind.TheVariants.{SizeConstraintNotSatisfied, ValueConstraintNotSatisfied, AlphabetConstraintNotSatisfied, IntegerTypeConversionFailed, VariantNotInChoice, RealNotSupported, TooManyAdditions, Below, AlreadyFailed, OutOfMemory, OutOfTurn, WrongKind}
+use Rattle.per_core.specs.WritingFaults.{IsInValue}
+use Rattle.per_core.specs.declared.encode_error.EncodeError.{EncodeError}
+use Rattle.per_core.specs.declared.encode_error.EncodeErrorKind.{EncodeErrorKind}
+use Rattle.per_core.specs.declared.encode_error.EncodeErrorKind.TheVariants.{SizeConstraintNotSatisfied}
+use Rattle.per_core.specs.declared.encode_error.EncodeErrorKind.TheVariants.{ValueConstraintNotSatisfied}
+use Rattle.per_core.specs.declared.encode_error.EncodeErrorKind.TheVariants.{AlphabetConstraintNotSatisfied}
+use Rattle.per_core.specs.declared.encode_error.EncodeErrorKind.TheVariants.{IntegerTypeConversionFailed}
+use Rattle.per_core.specs.declared.encode_error.EncodeErrorKind.TheVariants.{VariantNotInChoice, RealNotSupported}
+use Rattle.per_core.specs.declared.encode_error.EncodeErrorKind.TheVariants.{TooManyAdditions, Below, AlreadyFailed}
+use Rattle.per_core.specs.declared.encode_error.EncodeErrorKind.TheVariants.{OutOfMemory, OutOfTurn, WrongKind}
 use Rattle.per_versions.specs.Kept.{KeepsToI128}
 use Rattle.per_versions.proofs.Faultless.{one_fault, no_fault, read_whole}
 use Rattle.per_versions.proofs.Read.{IsRead}
-use Rattle.rasn_per.specs.Calls.{Encoded}
-use Rattle.rasn_per.specs.Complete.{AreBytes}
+use Rattle.rasn_per.specs.Calls.{Encoded, AreBytes}
 use Rattle.per_versions.specs.Answers.{Passes}
 use Rattle.per_versions.specs.Readings.{depth_of}
 

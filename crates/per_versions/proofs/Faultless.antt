@@ -7,11 +7,11 @@ use Rattle.rasn_types.specs.Bits.{Bits}
 use Rattle.rasn_types.specs.Values.{Value, Side, root, added, whole, truth, nothing, item, octets, bits, characters, elements, fields, alternative, day, bag_of, as_values, as_slots, values, put, sorted, before, code}
 use Rattle.rasn_types.specs.Variants.{Variant}
 use Rattle.rasn_types.proofs.Values.{values-as_values}
-use Rattle.rasn_constraints.specs.Bounds.{allows, holds, not_below, not_above, fits_i128, Bounds, Size, any_size, unbounded}
-use Rattle.rasn_schema.specs.Absent.{no_value}
+use Rattle.rasn_constraints.specs.Bounds.{allows, holds, not_below, not_above, fits_i128, Bounds, Size, any_size}
+use Rattle.rasn_constraints.specs.Bounds.{unbounded, value_of, lower_of, upper_of}
+use Rattle.rasn_schema.specs.Structures.{no_value}
 use Rattle.rasn_schema.specs.Depth.{meets_cut}
 use Rattle.rasn_schema.specs.Lawful.{IsLawful}
-use Rattle.rasn_constraints.specs.ToldBounds.{value_of, lower_of, upper_of}
 use Rattle.per_laws.proofs.Named.{normal_allowed}
 use Rattle.rasn_schema.specs.Normal.{normal, normal_at, normal_bits, over_alternative, over_bag}
 use Rattle.rasn_schema.specs.Schemas
@@ -21,10 +21,19 @@ use Rattle.per_core.specs.Counts.{char_items}
 use Rattle.per_core.specs.Spellings.{Settings}
 use Rattle.per_core.proofs.Counting.{length-map'}
 use Rattle.per_core.proofs.LengthForms.{and_left, and_right}
-use Rattle.per_core.specs.Within.{Each}
-use Rattle.per_write.specs.Faults.{IsInValue, Outside, OutsideSize, IsPast, has_bound, HasForeign, IsOutOfBounds, IsPastBounds, IsOutOfSize, IsForeign, IsUnlawful, IsReal, IsAbsent, IsOther, StandsIn, at_once, in_part, in_addition, in_set, in_contents, in_element, in_member, in_alternative}
-use Rattle.per_write.specs.declared.error.EncodeErrorKind.{EncodeErrorKind}
-use Rattle.per_write.specs.declared.error.EncodeErrorKind.TheVariants.{SizeConstraintNotSatisfied, ValueConstraintNotSatisfied, AlphabetConstraintNotSatisfied, IntegerTypeConversionFailed, VariantNotInChoice, RealNotSupported, TooManyAdditions, Below, AlreadyFailed, OutOfMemory, OutOfTurn, WrongKind}
+use Rattle.per_core.specs.FewItems.{Each}
+use Rattle.per_core.specs.WritingFaults.{IsInValue, Outside, OutsideSize, IsPast, has_bound, HasForeign, IsOutOfBounds}
+use Rattle.per_core.specs.WritingFaults.{IsPastBounds, IsOutOfSize, IsForeign, IsUnlawful, IsReal, IsAbsent, IsOther}
+use Rattle.per_core.specs.WritingFaults.{StandsIn, at_once, in_part, in_addition, in_set, in_contents, in_element}
+use Rattle.per_core.specs.WritingFaults.{in_member, in_alternative}
+use Rattle.per_core.specs.declared.encode_error.EncodeErrorKind.{EncodeErrorKind}
+use Rattle.per_core.specs.declared.encode_error.EncodeErrorKind.TheVariants.{SizeConstraintNotSatisfied}
+use Rattle.per_core.specs.declared.encode_error.EncodeErrorKind.TheVariants.{ValueConstraintNotSatisfied}
+use Rattle.per_core.specs.declared.encode_error.EncodeErrorKind.TheVariants.{AlphabetConstraintNotSatisfied}
+use Rattle.per_core.specs.declared.encode_error.EncodeErrorKind.TheVariants.{IntegerTypeConversionFailed}
+use Rattle.per_core.specs.declared.encode_error.EncodeErrorKind.TheVariants.{VariantNotInChoice, RealNotSupported}
+use Rattle.per_core.specs.declared.encode_error.EncodeErrorKind.TheVariants.{TooManyAdditions, Below, AlreadyFailed}
+use Rattle.per_core.specs.declared.encode_error.EncodeErrorKind.TheVariants.{OutOfMemory, OutOfTurn, WrongKind}
 use Rattle.per_versions.specs.Kept.{starts_in_i128, ends_in_i128, are_in_i128, keeps_numbers, keeps_to_i128}
 use Rattle.per_versions.proofs.Read.{IsGood, IsRead, in_root, in_additions, set_good, set_read, contained_good, contained_read, element_read, member_read, alternative_read}
 use Rattle.per_versions.proofs.OfKinds.{not_other}

@@ -2,7 +2,7 @@
 use Rattle.std.proofs.Common.{◌≡◌, ◌↔◌, refl, sym, ap, ◌∙◌, subst, ℕ, ◌+◌, ◌++◌, length, List, Result, Ok, Err, arith}
 use Rattle.std.specs.Borrow.{Bor}
 use Rattle.std.proofs.lemmas.List.{length-append}
-use Rattle.rasn_types.specs.Codecs.{variant_of}
+use Rattle.rasn_types.specs.Variants.{variant_of}
 use Rattle.rasn_types.specs.Values.{Value}
 use Rattle.rasn_types.specs.declared.types.Codec.{Codec}
 use Rattle.rasn_schema.specs.Schemas.{Schema}
@@ -15,9 +15,8 @@ use Rattle.per_core.proofs.Laws.{one_front, one_value}
 use Rattle.per_laws.proofs.AnyDepth
 use Rattle.per_laws.proofs.Levelled.{levelled_type_unfolds}
 use Rattle.per_laws.proofs.Peers
-use Rattle.per_read.specs.declared.error.DecodeError.{DecodeError}
-use Rattle.rasn_per.specs.Calls.{DecodedFront}
-use Rattle.rasn_per.specs.Complete.{AreBytes, basically}
+use Rattle.per_core.specs.declared.decode_error.DecodeError.{DecodeError}
+use Rattle.rasn_per.specs.Calls.{DecodedFront, AreBytes, basically}
 use Rattle.per_versions.specs.Answers.{AnswersFront}
 use Rattle.per_versions.specs.Readings.{depth_of, normal_form}
 use Rattle.per_versions.proofs.Depths.{is_held, bytes_at}

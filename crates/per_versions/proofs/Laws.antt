@@ -2,9 +2,8 @@
 use Rattle.std.proofs.Common.{◌≡◌, ◌↔◌, sym, ap, ◌∙◌, subst, ℕ, ◌+◌, ◌≤◌, ◌<◌, length, List, Option, Some, None, Result, Ok, Err, Bool, false, arith}
 use Rattle.std.proofs.Math.Nat.{le_refl}
 use Rattle.rasn_types.specs.Bits.{AreOctets}
-use Rattle.rasn_types.specs.Codecs.{variant_of}
+use Rattle.rasn_types.specs.Variants.{variant_of, Variant}
 use Rattle.rasn_types.specs.Values.{Value}
-use Rattle.rasn_types.specs.Variants.{Variant}
 use Rattle.rasn_types.specs.declared.types.Codec.{Codec}
 use Rattle.rasn_schema.specs.Schemas.{Schema}
 use Rattle.rasn_schema.specs.Depth.{meets_cut}
@@ -29,9 +28,8 @@ use Rattle.per_laws.proofs.Depths
 use Rattle.per_laws.proofs.FewVersions.{levelled_holds, few_levels_are_projected, few_levels_are_widened}
 use Rattle.per_laws.proofs.Levelled.{levelled_type_unfolds, few_levels_are_read}
 use Rattle.per_laws.proofs.Peers
-use Rattle.per_read.specs.declared.error.DecodeError.{DecodeError}
-use Rattle.rasn_per.specs.Calls.{DecodedBy}
-use Rattle.rasn_per.specs.Complete.{AreBytes, HasNoBytes, basically, reading}
+use Rattle.per_core.specs.declared.decode_error.DecodeError.{DecodeError}
+use Rattle.rasn_per.specs.Calls.{DecodedBy, AreBytes, HasNoBytes, basically, reading}
 use Rattle.per_versions.specs.Answers.{Answers}
 use Rattle.per_versions.specs.Readings.{AreCanonical, depth_of, normal_form, IsProjection, IsWidening, IsReadBack, IsReadByOlder, IsReadByNewer}
 use Rattle.per_versions.proofs.Depths.{is_held, normal_at, bytes_at, no_bytes_at, projection_at, widening_at}

@@ -1,9 +1,8 @@
 -- What is read of a kind in which no schema stands is written.
 use Rattle.std.proofs.Common.{◌≡◌, refl, sym, subst, ℕ, suc, ◌+◌, ◌-◌, ◌^◌, ◌<◌, ◌≤◌, Bool, true, false, cond, not, ◌&&◌, ◌||◌, leb, [], ◌∷◌, Option, Some, None, ℤ, pos, negsuc, arith, inl, inr, leb-true, lt-ltb}
 use lib.Signed.{le_z}
-use Rattle.rasn_types.specs.Bits.{Bits}
+use Rattle.rasn_types.specs.Bits.{Bits, octets_of_whole, whole_bits}
 use Rattle.rasn_types.specs.Contents.{days_in, is_date}
-use Rattle.rasn_types.specs.Octets.{octets_of_whole, whole_bits}
 use Rattle.rasn_types.specs.Values.{Side, root, added}
 use Rattle.rasn_types.specs.Variants.{Variant}
 use Rattle.rasn_types.proofs.Bits.{width_least}
@@ -15,7 +14,7 @@ use Rattle.per_core.specs.Counts.{counted_octets, marked_form, number_form, numb
 use Rattle.per_core.specs.Spellings.{Settings}
 use Rattle.per_core.specs.Writers.{written_if, Writer}
 use Rattle.per_core.proofs.LengthForms.{and_left, and_right}
-use Rattle.per_write.specs.Faults.{has_bound}
+use Rattle.per_core.specs.WritingFaults.{has_bound}
 use Rattle.per_versions.specs.Kept.{are_in_i128}
 use Rattle.per_versions.proofs.Faultless.{in_i128}
 use Rattle.per_versions.specs.Writable.{is_near, writes_numbers}

@@ -8,19 +8,18 @@ use Rattle.rasn_types.specs.Contents.{is_date}
 use Rattle.rasn_types.specs.Values.{Value, Side, root, added, whole, truth, nothing, item, octets, bits, characters, elements, bag, fields, alternative, day, as_values, as_slots, slots, bag_of}
 use Rattle.rasn_types.specs.Variants.{Variant}
 use Rattle.rasn_types.proofs.Values.{slots-as_slots}
-use Rattle.rasn_schema.specs.Canonised.{canonised, canonised_slots}
+use Rattle.rasn_schema.specs.Orders.{canonised, canonised_slots}
 use Rattle.rasn_schema.specs.Normal.{is_vacant, normal, normal_at, normal_bits, normals, over_alternative, over_bag, settle}
-use Rattle.rasn_schema.specs.Records.{record_value}
+use Rattle.rasn_schema.specs.Structures.{record_value, all_may_be, is_of_kind, may_be}
 use Rattle.rasn_schema.specs.Schemas
 use Rattle.rasn_schema.specs.Schemas.{by_tag, count, default, group, listed, no_parts, optional, part, Parts, Presence, required, Schema}
-use Rattle.rasn_traits.specs.Counted.{all_may_be, is_of_kind, may_be}
 use Rattle.per_core.specs.Basic.{basic_in, Char, Choice, Chosen, IsLeftOut, Item, Rule, rules_in}
 use Rattle.per_core.specs.Counts.{char_items}
 use Rattle.per_core.specs.Spellings.{Settings}
-use Rattle.per_core.specs.Within.{Each}
+use Rattle.per_core.specs.FewItems.{Each}
 use Rattle.per_core.proofs.Readings.{length-rules-in}
 use Rattle.per_core.proofs.SetReadings.{normal_record}
-use Rattle.per_write.specs.Faults.{IsOther}
+use Rattle.per_core.specs.WritingFaults.{IsOther}
 use Rattle.per_write.proofs.OtherKinds.{may_be_ordered}
 use Rattle.per_versions.proofs.Read.{contained_read, IsRead, set_read}
 use Rattle.per_versions.proofs.Spelled.{fields_spelled, lengthy_spelled, open_spelled, SlotSpelled, SlotsSpelled, Somewhere}

@@ -6,7 +6,7 @@ use Rattle.rasn_types.specs.Values.{added, alternative, as_values, bag, bag_of, 
 use Rattle.rasn_types.specs.Variants.{Variant}
 use Rattle.rasn_types.proofs.Values.{values-as_values}
 use Rattle.rasn_constraints.specs.Bounds.{any_size, Size}
-use Rattle.rasn_schema.specs.Choices.{alternative_at, choice_schema}
+use Rattle.rasn_schema.specs.Structures.{alternative_at, choice_schema}
 use Rattle.rasn_schema.specs.Depth.{meets_cut}
 use Rattle.rasn_schema.specs.Lawful.{AreLawful, IsLawful}
 use Rattle.rasn_schema.specs.Normal.{normal, normal_at, normal_bits, over_alternative, over_bag}
@@ -23,7 +23,7 @@ use Rattle.rasn_schema.proofs.Bags.{bag_becomes, some_list}
 use Rattle.per_core.proofs.Counting.{length-map'}
 use Rattle.per_core.proofs.LengthForms.{and_left, and_right}
 use Rattle.per_core.proofs.Readings.{length-rules-in}
-use Rattle.per_core.specs.Within.{Each}
+use Rattle.per_core.specs.FewItems.{Each}
 use Rattle.per_versions.proofs.Faultless.{length-sorted, read_whole}
 use Rattle.per_versions.proofs.Read.{alternative_read, contained_read, IsGood, IsRead, member_read, same_itself}
 use Rattle.per_versions.proofs.Spelled.{all_sorted, open_spelled}

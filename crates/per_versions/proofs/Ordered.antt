@@ -1,10 +1,9 @@
 -- A SET's parts in order are lawful, keep to an i128, and meet no branch that is cut off, where they do as listed.
 use Rattle.std.proofs.Common.{◌≡◌, refl, sym, ◌∙◌, ℕ, zero, suc, Bool, true, false, ◌&&◌, List, [], ◌∷◌, length, Option, Some, None, arith}
 use Rattle.rasn_types.specs.Values.{Value}
-use Rattle.rasn_schema.specs.Canonised.{put_part, canonised, canonised_slots}
+use Rattle.rasn_schema.specs.Orders.{put_part, canonised, canonised_slots, insert_at, how_many_less, by_tags}
 use Rattle.rasn_schema.specs.Depth.{meets_cut, slots_meet_cut, in_slots}
 use Rattle.rasn_schema.specs.Lawful.{AreLawful, IsLawful, IsLawfulPresence, no_groups}
-use Rattle.rasn_schema.specs.Orders.{insert_at, how_many_less, by_tags}
 use Rattle.rasn_schema.specs.Schemas.{TagTree, Presence, required, optional, group, default, Schema, Parts, no_parts, part, smallest, tags, count, listed, by_tag}
 use Rattle.per_core.proofs.LengthForms.{and_left, and_right, or_left, or_right}
 use Rattle.per_core.proofs.Readings.{length-by_tags}

@@ -4,23 +4,21 @@ use Rattle.rasn_types.specs.Bits.{Bits}
 use Rattle.rasn_types.specs.Values.{Value, elements, bag, bag_of, alternative, Side, root, added, as_values, values, as_slots, slots, equal_lists, same, before, code, put, sorted}
 use Rattle.rasn_types.proofs.Values.{values-as_values, slots-as_slots}
 use Rattle.rasn_constraints.specs.Bounds.{Size}
-use Rattle.rasn_schema.specs.Canonised.{canonised, canonised_slots}
-use Rattle.rasn_schema.specs.Choices.{alternative_at, alternative_in, choice_schema}
+use Rattle.rasn_schema.specs.Orders.{canonised, canonised_slots}
+use Rattle.rasn_schema.specs.Structures.{alternative_at, alternative_in, choice_schema, list_value, record_value}
 use Rattle.rasn_schema.specs.Depth.{meets_cut, slots_meet_cut, meets_cut_at, in_slots, any_of, in_alternative}
 use Rattle.rasn_schema.specs.Lawful.{AreLawful, IsLawful, IsLawfulPresence}
-use Rattle.rasn_schema.specs.Lists.{list_value}
 use Rattle.rasn_schema.specs.Normal.{is_vacant, settle, each_slot, over_bag, over_alternative, normal, normals, normal_at}
-use Rattle.rasn_schema.specs.Records.{record_value}
 use Rattle.rasn_schema.specs.Schemas.{TagTree, Presence, required, optional, group, default, Schema, Parts, no_parts, part, listed, by_tag}
 use Rattle.per_core.specs.Basic.{IsLeftOut, Choice, Chosen, basic_in, rules_in}
 use Rattle.per_core.specs.Canon.{shown}
 use Rattle.per_core.specs.Counts.{list_items}
 use Rattle.per_core.specs.Spellings.{Settings}
 use Rattle.per_core.proofs.LengthForms.{and_left, and_right, or_left, or_right}
-use Rattle.per_core.specs.Within.{Each}
+use Rattle.per_core.specs.FewItems.{Each}
 use Rattle.per_core.proofs.SetReadings.{one_record, in_order, read_as_listed, normal_record, normal_in_order}
 use Rattle.per_versions.specs.Kept.{keeps_to_i128, keep_to_i128}
-use Rattle.per_write.specs.Faults.{HasPart, part_here, part_behind, HasElement, element_here, element_behind}
+use Rattle.per_core.specs.WritingFaults.{HasPart, part_here, part_behind, HasElement, element_here, element_behind}
 use Rattle.per_versions.proofs.Ordered.{lawful_in_order, kept_in_order, uncut_ordered}
 use Rattle.per_versions.proofs.Spelled.{Somewhere, lengthy_spelled, open_spelled, SlotSpelled, SlotsSpelled, fields_spelled, all_sorted}
 

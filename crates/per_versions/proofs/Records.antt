@@ -5,13 +5,11 @@ use Rattle.rasn_types.specs.Values.{as_slots, as_values, slots, Value, values}
 use Rattle.rasn_types.specs.Variants.{Variant}
 use Rattle.rasn_types.proofs.Values.{slots-as_slots, values-as_values}
 use Rattle.rasn_constraints.specs.Bounds.{any_size, Size}
-use Rattle.rasn_schema.specs.Canonised.{canonised, canonised_slots, put_part}
+use Rattle.rasn_schema.specs.Orders.{canonised, canonised_slots, put_part, by_tags, how_many_less, insert_at}
 use Rattle.rasn_schema.specs.Depth.{meets_cut, slots_meet_cut}
 use Rattle.rasn_schema.specs.Lawful.{AreLawful, IsLawful}
-use Rattle.rasn_schema.specs.Lists.{list_value}
+use Rattle.rasn_schema.specs.Structures.{list_value, record_value}
 use Rattle.rasn_schema.specs.Normal.{normal, normals}
-use Rattle.rasn_schema.specs.Orders.{by_tags, how_many_less, insert_at}
-use Rattle.rasn_schema.specs.Records.{record_value}
 use Rattle.rasn_schema.specs.Schemas.{by_tag, count, listed, no_parts, part, Parts, Presence, Schema, smallest, tags, TagTree}
 use Rattle.per_core.specs.Basic.{basic_in, Record_in, rules_in}
 use Rattle.per_core.specs.Canon.{any_set, bitmap, bitmap_of, bodies_of, canon, flags_of, members, opens_of, record_of, shown, with_additions}
@@ -23,10 +21,10 @@ use Rattle.per_core.proofs.Counting.{length-map'}
 use Rattle.per_core.proofs.LengthForms.{or_left, or_right}
 use Rattle.per_core.proofs.Presenting.{some_both}
 use Rattle.per_core.proofs.Readings.{length-by_tags}
-use Rattle.per_core.specs.Within.{Each, EachSlot}
+use Rattle.per_core.specs.FewItems.{Each, EachSlot}
 use Rattle.rasn_schema.proofs.Canonised.{count_ordered}
 use Rattle.per_core.proofs.SetReadings.{normal_record, read_as_listed, written}
-use Rattle.per_write.specs.Faults.{element_behind, element_here, HasElement}
+use Rattle.per_core.specs.WritingFaults.{element_behind, element_here, HasElement}
 use Rattle.per_versions.proofs.Ordered.{lawful_in_order}
 use Rattle.per_versions.proofs.Read.{element_read, IsRead, set_read}
 use Rattle.per_versions.proofs.Spelled.{fields_spelled}

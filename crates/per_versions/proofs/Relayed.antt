@@ -1,6 +1,6 @@
 -- What is read of a value that was read and is written again.
 use Rattle.std.proofs.Common.{◌≡◌, ◌↔◌, refl, sym, ap, ◌∙◌, subst, ℕ, ◌+◌, ◌≤◌, Bool, false, List, Some, Result, Ok, Err, inl, inr, arith}
-use Rattle.rasn_types.specs.Codecs.{variant_of}
+use Rattle.rasn_types.specs.Variants.{variant_of}
 use Rattle.rasn_types.specs.Values.{Value}
 use Rattle.rasn_types.specs.declared.types.Codec.{Codec}
 use Rattle.rasn_schema.specs.Lawful.{IsLawful}
@@ -14,9 +14,8 @@ use Rattle.per_laws.proofs.Takes.{some_is}
 use Rattle.per_laws.proofs.Carry.{fills_carry}
 use Rattle.per_laws.proofs.Loosen.{loose, loosen}
 use Rattle.per_laws.proofs.FewVersions.{levelled_holds, older_less, newer_less}
-use Rattle.per_read.specs.declared.error.DecodeError.{DecodeError}
-use Rattle.rasn_per.specs.Calls.{DecodedBy}
-use Rattle.rasn_per.specs.Complete.{AreBytes, reading}
+use Rattle.per_core.specs.declared.decode_error.DecodeError.{DecodeError}
+use Rattle.rasn_per.specs.Calls.{DecodedBy, AreBytes, reading}
 use Rattle.per_versions.specs.Answers.{Answers}
 use Rattle.per_versions.specs.Readings.{depth_of, normal_form, IsInReach, IsProjection, IsWidening}
 use Rattle.per_versions.proofs.Depths.{normal_at, projection_at}

@@ -1,8 +1,8 @@
 -- Writers that write from every position.
 use Rattle.std.proofs.Common.{◌≡◌, refl, sym, ap, ◌∙◌, subst, ℕ, zero, suc, ◌+◌, ◌-◌, ◌*◌, ◌/◌, ◌^◌, ◌<◌, ◌≤◌, Bool, true, false, cond, ◌&&◌, leb, ltb, eqb, List, [], ◌∷◌, ◌++◌, map, length, take, drop, replicate, Option, Some, None, ℤ, pos, arith, inl, inr, lt-ltb, leb-true, ltb-true}
 use Rattle.rasn_types.specs.Alphabets.{char_code, char_width, greatest, index_of, keep_own}
-use Rattle.rasn_types.specs.Bits.{AreOctets, Bits, number_of, pack, to_bits, unpack, width}
-use Rattle.rasn_types.specs.Octets.{natural_bits, octets_of_natural, octets_of_whole, unsigned, whole_bits}
+use Rattle.rasn_types.specs.Bits.{AreOctets, Bits, number_of, pack, to_bits, unpack, width, natural_bits}
+use Rattle.rasn_types.specs.Bits.{octets_of_natural, octets_of_whole, unsigned, whole_bits}
 use Rattle.rasn_types.specs.Variants.{Variant, aligned, unaligned}
 use Rattle.rasn_types.proofs.Bits.{length-to_bits, length-unpack, number_below, width_least}
 use Rattle.rasn_types.proofs.Octets.{length-pack, length-whole_bits, octets-pack, octets_of_signed}
@@ -14,7 +14,7 @@ use Rattle.per_core.specs.Spellings.{Settings, Spelling}
 use Rattle.per_core.specs.Writers.{after, go_on, join, just, one_by_one, padding, written_if, Writer, ◌▹◌}
 use Rattle.per_core.proofs.Counting.{length-map'}
 use Rattle.per_core.proofs.LengthForms.{and_left, and_right}
-use Rattle.per_core.specs.Within.{Each}
+use Rattle.per_core.specs.FewItems.{Each}
 use Rattle.per_versions.proofs.Spelled.{lengthy_spelled, Somewhere}
 use Rattle.rasn_schema.specs.Normal.{normal_bits}
 use Rattle.per_laws.proofs.Named.{normal_allowed}

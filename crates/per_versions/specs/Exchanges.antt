@@ -1,13 +1,13 @@
 -- What becomes of a value that one type's writer writes and another type's reader reads.
 use Rattle.std.specs.Prelude.{◌≡◌, ◌≢◌, ℕ, List, Vec, Result, IfOk, IfErr}
-use Rattle.rasn_types.specs.Codecs.{variant_of}
+use Rattle.rasn_types.specs.Variants.{variant_of}
 use Rattle.rasn_types.specs.Values.{Value}
 use Rattle.rasn_types.specs.declared.types.Codec.{Codec}
 use Rattle.rasn_schema.specs.Schemas.{Schema}
-use Rattle.per_write.specs.declared.error.EncodeErrorKind.TheVariants.{OutOfMemory as no_room_to_write}
-use Rattle.per_read.specs.declared.error.DecodeErrorKind.TheVariants.{OutOfMemory as no_room_to_read}
+use Rattle.per_core.specs.declared.encode_error.EncodeErrorKind.TheVariants.{OutOfMemory as no_room_to_write}
+use Rattle.per_core.specs.declared.decode_error.DecodeErrorKind.TheVariants.{OutOfMemory as no_room_to_read}
 use Rattle.per_core.specs.Basic.{read}
-use Rattle.rasn_per.specs.Complete.{AreBytes, HasNoBytes, AreUnread, basically}
+use Rattle.rasn_per.specs.Calls.{AreBytes, HasNoBytes, AreUnread, basically}
 use Rattle.per_versions.specs.Readings.{AreCanonical, normal_form}
 use Rattle.per_versions.specs.declared.exchange.ExchangeError.{ExchangeError}
 use Rattle.per_versions.specs.declared.exchange.ExchangeError.TheVariants.{Encode, Decode}

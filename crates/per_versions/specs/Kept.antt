@@ -3,7 +3,7 @@ use Rattle.std.specs.Prelude.{ℕ, ◌-◌, ◌^◌, ◌≡◌, Bool, true, fals
 use lib.Signed.{le_z}
 use Rattle.rasn_constraints.specs.Bounds.{Bounds}
 use Rattle.rasn_schema.specs.Schemas.{Schema, Parts, no_parts, part}
-use Rattle.per_write.specs.Faults.{has_bound}
+use Rattle.per_core.specs.WritingFaults.{has_bound}
 
 -- whether a lower bound is there, no less than the least i128
 abbrev pub starts_in_i128 : Option ℤ → Bool

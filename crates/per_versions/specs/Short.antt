@@ -7,7 +7,7 @@ use Rattle.rasn_constraints.specs.Bounds.{allows, any_size}
 use Rattle.rasn_schema.specs.Schemas.{Schema, Parts, no_parts, part}
 use Rattle.per_core.specs.Canon.{canon}
 use Rattle.per_core.specs.Writers.{complete}
-use Rattle.per_core.specs.Within.{EachElement, EachSlot, OfAlternative, OfParts}
+use Rattle.per_core.specs.FewItems.{EachElement, EachSlot, OfAlternative, OfParts}
 
 -- X.691 11.2: bits, where they are there, are the contents of an open type of no more octets than `usize::MAX` (this
 -- project's limit)

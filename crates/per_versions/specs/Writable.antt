@@ -2,7 +2,7 @@
 use Rattle.std.specs.Prelude.{◌^◌, Bool, true, not, ◌&&◌, ◌||◌, nat_lt, Option, Some, None, ℤ}
 use Rattle.rasn_constraints.specs.Bounds.{Bounds}
 use Rattle.rasn_schema.specs.Schemas.{count, Schema, Parts, no_parts, part}
-use Rattle.per_write.specs.Faults.{has_bound}
+use Rattle.per_core.specs.WritingFaults.{has_bound}
 use Rattle.per_versions.specs.Kept.{are_in_i128, starts_in_i128}
 
 -- whether a lower bound, where there is one, is no less than the least i128

@@ -2,13 +2,12 @@
 //! read under constraints in place of its own.
 
 ghost use Rattle.std.specs.Prelude.{Bool, List, Result, Ok, ℕ};
-ghost use Rattle.rasn_types.specs.Codecs.{variant_of};
+ghost use Rattle.rasn_types.specs.Variants.{variant_of};
 ghost use Rattle.rasn_types.specs.declared.types.Codec.{Codec};
 ghost use Rattle.rasn_constraints.specs.declared.constraints.Constraints.{Constraints};
 ghost use Rattle.per_core.specs.Versions.{NewerType};
-ghost use Rattle.per_read.specs.declared.error.DecodeError.{DecodeError};
-ghost use Rattle.rasn_per.specs.Calls.{DecodedBy};
-ghost use Rattle.rasn_per.specs.Complete.{AreBytes};
+ghost use Rattle.per_core.specs.declared.decode_error.DecodeError.{DecodeError};
+ghost use Rattle.rasn_per.specs.Calls.{DecodedBy, AreBytes};
 ghost use Rattle.per_versions.specs.Answers.{Answers, AreKnown};
 ghost use Rattle.per_versions.specs.Readings.{IsProjection, IsReadByNewer, IsReadByOlder, IsWidening};
 

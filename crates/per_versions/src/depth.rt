@@ -1,14 +1,13 @@
 //! Values of which the normal form has at most 128 levels: no reader refuses one for its depth.
 
 ghost use Rattle.std.specs.Prelude.{◌≡◌, ◌≤◌, ℕ, Bool, List, Result};
-ghost use Rattle.rasn_types.specs.Codecs.{variant_of};
+ghost use Rattle.rasn_types.specs.Variants.{variant_of};
 ghost use Rattle.rasn_types.specs.Values.{Value};
 ghost use Rattle.rasn_types.specs.declared.types.Codec.{Codec};
 ghost use Rattle.per_core.specs.Versions.{NewerType};
 ghost use Rattle.per_laws.specs.Levels.{levels_of};
-ghost use Rattle.per_read.specs.declared.error.DecodeError.{DecodeError};
-ghost use Rattle.rasn_per.specs.Calls.{DecodedBy};
-ghost use Rattle.rasn_per.specs.Complete.{AreBytes};
+ghost use Rattle.per_core.specs.declared.decode_error.DecodeError.{DecodeError};
+ghost use Rattle.rasn_per.specs.Calls.{DecodedBy, AreBytes};
 ghost use Rattle.per_versions.specs.Answers.{Answers};
 ghost use Rattle.per_versions.specs.Readings.{IsProjection, IsWidening, normal_form};
 

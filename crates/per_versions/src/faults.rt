@@ -15,9 +15,9 @@ ghost use Rattle.per_laws.specs.Judged.{judgement};
 ghost use Rattle.per_laws.specs.Verdicts.{allowed};
 ghost use Rattle.per_core.specs.Basic.{fills};
 ghost use Rattle.per_core.specs.Spellings.{Settings};
-ghost use Rattle.per_write.specs.Faults.{IsInValue};
-ghost use Rattle.per_write.specs.declared.error.EncodeErrorKind.{EncodeErrorKind};
-ghost use Rattle.per_write.specs.declared.error.EncodeErrorKind.TheVariants.{IntegerTypeConversionFailed};
+ghost use Rattle.per_core.specs.WritingFaults.{IsInValue};
+ghost use Rattle.per_core.specs.declared.encode_error.EncodeErrorKind.{EncodeErrorKind};
+ghost use Rattle.per_core.specs.declared.encode_error.EncodeErrorKind.TheVariants.{IntegerTypeConversionFailed};
 ghost use Rattle.per_versions.specs.Kept.{
   KeepsToI128,
   ends_in_i128,

@@ -4,14 +4,13 @@
 
 ghost use Rattle.std.specs.Prelude.{◌≡◌, ◌↔◌, ◌++◌, ℕ, Bool, false, List, Result, Ok};
 ghost use Rattle.std.specs.Borrow.{Bor};
-ghost use Rattle.rasn_types.specs.Codecs.{variant_of};
+ghost use Rattle.rasn_types.specs.Variants.{variant_of};
 ghost use Rattle.rasn_types.specs.Values.{Value};
 ghost use Rattle.rasn_types.specs.declared.types.Codec.{Codec};
 ghost use Rattle.per_core.specs.Versions.{NewerType};
 ghost use Rattle.per_laws.specs.Alike.{AreAlike};
-ghost use Rattle.per_read.specs.declared.error.DecodeError.{DecodeError};
-ghost use Rattle.rasn_per.specs.Calls.{DecodedBy, DecodedFront};
-ghost use Rattle.rasn_per.specs.Complete.{reading};
+ghost use Rattle.per_core.specs.declared.decode_error.DecodeError.{DecodeError};
+ghost use Rattle.rasn_per.specs.Calls.{DecodedBy, DecodedFront, reading};
 ghost use Rattle.per_versions.specs.Answers.{Answers, AnswersFront};
 ghost use Rattle.per_versions.specs.Readings.{IsProjection};
 

@@ -3,17 +3,16 @@
 
 ghost use Rattle.std.specs.Prelude.{◌≡◌, ◌≢◌, ℕ, Bool, List, Vec, Result, Ok, Err};
 ghost use Rattle.std.specs.Global.{Global};
-ghost use Rattle.rasn_types.specs.Codecs.{variant_of};
+ghost use Rattle.rasn_types.specs.Variants.{variant_of};
 ghost use Rattle.rasn_types.specs.Values.{Value};
 ghost use Rattle.rasn_types.specs.declared.types.Codec.{Codec};
 ghost use Rattle.rasn_schema.specs.Lawful.{IsLawfulType};
 ghost use Rattle.per_core.specs.Versions.{NewerType};
-ghost use Rattle.per_read.specs.declared.error.DecodeError.{DecodeError};
-ghost use Rattle.per_read.specs.declared.error.DecodeErrorKind.TheVariants.{OutOfMemory};
-ghost use Rattle.per_write.specs.declared.error.EncodeError.{EncodeError};
+ghost use Rattle.per_core.specs.declared.decode_error.DecodeError.{DecodeError};
+ghost use Rattle.per_core.specs.declared.decode_error.DecodeErrorKind.TheVariants.{OutOfMemory};
+ghost use Rattle.per_core.specs.declared.encode_error.EncodeError.{EncodeError};
 ghost use Rattle.per_versions.specs.Kept.{KeepsToI128};
-ghost use Rattle.rasn_per.specs.Calls.{DecodedBy, Encoded};
-ghost use Rattle.rasn_per.specs.Complete.{AreBytes};
+ghost use Rattle.rasn_per.specs.Calls.{DecodedBy, Encoded, AreBytes};
 ghost use Rattle.per_versions.specs.Answers.{Answers, Passes};
 ghost use Rattle.per_versions.specs.Readings.{IsInReach, IsProjection, IsWidening, normal_form};
 

@@ -3,14 +3,13 @@
 
 ghost use Rattle.std.specs.Prelude.{◌≡◌, ◌++◌, ◌≤◌, ℕ, false, List, Result, Ok};
 ghost use Rattle.std.specs.Borrow.{Bor};
-ghost use Rattle.rasn_types.specs.Codecs.{variant_of};
+ghost use Rattle.rasn_types.specs.Variants.{variant_of};
 ghost use Rattle.rasn_types.specs.Values.{Value};
 ghost use Rattle.rasn_types.specs.declared.types.Codec.{Codec};
 ghost use Rattle.per_core.specs.Versions.{NewerType};
 ghost use Rattle.per_laws.specs.Levels.{levels_of};
-ghost use Rattle.per_read.specs.declared.error.DecodeError.{DecodeError};
-ghost use Rattle.rasn_per.specs.Calls.{Decoded, DecodedFront};
-ghost use Rattle.rasn_per.specs.Complete.{AreBytes};
+ghost use Rattle.per_core.specs.declared.decode_error.DecodeError.{DecodeError};
+ghost use Rattle.rasn_per.specs.Calls.{Decoded, DecodedFront, AreBytes};
 ghost use Rattle.per_versions.specs.Answers.{Answers, AnswersFront, AreKnown, BeginKnown};
 ghost use Rattle.per_versions.specs.Readings.{
   IsProjection,

@@ -3,16 +3,16 @@
 ghost use Rattle.std.specs.Prelude.{◌≡◌, ◌≢◌, ◌↔◌, ◌<◌, ℕ, Bool, List, Vec, length, Result, Ok, IfErr};
 ghost use Rattle.std.specs.Global.{Global};
 ghost use Rattle.rasn_types.specs.Bits.{AreOctets};
-ghost use Rattle.rasn_types.specs.Codecs.{variant_of};
+ghost use Rattle.rasn_types.specs.Variants.{variant_of};
 ghost use Rattle.rasn_types.specs.Values.{Value};
 ghost use Rattle.rasn_types.specs.declared.types.Codec.{Codec};
 ghost use Rattle.rasn_schema.specs.Lawful.{IsLawfulType};
-ghost use Rattle.per_read.specs.declared.error.DecodeError.{DecodeError};
-ghost use Rattle.per_write.specs.declared.error.EncodeError.{EncodeError};
-ghost use Rattle.per_write.specs.declared.error.EncodeErrorKind.TheVariants.{IntegerTypeConversionFailed, OutOfMemory};
+ghost use Rattle.per_core.specs.declared.decode_error.DecodeError.{DecodeError};
+ghost use Rattle.per_core.specs.declared.encode_error.EncodeError.{EncodeError};
+ghost use Rattle.per_core.specs.declared.encode_error.EncodeErrorKind.TheVariants.{IntegerTypeConversionFailed};
+ghost use Rattle.per_core.specs.declared.encode_error.EncodeErrorKind.TheVariants.{OutOfMemory};
 ghost use Rattle.per_versions.specs.Kept.{KeepsToI128};
-ghost use Rattle.rasn_per.specs.Calls.{DecodedBy, Encoded};
-ghost use Rattle.rasn_per.specs.Complete.{AreBytes, HasNoBytes};
+ghost use Rattle.rasn_per.specs.Calls.{DecodedBy, Encoded, AreBytes, HasNoBytes};
 ghost use Rattle.per_versions.specs.Answers.{Answers};
 ghost use Rattle.per_versions.specs.Readings.{AreCanonical, IsReadBack, normal_form};
 

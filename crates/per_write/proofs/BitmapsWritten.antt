@@ -3,9 +3,8 @@ use Rattle.std.specs.Prelude.{Result, Ok, Err, slice_get, unwrap_or}
 use Rattle.std.proofs.Common.{◌≡◌, refl, sym, ap, ◌∙◌, ◌*◌, ◌%◌, ◌^◌, ◌++◌, bit_or, subst, inl, inr, ℕ, zero, suc, ◌+◌, ◌-◌, ◌/◌, ◌<◌, ◌≤◌, max, Bool, true, false, ◌||◌, [], ◌∷◌, length, drop, Some, arith, le-leb}
 use Rattle.std.proofs.lemmas.Bool.{lt-leb}
 use Rattle.rasn_types.specs.Bits.{Bits, pack, to_bits}
-use Rattle.rasn_types.specs.Codecs.{variant_of}
+use Rattle.rasn_types.specs.Variants.{variant_of, Variant}
 use Rattle.rasn_types.specs.Packed.{packed}
-use Rattle.rasn_types.specs.Variants.{Variant}
 use Rattle.rasn_types.specs.declared.types.Codec.{Codec}
 use Rattle.rasn_constraints.specs.Bounds.{any_size}
 use Rattle.rasn_types.proofs.Bits.{length-to_bits}
@@ -14,7 +13,7 @@ use Rattle.per_bits.proofs.Words.{to_bits-join}
 use Rattle.per_core.specs.Canon.{any_set, bitmap}
 use Rattle.per_core.specs.Counts.{bit_items, bit_writers, counted_in, open_bits, unconstrained_octets}
 use Rattle.per_core.specs.Writers.{just, ◌▹◌}
-use Rattle.per_write.specs.declared.error.EncodeError.{EncodeError}
+use Rattle.per_core.specs.declared.encode_error.EncodeError.{EncodeError}
 use Rattle.per_write.specs.Faults.{IsMemory}
 use Rattle.per_write.specs.Items.{IsMemoryOrItem}
 use Rattle.per_write.specs.State.{Puts, State, StateAppends}

@@ -2,8 +2,7 @@
 use Rattle.std.proofs.Common.{◌≡◌, refl, sym, ap, ◌∙◌, subst, ℕ, ◌<◌, false, [], ◌++◌, replicate, Option, Some, None, ◌≤◌, Bool, true, leb, le-leb, lt-ltb, arith}
 use Rattle.std.proofs.lemmas.Bool.{leb-false, leb-true, lt-leb, ne_eqb}
 use Rattle.rasn_types.specs.Bits.{Bits, to_bits, width}
-use Rattle.rasn_types.specs.Codecs.{variant_of}
-use Rattle.rasn_types.specs.Variants.{Variant, aligned, unaligned}
+use Rattle.rasn_types.specs.Variants.{variant_of, Variant, aligned, unaligned}
 use Rattle.rasn_types.specs.declared.types.Codec.{Codec}
 use Rattle.per_core.specs.Counts.{constrained_whole}
 use Rattle.per_core.specs.Writers.{pad, join}

@@ -2,9 +2,8 @@
 use Rattle.std.proofs.Common.{◌≡◌, refl, sym, ap, ◌∙◌, subst, ℕ, ◌-◌, ◌^◌, ◌<◌, Bool, true, false, cond, ltb, lt-ltb, ◌++◌, length, replicate, append-nil, arith, Option, Some, None}
 use Rattle.std.specs.Prelude.{OnOk, IfErr, Result}
 use Rattle.std.specs.Option.{unwrap_or}
-use Rattle.rasn_types.specs.Bits.{Bits}
-use Rattle.rasn_types.specs.Trimmed.{filled_up, trimmed}
-use Rattle.rasn_types.specs.Codecs.{variant_of}
+use Rattle.rasn_types.specs.Bits.{Bits, filled_up, trimmed}
+use Rattle.rasn_types.specs.Variants.{variant_of}
 use Rattle.rasn_types.specs.Values.{bits}
 use Rattle.rasn_constraints.specs.Bounds.{Size}
 use Rattle.rasn_schema.specs.Normal.{normal, normal_bits}
@@ -14,7 +13,7 @@ use Rattle.per_core.specs.Counts.{bit_items, bit_writers, counted}
 use Rattle.per_write.specs.Rules.{encoder_rules}
 use Rattle.per_write.specs.Items.{RefusesCounted}
 use Rattle.per_write.specs.State.{State, StateAppends}
-use Rattle.per_write.specs.declared.error.EncodeError.{EncodeError}
+use Rattle.per_core.specs.declared.encode_error.EncodeError.{EncodeError}
 use Rattle.per_write.proofs.Refusing.{bit_string_law}
 
 -- bits up to the least count are those in normal form

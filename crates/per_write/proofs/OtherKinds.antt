@@ -5,25 +5,24 @@ use Rattle.rasn_types.specs.Alphabets.{char_code, char_width, greatest, has, has
 use Rattle.rasn_types.specs.Bits.{Bits}
 use Rattle.rasn_types.specs.Contents.{is_date, is_identifier, is_text, is_time}
 use Rattle.rasn_types.specs.Values.{Value, Slots, Side, root, added, as_slots, slots, no_slots, absent, there, truth, nothing, whole, item, octets, bits, characters, elements, bag, fields, alternative, day}
-use Rattle.rasn_types.specs.Variants.{Variant, aligned, unaligned}
+use Rattle.rasn_types.specs.Variants.{Variant, aligned, unaligned, variant_of}
 use Rattle.rasn_types.proofs.Values.{as_slots-slots, slots-as_slots}
 use Rattle.rasn_constraints.specs.Bounds.{Size}
-use Rattle.rasn_schema.specs.Canonised.{canonised, canonised_slots, put_part}
-use Rattle.rasn_schema.specs.Orders.{how_many_less, insert_at}
+use Rattle.rasn_schema.specs.Orders.{canonised, canonised_slots, put_part, how_many_less, insert_at}
 use Rattle.rasn_schema.specs.Schemas.{by_tag, count, default, group, listed, no_parts, optional, Order, part, Parts, Presence, required, Schema, smallest, TagTree, tags}
-use Rattle.rasn_traits.specs.Counted.{all_may_be, has_at, is_of_kind, may_be}
+use Rattle.rasn_schema.specs.Structures.{all_may_be, has_at, is_of_kind, may_be}
 use Rattle.per_core.specs.Canon.{also_bit, bitmap_of, bodies_of, canon, char_writers, chosen, coded, date_of, extension_bit, flagged, flags_of, item_of, choice_of, Member, members, record_of, shown, with_additions}
 use Rattle.per_core.specs.Counts.{char_items, constrained_whole, open_bits, small}
 use Rattle.per_core.specs.Writers.{go_on, ◌▹◌, Writer, written_if}
 use Rattle.per_core.proofs.SetReadings.{written}
 use Rattle.per_pieces.proofs.Writing.{none_behind}
-use Rattle.per_write.specs.declared.error.EncodeError.{EncodeError}
-use Rattle.per_write.specs.declared.error.EncodeErrorKind.TheVariants.{WrongKind}
-use Rattle.per_write.specs.Faults.{at_once, IsError, RefusesValue, Stands}
+use Rattle.per_core.specs.declared.encode_error.EncodeError.{EncodeError}
+use Rattle.per_core.specs.declared.encode_error.EncodeErrorKind.TheVariants.{WrongKind}
+use Rattle.per_core.specs.WritingFaults.{at_once}
+use Rattle.per_write.specs.Faults.{IsError, RefusesValue, Stands}
 use Rattle.per_write.specs.Items.{HasRefused, refused_behind, refused_here}
 use Rattle.per_write.specs.State.{State}
 use Rattle.per_write.proofs.Refusing.{no_contents, none_counted}
-use Rattle.rasn_types.specs.Codecs.{variant_of}
 
 one_fails : (b c : Bool) → (b && c) ≡ false → (b ≡ false) ⊎ (c ≡ false)
 one_fails false c h = inl refl

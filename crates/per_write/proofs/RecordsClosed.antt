@@ -2,8 +2,7 @@
 use Rattle.std.specs.Prelude.{Result, Ok, Err}
 use Rattle.std.proofs.Common.{◌≡◌, refl, sym, ap, ap₂, ◌∙◌, subst, inl, ℕ, zero, suc, Bool, true, false, ◌||◌, [], ◌∷◌, ◌++◌, List, length, replicate, Option, Some, None, ◌+◌, append-nil}
 use Rattle.rasn_types.specs.Bits.{Bits}
-use Rattle.rasn_types.specs.Codecs.{variant_of}
-use Rattle.rasn_types.specs.Variants.{Variant, aligned}
+use Rattle.rasn_types.specs.Variants.{variant_of, Variant, aligned}
 use Rattle.rasn_types.specs.declared.types.Codec.{Codec}
 use Rattle.per_core.specs.Canon.{any_set, bitmap}
 use Rattle.per_core.specs.Counts.{open_bits}
@@ -11,7 +10,7 @@ use Rattle.per_core.specs.Writers.{join, just, pad, padding, ◌▹◌}
 use Rattle.per_pieces.specs.Pieces.{Appends, Piece, bit, to_octet, Pieces, bit_count, bits_of, plain, placed_bits, with_bit, with_bits}
 use Rattle.per_pieces.proofs.Placed.{settle_plain}
 use Rattle.per_pieces.proofs.Zeros.{with_both}
-use Rattle.per_write.specs.declared.error.EncodeError.{EncodeError}
+use Rattle.per_core.specs.declared.encode_error.EncodeError.{EncodeError}
 use Rattle.per_write.specs.Additions.{ClosesOrNot, GivesOrNot, OutsideAddition, PutsAddition, PutsContents, is_group_there, with_next}
 use Rattle.per_write.specs.Faults.{IsMemory}
 use Rattle.per_write.specs.Records.{ExtendedBehind, Opens, PutsAdditions, behind_root, extension_room, kept_additions}

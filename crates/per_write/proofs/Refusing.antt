@@ -4,21 +4,23 @@ use Rattle.std.proofs.Common.{◌≡◌, ◌⊎◌, refl, sym, ap, ◌∙◌, su
 use Rattle.std.proofs.lemmas.Bool.{ltb-false}
 use Rattle.rasn_types.specs.Alphabets.{Alphabet, char_width}
 use Rattle.rasn_types.specs.Bits.{Bits}
-use Rattle.rasn_types.specs.Codecs.{variant_of}
+use Rattle.rasn_types.specs.Variants.{variant_of, Variant}
 use Rattle.rasn_types.specs.Values.{Value, bits, characters, octets}
-use Rattle.rasn_types.specs.Variants.{Variant}
 use Rattle.rasn_constraints.specs.Bounds.{allows, Size, any_size}
 use Rattle.rasn_traits.specs.Calls.{Written}
 use Rattle.per_write.specs.Rules.{encoder_rules}
-use Rattle.rasn_schema.specs.Absent.{no_value}
+use Rattle.rasn_schema.specs.Structures.{no_value}
 use Rattle.rasn_schema.specs.Schemas.{Schema}
 use Rattle.per_core.specs.Canon.{canon, char_writers, date_of}
 use Rattle.per_core.specs.Counts.{constrained_whole, counted, ItemKind, counted_in, counted_under, determinant, in_fragments, is_aligned, marked_form, octet_items, open_bits, octet_writers, padding_if, fragment_sizes, bit_items, bit_writers, char_items}
 use Rattle.per_core.specs.Writers.{Writer, go_on, one_by_one, just, padding, written_if, ◌▹◌}
-use Rattle.per_write.specs.declared.error.EncodeError.{EncodeError}
-use Rattle.per_write.specs.declared.error.EncodeErrorKind.{EncodeErrorKind}
-use Rattle.per_write.specs.declared.error.EncodeErrorKind.TheVariants.{AlphabetConstraintNotSatisfied, OutOfTurn, RealNotSupported, SizeConstraintNotSatisfied}
-use Rattle.per_write.specs.Faults.{at_once, IsError, IsMemory, OutsideSize, RefusesValue, Stands, HasForeign}
+use Rattle.per_core.specs.declared.encode_error.EncodeError.{EncodeError}
+use Rattle.per_core.specs.declared.encode_error.EncodeErrorKind.{EncodeErrorKind}
+use Rattle.per_core.specs.declared.encode_error.EncodeErrorKind.TheVariants.{AlphabetConstraintNotSatisfied, OutOfTurn}
+use Rattle.per_core.specs.declared.encode_error.EncodeErrorKind.TheVariants.{RealNotSupported}
+use Rattle.per_core.specs.declared.encode_error.EncodeErrorKind.TheVariants.{SizeConstraintNotSatisfied}
+use Rattle.per_core.specs.WritingFaults.{at_once, OutsideSize, HasForeign}
+use Rattle.per_write.specs.Faults.{IsError, IsMemory, RefusesValue, Stands}
 use Rattle.per_write.specs.Items.{HasRefused, refused_behind, refused_here, RefusesCounted, no_memory, wrong_count, wrong_item}
 use Rattle.per_pieces.specs.Fragments.{one_fragment}
 use Rattle.per_write.specs.State.{State, StateAppends}

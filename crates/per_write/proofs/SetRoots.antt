@@ -7,7 +7,7 @@ use Rattle.per_core.specs.Placed.{placed}
 use Rattle.per_core.specs.Writers.{◌▹◌}
 use Rattle.per_pieces.specs.OpenSets.{bit_writers, closed, Component, OpenSet, value_writers}
 use Rattle.per_pieces.specs.Pieces.{Appends, Pieces}
-use Rattle.per_write.specs.declared.error.EncodeError.{EncodeError}
+use Rattle.per_core.specs.declared.encode_error.EncodeError.{EncodeError}
 use Rattle.per_write.specs.Components.{PutsComponents, underway}
 use Rattle.per_write.specs.Faults.{IsMemory}
 use Rattle.per_write.specs.State.{State}

@@ -10,7 +10,7 @@ use Rattle.rasn_types.specs.Variants.{Variant}
 use Rattle.per_core.specs.Canon.{char_writers, coded}
 use Rattle.per_core.specs.Counts.{bit_writers}
 use Rattle.per_core.specs.Writers.{Writer, after, join, one_by_one}
-use Rattle.per_write.specs.Faults.{HasForeign}
+use Rattle.per_core.specs.WritingFaults.{HasForeign}
 use Rattle.per_write.specs.Items.{HasRefused, refused_behind, refused_here}
 
 -- an element within a list is there

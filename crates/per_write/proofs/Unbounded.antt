@@ -2,17 +2,15 @@
 use Rattle.std.specs.Prelude.{OnOk, Result, Ok, Err}
 use Rattle.std.proofs.Common.{◌≡◌, ◌⊎◌, refl, sym, ap, ◌∙◌, subst, ℕ, Bool, true, false, List, length, ◌/◌, Option, Some, None, arith, ℤ, inl, inr, FitsSigned}
 use Rattle.std.specs.Int.{w128}
-use Rattle.rasn_types.specs.Codecs.{variant_of}
-use Rattle.rasn_types.specs.Octets.{octets_of_whole, signed_octets, whole_bits}
+use Rattle.rasn_types.specs.Variants.{variant_of, Variant}
+use Rattle.rasn_types.specs.Bits.{octets_of_whole, signed_octets, whole_bits, pack}
 use Rattle.rasn_types.proofs.Octets.{length-whole_bits}
-use Rattle.rasn_types.specs.Variants.{Variant}
 use Rattle.rasn_types.proofs.Reading.{fits-is_i128}
 use Rattle.rasn_constraints.specs.Bounds.{holds, Bounds}
 use Rattle.per_core.specs.Counts.{counted_octets, number_under, unconstrained_octets}
 use Rattle.per_core.specs.Writers.{Writer, written_if}
-use Rattle.rasn_types.specs.Bits.{pack}
 use Rattle.per_pieces.specs.Pieces.{placed_bits}
-use Rattle.per_write.specs.declared.error.EncodeError.{EncodeError}
+use Rattle.per_core.specs.declared.encode_error.EncodeError.{EncodeError}
 use Rattle.per_write.specs.Numbers.{unconstrained_whole}
 use Rattle.per_write.specs.State.{State, StateAppends}
 

@@ -3,16 +3,15 @@
 use Rattle.std.specs.Prelude.{◌≡◌, ◌<◌, ◌≤◌, ◌⊎◌, Bool, true, false, ◌||◌, [], ◌∷◌, ◌++◌, length, Option, Some, None}
 use Rattle.std.specs.Prelude.{Result, IfOk, IfErr, OnOk, OnErr}
 use Rattle.rasn_types.specs.Bits.{Bits}
-use Rattle.rasn_types.specs.Codecs.{variant_of}
+use Rattle.rasn_types.specs.Variants.{variant_of, Variant}
 use Rattle.rasn_types.specs.Values.{Value}
-use Rattle.rasn_types.specs.Variants.{Variant}
 use Rattle.rasn_schema.specs.Schemas.{Schema, Parts, no_parts, part, Presence, required, optional, group, default}
 use Rattle.per_core.specs.Canon.{any_set, canon}
 use Rattle.per_core.specs.Counts.{open_bits}
 use Rattle.per_core.specs.Writers.{Writer, just}
 use Rattle.per_pieces.specs.Pieces.{Pieces, no_pieces, placed_bits}
-use Rattle.per_write.specs.declared.error.EncodeError.{EncodeError}
-use Rattle.per_write.specs.declared.error.EncodeErrorKind.TheVariants.{TooManyAdditions}
+use Rattle.per_core.specs.declared.encode_error.EncodeError.{EncodeError}
+use Rattle.per_core.specs.declared.encode_error.EncodeErrorKind.TheVariants.{TooManyAdditions}
 use Rattle.per_write.specs.declared.presences.Presences.{Presences}
 use Rattle.per_write.specs.Faults.{IsAlready, IsError, IsMemory}
 use Rattle.per_write.specs.State.{Additions, AppendsBits, State, empty_scope}

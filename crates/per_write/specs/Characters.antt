@@ -2,14 +2,14 @@
 use Rattle.std.specs.Prelude.{ℕ, ◌-◌, ◌*◌, ◌≡◌, ◌≤◌, List, slice_range}
 use Rattle.rasn_types.specs.Alphabets.{Alphabet, char_width, visible}
 use Rattle.rasn_types.specs.Bits.{to_bits}
-use Rattle.rasn_types.specs.Codecs.{variant_of}
+use Rattle.rasn_types.specs.Variants.{variant_of}
 use Rattle.rasn_types.specs.declared.types.Codec.{Codec}
 use Rattle.rasn_strings.specs.Prepared.{AreOwn}
 use Rattle.per_core.specs.Canon.{char_writers}
 use Rattle.per_core.specs.Counts.{char_items}
 use Rattle.per_core.specs.Writers.{just, one_by_one, ◌▹◌}
-use Rattle.per_write.specs.declared.error.EncodeErrorKind.TheVariants.{AlphabetConstraintNotSatisfied}
-use Rattle.per_write.specs.Faults.{HasForeign}
+use Rattle.per_core.specs.declared.encode_error.EncodeErrorKind.TheVariants.{AlphabetConstraintNotSatisfied}
+use Rattle.per_core.specs.WritingFaults.{HasForeign}
 use Rattle.per_write.specs.Items.{CountedItems, HasRefused}
 
 -- each by its code, and refused where it has none

@@ -9,8 +9,8 @@ use Rattle.per_core.specs.Writers.{◌▹◌}
 use Rattle.per_pieces.specs.OpenSets.{begins, begins_value, bit_writers, closed, Component, opened, OpenSet, Underway}
 use Rattle.per_pieces.specs.OpenSets.{value_writers}
 use Rattle.per_pieces.specs.Pieces.{Appends}
-use Rattle.per_write.specs.declared.error.EncodeError.{EncodeError}
-use Rattle.per_write.specs.declared.error.EncodeErrorKind.TheVariants.{OutOfTurn}
+use Rattle.per_core.specs.declared.encode_error.EncodeError.{EncodeError}
+use Rattle.per_core.specs.declared.encode_error.EncodeErrorKind.TheVariants.{OutOfTurn}
 use Rattle.per_write.specs.Faults.{IsError, IsMemory}
 use Rattle.per_write.specs.State.{State}
 use Rattle.per_pieces.specs.Turns.{counts, Enclosing, gathers, marked, next, Turn}

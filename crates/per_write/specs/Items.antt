@@ -1,18 +1,18 @@
 -- Items that are counted and written one after another, and why they are refused (ITU-T X.691, 11.9).
 use Rattle.std.specs.Prelude.{ℕ, ◌≡◌, ◌<◌, ◌⊎◌, Bool, true, false, ◌||◌, List, ◌∷◌, length, slice_range, Option}
 use Rattle.std.specs.Prelude.{Some, None, Result}
-use Rattle.rasn_types.specs.Codecs.{variant_of}
-use Rattle.rasn_types.specs.Variants.{Variant}
+use Rattle.rasn_types.specs.Variants.{variant_of, Variant}
 use Rattle.rasn_constraints.specs.Bounds.{allows, any_size, Size}
 use Rattle.rasn_constraints.specs.Constraints.{is_marked, size_in}
 use Rattle.rasn_constraints.specs.declared.constraints.Bounded.{Bounded}
 use Rattle.rasn_constraints.specs.declared.constraints.Extensible.{Extensible}
 use Rattle.per_core.specs.Counts.{counted, counted_in, ItemKind}
 use Rattle.per_core.specs.Writers.{Writer, one_by_one}
-use Rattle.per_write.specs.declared.error.EncodeError.{EncodeError}
-use Rattle.per_write.specs.declared.error.EncodeErrorKind.{EncodeErrorKind}
-use Rattle.per_write.specs.declared.error.EncodeErrorKind.TheVariants.{SizeConstraintNotSatisfied}
-use Rattle.per_write.specs.Faults.{IsError, IsMemory, OutsideSize}
+use Rattle.per_core.specs.declared.encode_error.EncodeError.{EncodeError}
+use Rattle.per_core.specs.declared.encode_error.EncodeErrorKind.{EncodeErrorKind}
+use Rattle.per_core.specs.declared.encode_error.EncodeErrorKind.TheVariants.{SizeConstraintNotSatisfied}
+use Rattle.per_write.specs.Faults.{IsError, IsMemory}
+use Rattle.per_core.specs.WritingFaults.{OutsideSize}
 use Rattle.per_pieces.specs.Fragments.{one_fragment}
 use Rattle.per_write.specs.State.{Puts, State}
 

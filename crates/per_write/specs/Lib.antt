@@ -5,7 +5,6 @@ pub mod Characters
 pub mod Faults
 pub mod Gathered
 pub mod Items
-pub mod Names
 pub mod Numbers
 pub mod Unplaced
 pub mod Presences

@@ -1,19 +1,19 @@
 -- SEQUENCE OF, written element by element (ITU-T X.691, 20).
 use Rattle.std.specs.Prelude.{ℕ, zero, suc, ◌+◌, ◌<◌, ◌≡◌, ◌⊎◌, Bool, true, false, List, [], ◌∷◌, ◌++◌, map, length}
 use Rattle.std.specs.Prelude.{Option, Some, None, Result, IfOk, IfErr, IsErrAnd, OnOk, OnErr}
-use Rattle.rasn_types.specs.Codecs.{variant_of}
+use Rattle.rasn_types.specs.Variants.{variant_of, Variant}
 use Rattle.rasn_types.specs.Values.{Value}
-use Rattle.rasn_types.specs.Variants.{Variant}
 use Rattle.rasn_constraints.specs.Bounds.{Size}
-use Rattle.rasn_schema.specs.Lists.{list_value}
+use Rattle.rasn_schema.specs.Structures.{list_value}
 use Rattle.rasn_traits.specs.Lists.{ListForm, WritesNext, schema_of}
 use Rattle.per_core.specs.Canon.{canon}
 use Rattle.per_core.specs.Counts.{fragment_sizes, in_fragments}
 use Rattle.per_core.specs.Writers.{Writer, refused, ◌▹◌, one_by_one}
-use Rattle.per_write.specs.declared.error.EncodeError.{EncodeError}
-use Rattle.per_write.specs.declared.error.EncodeErrorKind.TheVariants.{OutOfTurn, SizeConstraintNotSatisfied}
+use Rattle.per_core.specs.declared.encode_error.EncodeError.{EncodeError}
+use Rattle.per_core.specs.declared.encode_error.EncodeErrorKind.TheVariants.{OutOfTurn, SizeConstraintNotSatisfied}
 use Rattle.per_write.specs.declared.lists.UnwrittenElements.{UnwrittenElements}
-use Rattle.per_write.specs.Faults.{IsError, IsMemory, OutsideSize}
+use Rattle.per_write.specs.Faults.{IsError, IsMemory}
+use Rattle.per_core.specs.WritingFaults.{OutsideSize}
 use Rattle.per_write.specs.Remains.{Remains}
 use Rattle.per_write.specs.Rules.{encoder_rules}
 use Rattle.per_write.specs.State.{State, within}

@@ -1,6 +1,6 @@
 -- INTEGER, with and without bounds (ITU-T X.691, 13).
 use Rattle.std.specs.Prelude.{ℤ}
-use Rattle.rasn_types.specs.Octets.{whole_bits}
+use Rattle.rasn_types.specs.Bits.{whole_bits}
 use Rattle.rasn_types.specs.Variants.{Variant}
 use Rattle.rasn_constraints.specs.Bounds.{holds, Bounds}
 use Rattle.per_core.specs.Counts.{counted_octets}

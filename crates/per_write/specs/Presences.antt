@@ -2,8 +2,8 @@
 -- X.691, 19.2).
 use Rattle.std.specs.Prelude.{suc, ◌+◌, ◌≡◌, ◌<◌, ◌≤◌, ◌⊎◌, Bool, true, false, Result, IfErr, OnOk, OnErr}
 use Rattle.per_pieces.specs.Pieces.{bit_count, with_bit}
-use Rattle.per_write.specs.declared.error.EncodeError.{EncodeError}
-use Rattle.per_write.specs.declared.error.EncodeErrorKind.TheVariants.{OutOfTurn}
+use Rattle.per_core.specs.declared.encode_error.EncodeError.{EncodeError}
+use Rattle.per_core.specs.declared.encode_error.EncodeErrorKind.TheVariants.{OutOfTurn}
 use Rattle.per_write.specs.Faults.{IsError, IsAlready}
 use Rattle.per_write.specs.State.{State}
 

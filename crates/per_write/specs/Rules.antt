@@ -1,7 +1,7 @@
 -- The rules of an encoder that puts a value's canonical bits behind those that were written before.
 use Rattle.rasn_traits.specs.Calls.{EncoderRules}
-use Rattle.per_write.specs.declared.error.EncodeError.{EncodeError}
-use Rattle.per_write.specs.declared.error.EncodeErrorKind.TheVariants.{OutOfTurn, VariantNotInChoice}
+use Rattle.per_core.specs.declared.encode_error.EncodeError.{EncodeError}
+use Rattle.per_core.specs.declared.encode_error.EncodeErrorKind.TheVariants.{OutOfTurn, VariantNotInChoice}
 use Rattle.per_write.specs.Faults.{IsError, IsMemory, IsAlready, RefusesValue}
 use Rattle.per_write.specs.Additions.{Adds, Begins, IsSurplus, Skips}
 use Rattle.per_write.specs.Presences.{Marks, IsUnmarked}

@@ -1,9 +1,8 @@
 -- What contracts see of a writer and of an encoder around it, and what their calls do to it.
 use Rattle.std.specs.Prelude.{ℕ, ◌≡◌, Bool, true, false, Option, Some, None, Result, OnOk, OnErr, IfErr}
 use Rattle.rasn_types.specs.Bits.{Bits}
-use Rattle.rasn_types.specs.Codecs.{variant_of}
+use Rattle.rasn_types.specs.Variants.{variant_of, Variant}
 use Rattle.rasn_types.specs.Values.{Value}
-use Rattle.rasn_types.specs.Variants.{Variant}
 use Rattle.rasn_types.specs.declared.types.Codec.{Codec}
 use Rattle.rasn_schema.specs.Schemas.{Schema}
 use Rattle.per_core.specs.Writers.{Writer, just, ◌▹◌}

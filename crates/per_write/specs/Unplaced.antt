@@ -1,7 +1,7 @@
 -- What is written before its place is known.
 use Rattle.std.specs.Prelude.{◌≡◌, true, false, Result, IfOk, IfErr, OnErr}
 use Rattle.per_pieces.specs.Pieces.{Pieces, unplaced}
-use Rattle.per_write.specs.declared.error.EncodeError.{EncodeError}
+use Rattle.per_core.specs.declared.encode_error.EncodeError.{EncodeError}
 use Rattle.per_write.specs.Faults.{IsMemory}
 use Rattle.per_write.specs.State.{Scope, State, empty_scope}
 

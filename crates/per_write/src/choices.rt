@@ -2,7 +2,7 @@
 //! is opened.
 
 ghost use Rattle.std.specs.Prelude.{◌≡◌, ◌+◌, ◌^◌, ◌<◌, ◌≤◌, false};
-ghost use Rattle.rasn_types.specs.Codecs.{variant_of};
+ghost use Rattle.rasn_types.specs.Variants.{variant_of};
 ghost use Rattle.per_write.specs.Choices.{FillsIndexOrNot, IsFilled, OpensIndexOrNot, index_padding, index_width};
 ghost use Rattle.per_write.specs.Faults.{IsMemory};
 ghost use Rattle.per_write.specs.State.{PutsIn};

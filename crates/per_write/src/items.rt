@@ -3,7 +3,7 @@
 ghost use Rattle.std.specs.Prelude.{◌≡◌, ◌-◌, ◌*◌, ◌≤◌, false, length, IfNone, IfSome};
 ghost use Rattle.rasn_types.specs.Alphabets.{char_width};
 ghost use Rattle.rasn_types.specs.Variants.{Variant};
-ghost use Rattle.per_core.specs.Items.{counted_of};
+ghost use Rattle.per_core.specs.Counts.{counted_of};
 ghost use Rattle.per_write.specs.Characters.{AreOwnBetween, IsField, IsRefused};
 ghost use Rattle.per_write.specs.Items.{CountedItems, PutsItems, items_between};
 

@@ -4,7 +4,7 @@
 
 ghost use Rattle.std.specs.Prelude.{◌≡◌, ◌≤◌, ◌∷◌, [], true, false, Some, OnOk, OnErr, IfOk, IfErr};
 ghost use Rattle.rasn_types.specs.Bits.{to_bits};
-ghost use Rattle.rasn_types.specs.Codecs.{variant_of};
+ghost use Rattle.rasn_types.specs.Variants.{variant_of};
 ghost use Rattle.rasn_traits.specs.Absent.{WritesAbsent};
 ghost use Rattle.rasn_traits.specs.Counted.{WritesOther};
 ghost use Rattle.rasn_traits.specs.Reals.{WritesNoReal};

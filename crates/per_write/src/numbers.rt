@@ -1,8 +1,8 @@
 //! Whole numbers of an INTEGER, and what stands in front of them (X.691 11.5, 11.6, 13 and 14.3).
 
 ghost use Rattle.std.specs.Prelude.{◌≡◌, ◌≤◌, ◌≤ℤ◌, ◌+◌, ◌||◌, not, true, false, None, Some, OnOk, IfOk, is_ok};
-ghost use Rattle.rasn_types.specs.Codecs.{variant_of};
-ghost use Rattle.rasn_types.specs.Octets.{signed_octets};
+ghost use Rattle.rasn_types.specs.Variants.{variant_of};
+ghost use Rattle.rasn_types.specs.Bits.{signed_octets};
 ghost use Rattle.rasn_constraints.specs.Bounds.{holds, not_above, not_below};
 ghost use Rattle.per_core.specs.Canon.{extension_bit};
 ghost use Rattle.per_core.specs.Counts.{constrained_whole, number_under, small};

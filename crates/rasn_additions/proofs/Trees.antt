@@ -1,6 +1,7 @@
 -- An addition whose tags are an untagged CHOICE's is named by the smallest of them.
 use Rattle.std.proofs.Common.{eqb, eqb-true, ◌≡◌, refl, sym, subst, ap₂, ◌⊎◌, inl, inr, ℕ, Bool, true, false, cond, ◌&&◌, List, [], ◌∷◌, Option, Some, None}
-use Rattle.rasn_schema.specs.Fields.{Shape, field_tag}
+use Rattle.rasn_schema.specs.Fields.{Shape}
+use Rattle.rasn_schema.specs.Structures.{field_tag}
 use Rattle.rasn_schema.specs.Lawful.{same_tag}
 use Rattle.rasn_schema.specs.Schemas.{Tag, TagTree, TagTrees, leaf, one_of, smallest, Presence, Schema}
 use Rattle.rasn_traits.specs.AdditionsRead.{FaultyAddition, faulty_added, faulty_lacking, ReadsAddition}

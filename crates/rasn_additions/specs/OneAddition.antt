@@ -2,10 +2,9 @@
 use Rattle.std.specs.Prelude.{ℕ, Result, Option, Some, None}
 use Rattle.rasn_types.specs.Values.{Value}
 use Rattle.rasn_schema.specs.Schemas.{TagTree, Presence, Schema}
-use Rattle.rasn_schema.specs.Normal.{normal, settle}
+use Rattle.rasn_schema.specs.Normal.{normal, settle, AtDepths}
 use Rattle.rasn_traits.specs.Additions.{WrittenAddition}
 use Rattle.rasn_traits.specs.AdditionsRead.{FaultyAddition, ReadsAddition}
-use Rattle.rasn_schema.specs.AtDepths.{AtDepths}
 use Rattle.rasn_traits.specs.Calls.{Answers, Behaves, DecoderRules, EncoderRules}
 
 -- the normal form of an addition: a group that holds nothing is absent

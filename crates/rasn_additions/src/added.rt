@@ -8,7 +8,8 @@ ghost use Rattle.rasn_constraints.specs.declared.constraints.Constraint.{Constra
 ghost use Rattle.rasn_schema.specs.Schemas.{Parts, no_parts, part};
 ghost use Rattle.rasn_schema.specs.Records.{own_or};
 ghost use Rattle.rasn_schema.specs.Extensions.{fields_behind};
-ghost use Rattle.rasn_schema.specs.Fields.{Shape, shape_of, tag_of};
+ghost use Rattle.rasn_schema.specs.Fields.{Shape, shape_of};
+ghost use Rattle.rasn_schema.specs.Structures.{tag_of};
 ghost use Rattle.rasn_traits.specs.Additions.{WritesAdditions};
 ghost use Rattle.rasn_traits.specs.AdditionsRead.{TakesAdditions};
 ghost use Rattle.rasn_record.specs.Lists.{Asked, behind, both_asked, both_within, first_given, nothing_asked};

@@ -1,7 +1,7 @@
 -- What stands between the calls of a type by hand: the laws of calls, of the parts of a scope, and of a reader by
 -- index.
 pub use Rattle.rasn_types.specs.declared.types.Codec.{Codec}
-pub use Rattle.rasn_schema.specs.AtDepths.{AtDepths}
+pub use Rattle.rasn_schema.specs.Normal.{AtDepths}
 pub use Rattle.rasn_traits.specs.Calls.{DecoderRules, DecodesWell, EncoderRules, Reads}
 pub use Rattle.rasn_traits.specs.Presences.{left_out}
 pub use Rattle.rasn_traits.specs.Optionals.{ReadsComponent}

@@ -3,8 +3,7 @@ pub use Rattle.rasn_types.specs.Values.{Value, whole, truth, nothing, item, root
 pub use Rattle.rasn_types.specs.Values.{alternative, code, day, equal_lists}
 pub use Rattle.rasn_types.specs.Contents.{utc}
 pub use Rattle.rasn_schema.specs.Components.{chosen_value, sequence_value}
-pub use Rattle.rasn_schema.specs.Lists.{list_value}
-pub use Rattle.rasn_schema.specs.Records.{record_value}
+pub use Rattle.rasn_schema.specs.Structures.{list_value, record_value}
 pub use Rattle.rasn_traits.specs.Moments.{identifier_value}
 pub use Rattle.rasn_traits.specs.Presences.{slot_of}
 pub use Rattle.rasn_record.specs.Lists.{deeper_of}

@@ -24,7 +24,7 @@ pub use Rattle.rasn_schema.specs.Extensions.{unextended}
 pub use Rattle.rasn_schema.specs.Choices.{VariantShape, choice_at, choice_levelled, tree_with, variants_of}
 pub use Rattle.rasn_schema.specs.Lists.{deepest, list_at, list_levelled}
 pub use Rattle.rasn_schema.specs.Fields.{in_tag_order, shapes_from, tagged}
-pub use Rattle.rasn_schema.specs.Canonised.{canonised, canonised_slots}
+pub use Rattle.rasn_schema.specs.Orders.{canonised, canonised_slots}
 pub use Rattle.rasn_traits.specs.Moments.{date_at}
 pub use Rattle.rasn_schema.specs.Bags.{set_at as set_of_at, set_levelled as set_of_levelled}
 pub use Rattle.rasn_sets.specs.SetRecords.{set_at, set_levelled, set_stated, set_tag}

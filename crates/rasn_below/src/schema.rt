@@ -3,7 +3,7 @@
 
 ghost use Rattle.std.specs.Prelude.{◌≡◌};
 ghost use Rattle.rasn_schema.specs.Choices.{place_of};
-ghost use Rattle.rasn_schema.specs.Fields.{tag_of};
+ghost use Rattle.rasn_schema.specs.Structures.{tag_of};
 
 pub use rasn_constraints::constraints::{Bounded, Constraint, Constraints, Extensible};
 pub use rasn_constraints::integer_type::IntegerType;

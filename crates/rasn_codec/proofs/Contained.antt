@@ -2,9 +2,8 @@
 use Rattle.std.proofs.Common.{◌≡◌, refl, subst, ℕ, inl, inr}
 use Rattle.std.specs.Prelude.{Result, Ok, Err}
 use Rattle.rasn_types.specs.Values.{Value}
-use Rattle.rasn_schema.specs.Normal.{normal}
+use Rattle.rasn_schema.specs.Normal.{normal, AtDepths}
 use Rattle.rasn_schema.specs.Schemas.{Schema}
-use Rattle.rasn_schema.specs.AtDepths.{AtDepths}
 use Rattle.rasn_traits.specs.Calls.{EncoderRules, Written}
 use Rattle.rasn_traits.specs.Contents.{ClosesContents, PassesContents}
 

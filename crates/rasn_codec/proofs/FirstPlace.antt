@@ -2,7 +2,8 @@
 use Rattle.std.proofs.Common.{◌≡◌, refl, ap, subst, ℕ, suc, ◌+◌, ◌<◌, Bool, true, false, cond, List, [], ◌∷◌, map, length, Option, Some, None, Result, arith}
 use Rattle.rasn_types.specs.Values.{Value, root, added}
 use Rattle.std.specs.List.{position_from}
-use Rattle.rasn_schema.specs.Choices.{VariantShape, alternative_in, go_by, place_of, StandsAt, variants_behind}
+use Rattle.rasn_schema.specs.Choices.{VariantShape, go_by, place_of, StandsAt, variants_behind}
+use Rattle.rasn_schema.specs.Structures.{alternative_in}
 use Rattle.rasn_schema.specs.declared.items.Place.{Place}
 use Rattle.rasn_schema.specs.declared.items.Place.TheVariants.{Root, Added}
 use Rattle.rasn_schema.specs.Lawful.{same_tag}

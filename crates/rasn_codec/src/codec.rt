@@ -2,9 +2,8 @@
 
 ghost use Rattle.std.specs.Prelude.{◌≡◌, false};
 ghost use Rattle.rasn_traits.specs.Calls.{Encodes, Reads};
-ghost use Rattle.rasn_schema.specs.Absent.{no_value};
+ghost use Rattle.rasn_schema.specs.Structures.{no_value, tag_of};
 ghost use Rattle.rasn_schema.specs.Choices.{choices_of};
-ghost use Rattle.rasn_schema.specs.Fields.{tag_of};
 ghost use Rattle.rasn_traits.specs.Choices.{TakesAlternative};
 
 pub use crate::decoder_ext::DecoderExt;

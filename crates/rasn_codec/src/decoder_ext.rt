@@ -2,7 +2,8 @@
 
 ghost use Rattle.std.specs.Prelude.{map};
 ghost use Rattle.rasn_schema.specs.Forms.{is_size_marked, size_of};
-ghost use Rattle.rasn_schema.specs.Lists.{list_at, list_value};
+ghost use Rattle.rasn_schema.specs.Lists.{list_at};
+ghost use Rattle.rasn_schema.specs.Structures.{list_value};
 ghost use Rattle.rasn_schema.specs.Schemas.{optional};
 ghost use Rattle.rasn_traits.specs.Optionals.{ReadsComponent, ReadsDefault};
 ghost use Rattle.rasn_traits.specs.Presences.{slot_of};

@@ -3,12 +3,12 @@
 ghost use Rattle.std.specs.Prelude.{suc, map};
 ghost use Rattle.std.specs.Fn.{FnOnceReturnsAt};
 ghost use Rattle.rasn_schema.specs.Choices.{choices_of};
-ghost use Rattle.rasn_schema.specs.Fields.{tag_of};
+ghost use Rattle.rasn_schema.specs.Structures.{tag_of, list_value};
 ghost use Rattle.rasn_schema.specs.Forms.{size_of, is_size_marked};
 ghost use Rattle.rasn_traits.specs.Choices.{EncodesAlternative};
 ghost use Rattle.rasn_traits.specs.Optionals.{EncodesDefault, EncodesNone, EncodesSome};
 ghost use Rattle.rasn_traits.specs.Calls.{Encodes};
-ghost use Rattle.rasn_schema.specs.Lists.{deepest, list_at, list_value};
+ghost use Rattle.rasn_schema.specs.Lists.{deepest, list_at};
 
 use crate::codec::Encode;
 use rasn_schema::choices::Choice;

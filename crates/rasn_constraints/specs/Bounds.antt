@@ -1,7 +1,12 @@
--- Bounds of numbers and of counts: which numbers stand within bounds, and which counts a size allows (ITU-T X.680, 51).
-use Rattle.std.specs.Prelude.{ℕ, suc, ◌+◌, ◌-◌, ◌^◌, Bool, true, ◌&&◌, nat_le, nat_lt, Option, Some, None, ℤ, pos}
-use Rattle.std.specs.Prelude.{negsuc}
+-- Bounds of numbers and of counts: which numbers stand within bounds, and which counts a size allows (ITU-T X.680, 51);
+-- and the number and the bounds that an error tells.
 use lib.Signed.{le_z}
+use Rattle.std.specs.Prelude.{ℕ, suc, ◌+◌, ◌-◌, ◌^◌, Bool, true, ◌&&◌, nat_le, nat_lt, Option, Some, None, ℤ, pos}
+use Rattle.std.specs.Prelude.{negsuc, ◌*◌, ◌/◌, ◌%◌, if◌then◌else◌}
+use Rattle.rasn_constraints.specs.declared.count.Count.{Count}
+use Rattle.rasn_constraints.specs.declared.bounds.OutOfBounds.{OutOfBounds}
+use Rattle.rasn_constraints.specs.declared.bounds.Sign.{Sign}
+use Rattle.rasn_constraints.specs.declared.bounds.Sign.TheVariants.{Absent, Positive, Negative}
 
 -- X.680 51.4: the least and the greatest number of a value constraint, each where there is one
 pub record Bounds : Type 0 where
@@ -64,3 +69,29 @@ above (pos l) (pos v) = v - l
 above (pos l) (negsuc v) = 0
 above (negsuc l) (pos v) = v + suc l
 above (negsuc l) (negsuc v) = l - v
+
+-- the words of a number
+abbrev pub count_of : ℕ → Count
+count_of n = record { low = n % 2 ^ 64; high = n / 2 ^ 64 }
+
+-- the number of two words
+abbrev pub number_of : Count → ℕ
+number_of c = c.high * 2 ^ 64 + c.low
+
+-- the number that a count stands for, which an i128 holds
+abbrev pub told_by : Sign → Count → Option ℤ
+told_by Absent c = None
+told_by Positive c = if nat_lt (number_of c) (2 ^ 127) then Some (pos (number_of c)) else None
+told_by Negative c = if nat_lt (number_of c) (2 ^ 127) then Some (negsuc (number_of c)) else None
+
+-- the number that is refused
+abbrev pub value_of : OutOfBounds → Option ℤ
+value_of told = told_by told.value_sign told.value
+
+-- its lower bound
+abbrev pub lower_of : OutOfBounds → Option ℤ
+lower_of told = told_by told.lower_sign told.lower
+
+-- its upper bound
+abbrev pub upper_of : OutOfBounds → Option ℤ
+upper_of told = told_by told.upper_sign told.upper

@@ -1,7 +1,7 @@
 //! A number outside of its bounds.
 
 ghost use Rattle.std.specs.Prelude.{◌≡◌};
-ghost use Rattle.rasn_constraints.specs.ToldBounds.{lower_of, told_by, upper_of, value_of};
+ghost use Rattle.rasn_constraints.specs.Bounds.{lower_of, told_by, upper_of, value_of};
 
 use crate::count::Count;
 use std::fmt;

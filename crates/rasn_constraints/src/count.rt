@@ -1,7 +1,7 @@
 //! A number of 128 bits in two words.
 
 ghost use Rattle.std.specs.Prelude.{◌≡◌};
-ghost use Rattle.rasn_constraints.specs.Counts.{count_of, number_of};
+ghost use Rattle.rasn_constraints.specs.Bounds.{count_of, number_of};
 
 use std::fmt;
 

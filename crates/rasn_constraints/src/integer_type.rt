@@ -2,7 +2,7 @@
 
 ghost use Rattle.std.specs.Prelude.{◌≡◌, ℕ, ℤ, pos, true, false, int_lt, IfOk, MatchOption};
 ghost use Rattle.std.specs.Ordering.{int_cmp};
-ghost use Rattle.rasn_types.specs.Octets.{signed_octets, signed};
+ghost use Rattle.rasn_types.specs.Bits.{signed_octets, signed};
 ghost use Rattle.rasn_constraints.specs.Bounds.{Bounds, holds, fits_i128, unbounded};
 ghost use Rattle.rasn_constraints.specs.Ranges.{i128_range, signed_range, unsigned_range};
 

@@ -3,7 +3,7 @@ use Rattle.std.proofs.Common.{◌≡◌, refl, sym, ap, ◌∙◌, ℕ, zero, su
 use Rattle.std.proofs.lemmas.Bool.{eq-eqb}
 use Rattle.std.proofs.lemmas.Bool.Decides.{same_from_decides}
 use Rattle.rasn_types.specs.Values.{Value, alternative, Side, root, added, side_code, same}
-use Rattle.rasn_schema.specs.Choices.{alternative_at}
+use Rattle.rasn_schema.specs.Structures.{alternative_at}
 use Rattle.rasn_schema.specs.Components.{TypeLists, Chosen, chosen_value, alternatives_at, root_parts, added_parts}
 use Rattle.rasn_schema.specs.Normal.{normal, normal_at}
 use Rattle.rasn_schema.specs.Schemas.{Schema, Parts, no_parts, part}

@@ -7,7 +7,8 @@ use Rattle.rasn_types.specs.Values.{Value, elements, as_values, values, same}
 use Rattle.rasn_types.proofs.Values.{values-as_values}
 use Rattle.rasn_constraints.specs.Bounds.{Size}
 use Rattle.rasn_schema.specs.Schemas.{Schema}
-use Rattle.rasn_schema.specs.Lists.{list_at, list_value}
+use Rattle.rasn_schema.specs.Lists.{list_at}
+use Rattle.rasn_schema.specs.Structures.{list_value}
 use Rattle.rasn_schema.specs.Normal.{normal}
 use Rattle.rasn_constructed.specs.Listed.{are_same}
 use Rattle.rasn_constructed.proofs.Equal.{same_decides, both_decide}

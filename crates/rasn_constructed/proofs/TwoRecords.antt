@@ -6,7 +6,7 @@ use Rattle.rasn_types.specs.Values.{Value, as_slots, slots, same}
 use Rattle.rasn_types.proofs.Values.{slots-as_slots}
 use Rattle.rasn_schema.specs.Components.{TypeLists, sequence_at, root_parts, added_parts}
 use Rattle.rasn_schema.specs.Normal.{normal, normals}
-use Rattle.rasn_schema.specs.Records.{record_value}
+use Rattle.rasn_schema.specs.Structures.{record_value}
 use Rattle.rasn_schema.specs.Schemas.{Parts}
 use Rattle.rasn_record.specs.Lists.{deeper_of}
 use Rattle.rasn_defaults.specs.Told.{TellsSame}

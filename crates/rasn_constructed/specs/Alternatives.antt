@@ -1,7 +1,7 @@
 -- An alternative of a CHOICE, as a default tells it from others.
 use Rattle.std.specs.Prelude.{◌≡◌, ℕ, zero, suc, Bool, not, ◌&&◌, ◌==◌, Option, Some, None}
 use Rattle.rasn_types.specs.Values.{Side, side_code}
-use Rattle.rasn_schema.specs.Choices.{alternative_at}
+use Rattle.rasn_schema.specs.Structures.{alternative_at}
 use Rattle.rasn_schema.specs.Components.{Chosen}
 use Rattle.rasn_schema.specs.Schemas.{Schema, Parts}
 use Rattle.rasn_constructed.specs.Parts.{bare}

@@ -3,7 +3,7 @@
 ghost use Rattle.std.specs.Prelude.{◌≡◌, ℕ, suc, Option, Some, None, IfOk};
 ghost use Rattle.rasn_types.specs.Values.{Value};
 ghost use Rattle.rasn_schema.specs.Components.{sequence_at};
-ghost use Rattle.rasn_schema.specs.Records.{record_value};
+ghost use Rattle.rasn_schema.specs.Structures.{record_value};
 ghost use Rattle.rasn_traits.specs.Presences.{slot_of};
 ghost use Rattle.rasn_record.specs.Slots.{slot_levels};
 ghost use Rattle.rasn_constructed.specs.Parts.{Form, TellsPart, bare, grouped, plain};

@@ -2,7 +2,8 @@
 
 ghost use Rattle.std.specs.Prelude.{◌≡◌, List, [], ◌∷◌, ◌++◌, map, OnOk};
 ghost use Rattle.rasn_types.specs.Values.{Value};
-ghost use Rattle.rasn_schema.specs.Lists.{deepest, list_value};
+ghost use Rattle.rasn_schema.specs.Lists.{deepest};
+ghost use Rattle.rasn_schema.specs.Structures.{list_value};
 ghost use Rattle.rasn_constructed.specs.Listed.{TellsElements};
 
 use rasn_defaults::DefaultOf;

@@ -8,7 +8,7 @@ ghost use Rattle.rasn_schema.specs.Choices.{choice_at, choices_of};
 ghost use Rattle.rasn_schema.specs.Components.{sequence_at, sequence_value};
 ghost use Rattle.rasn_schema.specs.Schemas.{Parts, Presence, leaf, no_parts, optional, part, required};
 ghost use Rattle.rasn_schema.specs.Records.{own_or};
-ghost use Rattle.rasn_schema.specs.Fields.{tag_of};
+ghost use Rattle.rasn_schema.specs.Structures.{tag_of};
 ghost use Rattle.rasn_traits.specs.Calls.{Reads};
 ghost use Rattle.rasn_traits.specs.Choices.{TakesAlternative};
 ghost use Rattle.rasn_traits.specs.Optionals.{ReadsComponent};

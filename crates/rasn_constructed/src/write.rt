@@ -5,11 +5,12 @@ ghost use Rattle.std.specs.Prelude.{◌≡◌, ℕ, suc, List, [], ◌∷◌, Op
 ghost use Rattle.std.specs.Borrow.{Bor};
 ghost use Rattle.rasn_types.specs.Values.{Value, alternative, root};
 ghost use Rattle.rasn_constraints.specs.declared.constraints.Constraint.{Constraint};
-ghost use Rattle.rasn_schema.specs.Choices.{alternative_at, place_of};
+ghost use Rattle.rasn_schema.specs.Structures.{alternative_at, tag_of};
+ghost use Rattle.rasn_schema.specs.Choices.{place_of};
 ghost use Rattle.rasn_schema.specs.Components.{sequence_at, sequence_value};
 ghost use Rattle.rasn_schema.specs.Schemas.{Parts, no_parts, part, required};
 ghost use Rattle.rasn_schema.specs.Records.{own_or};
-ghost use Rattle.rasn_schema.specs.Fields.{Shape, shape_of, tag_of, tagged};
+ghost use Rattle.rasn_schema.specs.Fields.{Shape, shape_of, tagged};
 ghost use Rattle.rasn_traits.specs.Calls.{Encodes};
 ghost use Rattle.rasn_traits.specs.Scopes.{WritesParts};
 ghost use Rattle.rasn_record.specs.Lists.{ArePlain, at_least, behind, deepest, first_given, first_tree};

@@ -3,7 +3,7 @@ use Rattle.std.proofs.Common.{◌≡◌, refl, sym, ap, ◌∙◌, subst, ℕ, z
 use mathlib.Core.Bool.{beq}
 use Rattle.std.specs.Cmp.Lexicographic.{pointwise}
 use Rattle.std.specs.Option.{unwrap_or}
-use Rattle.rasn_types.specs.Trimmed.{filled_up, trimmed}
+use Rattle.rasn_types.specs.Bits.{filled_up, trimmed}
 use Rattle.rasn_types.specs.Values.{bits, same}
 use Rattle.rasn_types.proofs.Trimming.{trimmed-split}
 use Rattle.rasn_constraints.specs.Bounds.{Size}

@@ -11,7 +11,8 @@ use Rattle.std.proofs.lemmas.Slice.Eq.{slice_eq-Decides}
 use Rattle.rasn_types.specs.Values.{Value, truth, whole, item, octets, bits, characters, root, added, same, code, equal_lists, bool_code}
 use Rattle.rasn_constraints.specs.Bounds.{Size}
 use Rattle.rasn_schema.specs.Schemas.{Schema}
-use Rattle.rasn_schema.specs.Lists.{list_at, list_value}
+use Rattle.rasn_schema.specs.Lists.{list_at}
+use Rattle.rasn_schema.specs.Structures.{list_value}
 use Rattle.rasn_schema.specs.Normal.{normal}
 
 equal_lists_same : (xs ys : List ℕ) → equal_lists xs ys ≡ true → xs ≡ ys

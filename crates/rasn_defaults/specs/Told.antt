@@ -2,8 +2,7 @@
 use Rattle.std.specs.Prelude.{◌≡◌, ℕ, Bool, true, cond, ◌&&◌, List, [], ◌∷◌}
 use Rattle.rasn_types.specs.Values.{Value, same}
 use Rattle.rasn_schema.specs.Schemas.{Schema}
-use Rattle.rasn_schema.specs.Normal.{normal}
-use Rattle.rasn_schema.specs.AtDepths.{AtDepths}
+use Rattle.rasn_schema.specs.Normal.{normal, AtDepths}
 
 -- a test of whether two values are one: at each depth that holds the first, its normal form is the second
 abbrev pub TellsSame : (ℕ → Schema) → ℕ → Value → Value → Bool → Type 0

@@ -4,7 +4,7 @@ ghost use Rattle.std.specs.Prelude.{◌≡◌};
 ghost use Rattle.std.specs.Bool.{beq};
 ghost use Rattle.std.specs.Cmp.Lexicographic.{pointwise};
 ghost use Rattle.std.specs.Option.{unwrap_or};
-ghost use Rattle.rasn_types.specs.Trimmed.{filled_up, trimmed};
+ghost use Rattle.rasn_types.specs.Bits.{filled_up, trimmed};
 ghost use Rattle.rasn_types.specs.Values.{bits};
 ghost use Rattle.rasn_schema.specs.Forms.{size_of};
 

@@ -1,7 +1,7 @@
 //! Defaults of SEQUENCE OF (X.680 26).
 
 ghost use Rattle.std.specs.Prelude.{[]};
-ghost use Rattle.rasn_schema.specs.Lists.{list_value};
+ghost use Rattle.rasn_schema.specs.Structures.{list_value};
 
 use crate::DefaultOf;
 use rasn_schema::schema::{AsnType, Constraints};

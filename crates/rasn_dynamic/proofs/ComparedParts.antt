@@ -5,10 +5,9 @@ use Rattle.std.specs.Global.{Vec}
 use Rattle.rasn_types.specs.Values
 use Rattle.rasn_types.specs.Values.{Value as Content, same}
 use Rattle.rasn_types.proofs.Values.{slots-as_slots}
-use Rattle.rasn_schema.specs.AtDepths.{AtDepths}
-use Rattle.rasn_schema.specs.Lists.{deepest, list_value}
-use Rattle.rasn_schema.specs.Normal.{are_idle, is_idle, is_vacant, normal, normals, settle}
-use Rattle.rasn_schema.specs.Records.{record_value}
+use Rattle.rasn_schema.specs.Normal.{AtDepths, are_idle, is_idle, is_vacant, normal, normals, settle}
+use Rattle.rasn_schema.specs.Lists.{deepest}
+use Rattle.rasn_schema.specs.Structures.{list_value, record_value}
 use Rattle.rasn_schema.specs.Schemas
 use Rattle.rasn_schema.specs.Schemas.{Schema}
 use Rattle.rasn_dynamic.specs.declared.types.Component.{Component}

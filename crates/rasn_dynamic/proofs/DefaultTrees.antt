@@ -2,7 +2,7 @@
 use Rattle.std.proofs.Common.{◌≡◌, refl, sym, ap, ◌∙◌, List, [], ◌∷◌, map, Option, Some, None}
 use Rattle.std.specs.Global.{Vec}
 use Rattle.rasn_types.specs.Values.{Value as Content}
-use Rattle.rasn_schema.specs.Lists.{list_value}
+use Rattle.rasn_schema.specs.Structures.{list_value}
 use Rattle.rasn_dynamic.specs.declared.types.DefaultTree.{DefaultTree}
 use Rattle.rasn_dynamic.specs.declared.types.DefaultTree.TheOpen.{DefaultTree-F, Elements}
 use Rattle.rasn_dynamic.specs.declared.types.DefaultTree.TheViews

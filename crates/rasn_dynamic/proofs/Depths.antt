@@ -2,8 +2,8 @@
 use Rattle.std.proofs.Common.{◌≡◌, refl, sym, ap, ap₂, ◌∙◌, subst, ℕ, suc, max, ◌≤◌, Bool, true, false, cond, List, [], ◌∷◌, map, Option, Some, None, arith}
 use Rattle.rasn_types.specs.Values
 use Rattle.rasn_types.specs.Values.{Value as Content, alternative, as_slots, as_values, bag_of, before, code, put, sorted}
-use Rattle.rasn_schema.specs.Lists.{deepest, list_value}
-use Rattle.rasn_schema.specs.Records.{record_value}
+use Rattle.rasn_schema.specs.Lists.{deepest}
+use Rattle.rasn_schema.specs.Structures.{list_value, record_value}
 use Rattle.rasn_dynamic.specs.declared.values.Value.{Value}
 use Rattle.rasn_dynamic.specs.declared.values.Value.TheOpen.{Value-F, Absent, Boolean, Null, Integer, Item, Octets, Bits, Characters, Date, Elements, Bag, Fields, Alternative}
 use Rattle.rasn_dynamic.specs.declared.values.Value.TheViews.{roll-Value}

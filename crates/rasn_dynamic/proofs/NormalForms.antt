@@ -7,9 +7,8 @@ use Rattle.rasn_types.specs.Values
 use Rattle.rasn_types.specs.Values.{Value as Content, alternative, as_slots, as_values, bag_of, same, slots, values}
 use Rattle.rasn_types.proofs.Codes.{same_true}
 use Rattle.rasn_types.proofs.Values.{slots-as_slots, values-as_values}
-use Rattle.rasn_schema.specs.Lists.{list_value}
+use Rattle.rasn_schema.specs.Structures.{list_value, record_value}
 use Rattle.rasn_schema.specs.Normal.{are_idle, each_slot, is_idle, is_vacant, normal, normal_at, normals, over_bag, settle}
-use Rattle.rasn_schema.specs.Records.{record_value}
 use Rattle.rasn_schema.specs.Schemas
 use Rattle.rasn_schema.specs.Schemas.{Schema}
 use Rattle.rasn_schema.specs.declared.items.Place.{Place}

@@ -20,7 +20,8 @@ use Rattle.rasn_schema.specs.Enumerations.{items_of}
 use Rattle.rasn_schema.specs.declared.items.ItemCounts.{ItemCounts}
 use Rattle.rasn_schema.specs.declared.items.Place.{Place}
 use Rattle.rasn_schema.specs.declared.items.Place.TheVariants.{Root, Added}
-use Rattle.rasn_traits.specs.Counted.{all_may_be, is_of_kind, item_at, stands_in, WritesNothing, WritesOther}
+use Rattle.rasn_schema.specs.Structures.{all_may_be, is_of_kind}
+use Rattle.rasn_traits.specs.Counted.{item_at, stands_in, WritesNothing, WritesOther}
 use Rattle.rasn_dynamic.specs.declared.types.Choice.{Choice}
 use Rattle.rasn_dynamic.specs.declared.types.Kind.{Kind}
 use Rattle.rasn_dynamic.specs.declared.types.Kind.TheVariants.{Simple as SimpleKind, Date, List as ListKind, SetOf, Record as RecordKind, Choice as ChoiceKind, Containing, Open as OpenKind}

@@ -13,13 +13,13 @@ use Rattle.rasn_types.specs.Values.{Value, bag_of, bits, characters, code, equal
 use Rattle.rasn_types.specs.Values
 use Rattle.rasn_types.proofs.Codes.{same_true}
 use Rattle.rasn_constraints.specs.Bounds.{unbounded}
-use Rattle.rasn_schema.specs.Lists.{list_value}
+use Rattle.rasn_schema.specs.Structures.{list_value, is_of_kind}
 use Rattle.rasn_schema.specs.Normal.{normal, over_bag}
 use Rattle.rasn_schema.specs.Schemas
 use Rattle.rasn_schema.specs.Schemas.{Schema}
 use Rattle.rasn_schema.specs.declared.items.Place.{Place}
 use Rattle.rasn_schema.specs.declared.items.Place.TheVariants.{Root, Added}
-use Rattle.rasn_traits.specs.Counted.{is_of_kind, item_at}
+use Rattle.rasn_traits.specs.Counted.{item_at}
 use Rattle.rasn_dynamic.specs.declared.types.DefaultValue.{DefaultValue}
 use Rattle.rasn_dynamic.specs.declared.types.DefaultValue.TheVariants
 use Rattle.rasn_dynamic.specs.Types.{default_value}

@@ -2,10 +2,10 @@
 use Rattle.std.proofs.Common.{◌≡◌, refl, sym, ap, ap₂, ◌∙◌, subst, ℕ, zero, suc, ◌<◌, ◌≤◌, length, get_or, Bool, true, false, List, [], ◌∷◌, map, Option, Some, None, arith}
 use Rattle.std.specs.Prelude.{max}
 use Rattle.rasn_types.specs.Values.{Value as Content, alternative, bag_of}
-use Rattle.rasn_schema.specs.Lists.{deepest, list_value}
-use Rattle.rasn_schema.specs.Records.{record_value}
+use Rattle.rasn_schema.specs.Lists.{deepest}
+use Rattle.rasn_schema.specs.Structures.{list_value, record_value, is_of_kind}
 use Rattle.rasn_schema.specs.Schemas
-use Rattle.rasn_traits.specs.Counted.{index_in, is_of_kind, side_of}
+use Rattle.rasn_traits.specs.Counted.{index_in, side_of}
 use Rattle.rasn_dynamic.specs.declared.values.Value.{Value}
 use Rattle.rasn_dynamic.specs.declared.values.Value.TheOpen.{Value-F, Absent, Boolean, Null, Integer, Item, Octets, Bits, Characters, Date, Elements, Bag, Fields, Alternative}
 use Rattle.rasn_dynamic.specs.declared.values.Value.TheViews

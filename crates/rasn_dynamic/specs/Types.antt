@@ -12,11 +12,10 @@ use Rattle.rasn_constraints.specs.declared.constraints.Constraint.TheVariants as
 use Rattle.rasn_constraints.specs.declared.constraints.Constraints.{Constraints}
 use Rattle.rasn_constraints.specs.declared.constraints.Extensible.{Extensible}
 use Rattle.rasn_schema.specs.Enumerations.{is_extensible, items_of}
-use Rattle.rasn_schema.specs.Fields.{tag_of}
+use Rattle.rasn_schema.specs.Structures.{tag_of, list_value, record_value}
 use Rattle.rasn_schema.specs.Forms.{bit_schema, character_schema, is_size_marked}
 use Rattle.rasn_schema.specs.Forms.{named_bit_schema, number_schema, octet_schema, size_of}
-use Rattle.rasn_schema.specs.Lists.{list_value}
-use Rattle.rasn_schema.specs.Records.{record_at, record_value}
+use Rattle.rasn_schema.specs.Records.{record_at}
 use Rattle.rasn_schema.specs.Schemas
 use Rattle.rasn_schema.specs.Schemas.{Schema, Parts, no_parts, part, leaf, listed}
 use Rattle.rasn_traits.specs.Counted.{index_in, item_at, side_of}

@@ -4,13 +4,12 @@ use Rattle.rasn_types.specs.Contents.{TextKind, TimeKind}
 use Rattle.rasn_types.specs.Values
 use Rattle.rasn_types.specs.Values.{truth, nothing, whole, octets, bits, characters, bag_of, alternative}
 use Rattle.rasn_constraints.specs.Bounds.{Bounds, Size}
-use Rattle.rasn_schema.specs.Absent.{no_value}
-use Rattle.rasn_schema.specs.Lists.{deepest, list_value}
-use Rattle.rasn_schema.specs.Records.{record_value}
+use Rattle.rasn_schema.specs.Structures.{no_value, list_value, record_value, is_of_kind}
+use Rattle.rasn_schema.specs.Lists.{deepest}
 use Rattle.rasn_schema.specs.Schemas
 use Rattle.rasn_schema.specs.Schemas.{Schema, Parts}
 use Rattle.rasn_strings.specs.Values.{date_value}
-use Rattle.rasn_traits.specs.Counted.{index_in, is_of_kind, item_at, side_of}
+use Rattle.rasn_traits.specs.Counted.{index_in, item_at, side_of}
 use Rattle.rasn_dynamic.specs.declared.values.Value.{Value}
 use Rattle.rasn_dynamic.specs.declared.values.Value.TheOpen.{Value-F, Absent, Boolean, Null, Integer, Item, Octets}
 use Rattle.rasn_dynamic.specs.declared.values.Value.TheOpen.{Bits, Characters, Date, Elements, Bag, Fields, Alternative}

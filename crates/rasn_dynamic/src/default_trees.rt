@@ -2,10 +2,9 @@
 
 ghost use Rattle.std.specs.Prelude.{◌≡◌, ℕ, ◌≤◌, ◌&&◌, IfOk, Some, is_some, map, option_map, slice_get, true};
 ghost use Rattle.rasn_types.specs.Values.{alternative, same};
-ghost use Rattle.rasn_schema.specs.AtDepths.{AtDepths};
-ghost use Rattle.rasn_schema.specs.Lists.{deepest, list_value};
-ghost use Rattle.rasn_schema.specs.Normal.{are_idle, is_idle, is_vacant, normal, normals};
-ghost use Rattle.rasn_schema.specs.Records.{record_value};
+ghost use Rattle.rasn_schema.specs.Normal.{AtDepths, are_idle, is_idle, is_vacant, normal, normals};
+ghost use Rattle.rasn_schema.specs.Lists.{deepest};
+ghost use Rattle.rasn_schema.specs.Structures.{list_value, record_value};
 ghost use Rattle.rasn_traits.specs.Counted.{index_in, side_of};
 ghost use Rattle.rasn_dynamic.specs.Defaults.{all_pairs, chosen_place, components_at, element_place, group_of, groups};
 ghost use Rattle.rasn_dynamic.specs.Defaults.{record_of, same_slot, settled};

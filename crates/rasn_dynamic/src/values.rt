@@ -56,10 +56,9 @@ impl Value {
     ghost use Rattle.rasn_types.specs.Contents.{generalized, utc};
     ghost use Rattle.rasn_types.specs.Values;
     ghost use Rattle.rasn_types.specs.Values.{alternative, bits, characters, nothing, octets, truth, whole};
-    ghost use Rattle.rasn_schema.specs.Lists.{list_value};
-    ghost use Rattle.rasn_schema.specs.Records.{record_value};
+    ghost use Rattle.rasn_schema.specs.Structures.{list_value, record_value, is_of_kind};
     ghost use Rattle.rasn_schema.specs.Schemas.{Schema};
-    ghost use Rattle.rasn_traits.specs.Counted.{index_in, is_of_kind, item_at, side_of};
+    ghost use Rattle.rasn_traits.specs.Counted.{index_in, item_at, side_of};
     ghost use Rattle.rasn_traits.specs.Moments.{identifier_value};
     ghost use Rattle.rasn_strings.specs.Moments.{is_generalized_moment, is_utc_moment};
     ghost use Rattle.rasn_strings.specs.Values.{date_value, generalized_value, utc_value};

@@ -2,7 +2,8 @@
 use Rattle.std.proofs.Common.{ℕ, zero, suc, Bool, List, ◌⊎◌, inl, inr}
 use Rattle.rasn_types.specs.Values.{Value, bag_of}
 use Rattle.rasn_constraints.specs.Bounds.{Size}
-use Rattle.rasn_schema.specs.Lists.{list_at, list_value}
+use Rattle.rasn_schema.specs.Lists.{list_at}
+use Rattle.rasn_schema.specs.Structures.{list_value}
 use Rattle.rasn_schema.specs.Schemas.{Schema}
 use Rattle.rasn_traits.specs.BagsRead.{BagsWell}
 use Rattle.rasn_traits.specs.Calls.{DecoderRules, Refuses}

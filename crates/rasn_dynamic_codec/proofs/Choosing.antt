@@ -6,10 +6,10 @@ use Rattle.std.proofs.lemmas.Bool.{le-ltb, lt-ltb}
 use Rattle.std.proofs.lemmas.Option.{slice_get_cases, slice_get_within}
 use Rattle.rasn_types.specs.Values
 use Rattle.rasn_types.specs.Values.{Value as Content, Side, alternative}
-use Rattle.rasn_schema.specs.AtDepths.{AtDepths}
-use Rattle.rasn_schema.specs.Choices.{alternative_at, alternative_in, one_level_in}
+use Rattle.rasn_schema.specs.Normal.{AtDepths, normal}
+use Rattle.rasn_schema.specs.Structures.{alternative_at, alternative_in, is_of_kind}
+use Rattle.rasn_schema.specs.Choices.{one_level_in}
 use Rattle.rasn_schema.specs.Enumerations.{addeds_of, is_extensible}
-use Rattle.rasn_schema.specs.Normal.{normal}
 use Rattle.rasn_schema.specs.Schemas
 use Rattle.rasn_schema.specs.Schemas.{Parts, Schema, count}
 use Rattle.rasn_schema.specs.declared.items.ItemCounts.{ItemCounts}
@@ -17,7 +17,7 @@ use Rattle.rasn_schema.specs.declared.items.Place.{Place}
 use Rattle.rasn_schema.specs.declared.items.Place.TheVariants.{Root, Added}
 use Rattle.rasn_traits.specs.Calls.{DecoderRules, DecodesWell, EncoderRules, Refuses, Written}
 use Rattle.rasn_traits.specs.Choices.{ChoicesWell, ClosesAlternative, PassesAlternative}
-use Rattle.rasn_traits.specs.Counted.{index_in, is_of_kind, IsChoiceOf, side_of, stands_in}
+use Rattle.rasn_traits.specs.Counted.{index_in, IsChoiceOf, side_of, stands_in}
 use Rattle.rasn_traits.proofs.Alternatives.{normal-alternative}
 use Rattle.rasn_traits.proofs.Writing.{at_suc}
 use Rattle.rasn_dynamic.specs.declared.types.Alternative.{Alternative}

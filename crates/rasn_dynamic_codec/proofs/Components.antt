@@ -4,14 +4,13 @@ use Rattle.std.specs.Prelude.{◌&&◌, is_some}
 use Rattle.std.proofs.lemmas.Bool.{and_parts}
 use Rattle.std.proofs.lemmas.List.{drop_more, drop_all}
 use Rattle.rasn_types.specs.Values.{Value as Content}
-use Rattle.rasn_schema.specs.Fields.{tag_of}
+use Rattle.rasn_schema.specs.Structures.{tag_of}
 use Rattle.rasn_schema.specs.Lists.{deepest}
-use Rattle.rasn_schema.specs.Normal.{normals}
+use Rattle.rasn_schema.specs.Normal.{normals, AtDepths}
 use Rattle.rasn_schema.specs.Records.{AtParts}
 use Rattle.rasn_schema.specs.Schemas
 use Rattle.rasn_schema.specs.Schemas.{leaf, Schema, Parts, no_parts, part, TagTree}
 use Rattle.rasn_traits.specs.Additions.{presents_no_more, WrittenAddition, WrittenAdditions}
-use Rattle.rasn_schema.specs.AtDepths.{AtDepths}
 use Rattle.rasn_traits.specs.Calls.{EncoderRules, PresentsWell}
 use Rattle.rasn_traits.specs.Scopes.{PresentsPart, presents_end, presents_next, refuses_here, refuses_behind, WrittenPart, WrittenParts}
 use Rattle.rasn_traits.proofs.Writing.{parts_room}

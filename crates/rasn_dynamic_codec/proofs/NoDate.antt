@@ -5,11 +5,10 @@ use Rattle.jiff.specs.Types.{Date as Day}
 use Rattle.rasn_types.specs.Values
 use Rattle.rasn_types.specs.Values.{Value as Content}
 use Rattle.rasn_schema.specs.Normal.{normal}
-use Rattle.rasn_schema.specs.Records.{record_value}
+use Rattle.rasn_schema.specs.Structures.{record_value, is_of_kind}
 use Rattle.rasn_schema.specs.Schemas
 use Rattle.rasn_strings.specs.Values.{date_value}
 use Rattle.rasn_traits.specs.Calls.{Encodes, EncoderRules, Writes, Written}
-use Rattle.rasn_traits.specs.Counted.{is_of_kind}
 use Rattle.rasn_traits.specs.Moments.{date_at}
 use Rattle.rasn_dynamic.specs.declared.values.Value.{Value}
 use Rattle.rasn_dynamic.specs.declared.values.Value.TheOpen.{Date}

@@ -3,7 +3,7 @@ use Rattle.std.proofs.Common.{◌≡◌, refl, sym, ap, ◌∙◌, subst, ℕ, s
 use Rattle.std.specs.Prelude.{IfOk, is_some}
 use Rattle.std.proofs.lemmas.List.{drop_more, drop_all}
 use Rattle.rasn_types.specs.Values.{Value as Content}
-use Rattle.rasn_schema.specs.Fields.{field_tag, tag_of}
+use Rattle.rasn_schema.specs.Structures.{field_tag, tag_of}
 use Rattle.rasn_schema.specs.Schemas
 use Rattle.rasn_schema.specs.Schemas.{leaf, no_parts, Parts, part, required, Schema, TagTree}
 use Rattle.rasn_traits.specs.AdditionsRead.{AdditionOpenedToRead, AdditionsWell, FaultyAddition, FaultyAdditions, ReadsAddition, reads_added, ReadsAdditions, reads_further, reads_lacking, reads_no_more, ReadsNoAddition}

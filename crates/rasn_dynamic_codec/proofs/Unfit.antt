@@ -6,15 +6,13 @@ use Rattle.std.proofs.lemmas.List.Sums.{sum_by-cons}
 use Rattle.rasn_types.specs.Values.{Value as Content}
 use Rattle.rasn_types.proofs.Values.{slots-as_slots}
 use Rattle.rasn_schema.specs.Enumerations.{addeds_of, is_extensible}
-use Rattle.rasn_schema.specs.Fields.{tag_of}
-use Rattle.rasn_schema.specs.Lawful.{has_bit, presence_bits}
-use Rattle.rasn_schema.specs.Normal.{normal, normals, settle}
-use Rattle.rasn_schema.specs.Records.{record_at, record_value}
+use Rattle.rasn_schema.specs.Structures.{tag_of, has_bit, presence_bits, record_value, all_may_be, is_of_kind, may_be}
+use Rattle.rasn_schema.specs.Normal.{normal, normals, settle, AtDepths}
+use Rattle.rasn_schema.specs.Records.{record_at}
 use Rattle.rasn_schema.specs.Schemas
 use Rattle.rasn_schema.specs.Schemas.{count, leaf, listed, Parts, part, Schema}
-use Rattle.rasn_schema.specs.AtDepths.{AtDepths}
 use Rattle.rasn_traits.specs.Calls.{EncoderRules, Written}
-use Rattle.rasn_traits.specs.Counted.{all_may_be, AreCounted, IsGroupOf, is_of_kind, may_be}
+use Rattle.rasn_traits.specs.Counted.{AreCounted, IsGroupOf}
 use Rattle.rasn_traits.proofs.Writing.{at_suc, normal-ordered}
 use Rattle.rasn_dynamic_codec.specs.OneAddition.{normal_addition}
 use Rattle.rasn_dynamic_codec.proofs.OneAddition.{addition_normal}

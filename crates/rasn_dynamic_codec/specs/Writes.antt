@@ -2,10 +2,9 @@
 use Rattle.std.specs.Prelude.{◌≡◌, ℕ, Bool, true, false, not, is_some, ◌&&◌, ◌||◌, List, [], ◌∷◌, Option, Some, None}
 use Rattle.std.specs.Prelude.{Result, Ok, Err, OnErr}
 use Rattle.rasn_types.specs.Values.{Side, Value}
-use Rattle.rasn_schema.specs.Normal.{normal, settle}
+use Rattle.rasn_schema.specs.Normal.{normal, settle, AtDepths}
 use Rattle.rasn_schema.specs.Schemas
 use Rattle.rasn_schema.specs.Schemas.{group, Schema}
-use Rattle.rasn_schema.specs.AtDepths.{AtDepths}
 use Rattle.rasn_traits.specs.Calls.{EncoderRules}
 use Rattle.rasn_traits.specs.Counted.{OpensPlaced}
 use Rattle.rasn_traits.specs.Additions.{AdditionWritten, WrittenAddition}

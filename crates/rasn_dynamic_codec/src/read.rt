@@ -3,9 +3,9 @@
 ghost use Rattle.std.specs.Prelude.{◌≡◌, ◌++◌, ◌∷◌, [], true, false, map, slice_get, IfSome, Some};
 ghost use Rattle.rasn_schema.specs.Bags.{set_at};
 ghost use Rattle.rasn_schema.specs.Choices.{one_level_in};
-ghost use Rattle.rasn_schema.specs.Fields.{tag_of};
+ghost use Rattle.rasn_schema.specs.Structures.{tag_of, list_value};
 ghost use Rattle.rasn_schema.specs.Forms.{is_size_marked, size_of};
-ghost use Rattle.rasn_schema.specs.Lists.{list_at, list_value};
+ghost use Rattle.rasn_schema.specs.Lists.{list_at};
 ghost use Rattle.rasn_schema.specs.Schemas.{default, leaf, optional, Schema};
 ghost use Rattle.rasn_traits.specs.AdditionsRead.{TakesAddition, TakesAdditions};
 ghost use Rattle.rasn_traits.specs.Boxes.{Holds};

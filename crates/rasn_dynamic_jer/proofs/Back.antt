@@ -5,7 +5,7 @@ use Rattle.std.specs.List.{list_all}
 use Rattle.std.proofs.lemmas.Bool.{and_parts}
 use Rattle.json.specs.Json.{Json, document, max_depth}
 use Rattle.rasn_types.specs.Values.{Value, bag_of, octets}
-use Rattle.rasn_schema.specs.Lists.{list_value}
+use Rattle.rasn_schema.specs.Structures.{list_value}
 use Rattle.std.specs.Prelude.{IsSomeAnd}
 use Rattle.json.specs.Strict.{HasUniqueKeys}
 use Rattle.rasn_types.specs.Values

@@ -13,8 +13,7 @@ use Rattle.rasn_dynamic.specs.declared.values.Value.TheVariants
 use Rattle.rasn_dynamic.specs.declared.values.Value.TheFolds.{fold-roll-Value, map-Value, ind-Value}
 use Rattle.rasn_dynamic.specs.Types.{standing}
 use Rattle.rasn_types.specs.Values.{alternative, bag_of}
-use Rattle.rasn_schema.specs.Lists.{list_value}
-use Rattle.rasn_schema.specs.Records.{record_value}
+use Rattle.rasn_schema.specs.Structures.{list_value, record_value}
 use Rattle.rasn_traits.specs.Counted.{index_in, side_of}
 use Rattle.rasn_dynamic.specs.Values.{slot_of, slot_step, there}
 use Rattle.std.proofs.Common.{Result}

@@ -13,9 +13,8 @@ use Rattle.rasn_types.specs.AllOf.{all_of, joined}
 use Rattle.rasn_types.specs.Values.{Value, alternative, as_slots, as_values, bag_of, fields, root, slots, values}
 use Rattle.rasn_types.proofs.Values.{slots-as_slots, values-as_values}
 use Rattle.rasn_schema.proofs.Bags.{bag_becomes, sort}
-use Rattle.rasn_schema.specs.Lists.{list_value}
+use Rattle.rasn_schema.specs.Structures.{list_value, record_value}
 use Rattle.rasn_schema.specs.Normal.{over_bag, over_elements}
-use Rattle.rasn_schema.specs.Records.{record_value}
 use Rattle.rasn_schema.specs.declared.items.Place.{Place}
 use Rattle.rasn_schema.specs.declared.items.Place.TheVariants.{Root, Added}
 use Rattle.rasn_traits.specs.Counted.{index_in, side_of}

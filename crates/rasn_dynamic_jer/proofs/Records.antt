@@ -2,7 +2,7 @@
 use Rattle.std.proofs.Common.{◌≡◌, refl, sym, ap, ◌∙◌, ◌⊎◌, inl, inr, ℕ, suc, Bool, true, false, cond, List, [], ◌∷◌, map, length, get_or, arith, Option, Some, None, option_map, Result, Ok, Err}
 use Rattle.std.specs.Borrow.{Bor}
 use Rattle.rasn_types.specs.Values.{Value}
-use Rattle.rasn_schema.specs.Records.{record_value}
+use Rattle.rasn_schema.specs.Structures.{record_value}
 use Rattle.rasn_dynamic.specs.declared.types.Choice.{Choice}
 use Rattle.rasn_dynamic.specs.declared.types.ObjectSet.{ObjectSet}
 use Rattle.rasn_dynamic.specs.declared.values.Value.{Value as Tree}

@@ -5,7 +5,7 @@ use Rattle.rasn_types.specs.Alphabets.{bmp, has_all}
 use Rattle.rasn_types.specs.Contents.{is_time, TimeKind}
 use Rattle.rasn_types.specs.Values.{Value, characters}
 use Rattle.rasn_schema.specs.Schemas
-use Rattle.rasn_traits.specs.Counted.{is_of_kind}
+use Rattle.rasn_schema.specs.Structures.{is_of_kind}
 use Rattle.rasn_dynamic.specs.declared.values.Value.{Value as Tree}
 use Rattle.rasn_dynamic.specs.Values.{slot_of, value_of}
 use Rattle.rasn_dynamic.proofs.Trees.{value_there}

@@ -10,8 +10,7 @@ use Rattle.std.proofs.Common.{add-one, ap₂}
 use Rattle.std.proofs.lemmas.Bool.{and_parts}
 use Rattle.std.proofs.Math.Bool.{and-false}
 use lib.Utf8.{scalar, scalar_cases}
-use Rattle.rasn_types.specs.Bits.{AreOctets, Bits}
-use Rattle.rasn_types.specs.Trimmed.{filled_up, trimmed}
+use Rattle.rasn_types.specs.Bits.{AreOctets, Bits, filled_up, trimmed}
 use Rattle.rasn_schema.specs.Normal.{normal_bits}
 use Rattle.std.specs.Option.{unwrap_or}
 use Rattle.std.proofs.Common.{append-nil, lt-ltb, replicate, ◌^◌, ◌-◌}

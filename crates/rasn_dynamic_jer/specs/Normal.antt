@@ -5,7 +5,7 @@ use Rattle.std.specs.Option.{option_and_then, unwrap_or}
 use Rattle.std.specs.Str.{bytes_eq}
 use Rattle.rasn_types.specs.Values.{Value, alternative, fields, root, slots}
 use Rattle.rasn_schema.specs.Normal.{normal, over_alternative, over_bag, over_elements, over_fields}
-use Rattle.rasn_schema.specs.Records.{record_value}
+use Rattle.rasn_schema.specs.Structures.{record_value}
 use Rattle.rasn_dynamic.specs.Types.{behind, simple_schema, tree_value}
 use Rattle.rasn_dynamic.specs.declared.types.Alternative.{Alternative}
 use Rattle.rasn_dynamic.specs.declared.types.Choice.{Choice}

@@ -15,8 +15,7 @@ use Rattle.rasn_types.specs.Bits.{unpack}
 use Rattle.rasn_types.specs.Contents.{generalized, is_time, TimeKind, utc}
 use Rattle.rasn_types.specs.Integers.{is_i128}
 use Rattle.rasn_types.specs.Values.{Value, alternative, bag_of, bits, characters, nothing, octets, truth, whole}
-use Rattle.rasn_schema.specs.Lists.{list_value}
-use Rattle.rasn_schema.specs.Records.{record_value}
+use Rattle.rasn_schema.specs.Structures.{list_value, record_value}
 use Rattle.rasn_schema.specs.declared.items.Place.{Place}
 use Rattle.rasn_schema.specs.declared.items.Place.TheVariants.{Root, Added}
 use Rattle.rasn_traits.specs.Counted.{index_in, item_at, side_of}

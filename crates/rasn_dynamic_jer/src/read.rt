@@ -7,7 +7,7 @@ ghost use Rattle.json.specs.Value.{members_view, value_view};
 ghost use Rattle.rasn_types.specs.AllOf.{all_of};
 ghost use Rattle.rasn_types.specs.Values.{alternative, bag_of};
 ghost use Rattle.rasn_traits.specs.Counted.{index_in, side_of};
-ghost use Rattle.rasn_schema.specs.Lists.{list_value};
+ghost use Rattle.rasn_schema.specs.Structures.{list_value};
 ghost use Rattle.rasn_dynamic.specs.Values.{slot_of, value_of};
 ghost use Rattle.rasn_dynamic_jer.specs.Shown.{group_in};
 ghost use Rattle.rasn_dynamic_jer.specs.Told.{absent_told, addition_told, additions_told, alternative_place};

@@ -3,7 +3,7 @@ use Rattle.std.proofs.Common.{◌≡◌, ◌&&◌, Bool, true, false, zero, suc,
 use Rattle.std.specs.Prelude.{if◌then◌else◌, IfOk}
 use Rattle.rasn_types.specs.Values.{Value, alternative, Side}
 use Rattle.rasn_types.proofs.Values.{slots-as_slots}
-use Rattle.rasn_schema.specs.Choices.{alternative_in, choice_schema}
+use Rattle.rasn_schema.specs.Structures.{alternative_in, choice_schema}
 use Rattle.rasn_schema.specs.Lawful.{is_group_schema}
 use Rattle.rasn_schema.specs.Normal.{are_idle, is_idle, is_vacant, settle}
 use Rattle.rasn_schema.specs.Records.{record_at}

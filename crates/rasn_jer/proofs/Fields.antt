@@ -1,7 +1,7 @@
 -- What components write, one after another, in the scope of a record, shows them.
 use Rattle.std.proofs.Common.{◌≡◌, ◌&&◌, Bool, true, false, List, [], ◌∷◌, ◌++◌, ◌+◌, drop, length, arith, Option, Some, refl, sym, ap, ◌∙◌, subst, append_assoc, append-nil, inl, inr, ℕ}
 use Rattle.rasn_types.specs.Values.{Value}
-use Rattle.rasn_schema.specs.Records.{record_value}
+use Rattle.rasn_schema.specs.Structures.{record_value}
 use Rattle.rasn_schema.specs.Schemas.{count, Order, Presence, Schema, Parts, no_parts, part, TagTree}
 use Rattle.rasn_traits.specs.Additions.{PresentsAddition, presents_added, presents_skipped, PresentsAdditions, presents_no_more, presents_further}
 use Rattle.rasn_traits.specs.Scopes.{PresentsPart, presents_required, presents_there, presents_left_out, PresentsParts, presents_end, presents_next, PresentsFields, presents_fields}

@@ -4,7 +4,7 @@ use Rattle.std.specs.Prelude.{IfOk, IsErrAnd}
 use Rattle.std.proofs.lemmas.Result.{err_from_is_err_and}
 use Rattle.rasn_types.specs.Values.{Value, bag_of}
 use Rattle.rasn_constraints.specs.Bounds.{Size}
-use Rattle.rasn_schema.specs.Lists.{list_value}
+use Rattle.rasn_schema.specs.Structures.{list_value}
 use Rattle.rasn_traits.specs.Bags.{AwaitsMember, BagOpened, bag_schema}
 use Rattle.rasn_traits.specs.Calls.{Written}
 use Rattle.rasn_traits.specs.Lists.{AwaitsElement, ListForm, ListOpened, Mistimed, schema_of}

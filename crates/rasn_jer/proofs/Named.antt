@@ -1,8 +1,7 @@
 -- Bits that have names, in normal form (X.691 16.2).
 use Rattle.std.proofs.Common.{◌≡◌, refl, sym, ap, ◌∙◌, subst, ℕ, ◌-◌, ◌^◌, ◌<◌, Bool, true, false, cond, ltb, lt-ltb, ◌++◌, length, replicate, append-nil, arith, Option, Some, None}
 use Rattle.std.specs.Option.{unwrap_or}
-use Rattle.rasn_types.specs.Bits.{Bits}
-use Rattle.rasn_types.specs.Trimmed.{filled_up, trimmed}
+use Rattle.rasn_types.specs.Bits.{Bits, filled_up, trimmed}
 use Rattle.rasn_types.specs.Values.{Value, bits}
 use Rattle.rasn_constraints.specs.Bounds.{Size}
 use Rattle.rasn_schema.specs.Normal.{normal, normal_bits}

@@ -1,7 +1,7 @@
 -- Where a refusal of a part is one of the whole.
 use Rattle.std.proofs.Common.{◌≡◌, Bool, true, false, List, ◌∷◌, Option, Some, refl, sym, ap, ◌∙◌, subst, inl, inr, ℕ}
 use Rattle.rasn_types.specs.Values.{Value}
-use Rattle.rasn_schema.specs.Records.{record_value}
+use Rattle.rasn_schema.specs.Structures.{record_value}
 use Rattle.rasn_schema.specs.Schemas.{Order, Presence, required, optional, group, default, Schema, Parts, part}
 use Rattle.rasn_traits.specs.Additions.{addition_bit, PresentsAddition, RefusesAddition, refuses_added, refuses_skipped, refuses_inside, refuses_surplus, RefusesAdditions, refuses_addition, refuses_further, presents_added, presents_skipped}
 use Rattle.rasn_traits.specs.Presences.{presence_bit}

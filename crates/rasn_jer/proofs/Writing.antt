@@ -4,8 +4,7 @@ use Rattle.std.proofs.lemmas.List.{length-map}
 use Rattle.std.specs.Prelude.{◌⊎◌, if◌then◌else◌, IfErr, IfOk, OnErr, OnOk}
 use Rattle.rasn_types.specs.Values.{Value, nothing}
 use Rattle.rasn_schema.specs.Fields.{Shape, shape_of, shapes_from}
-use Rattle.rasn_schema.specs.Lawful.{presence_bits}
-use Rattle.rasn_schema.specs.Records.{record_value}
+use Rattle.rasn_schema.specs.Structures.{presence_bits, record_value}
 use Rattle.rasn_schema.specs.Schemas.{count, no_parts, Order, part, Schema, Parts}
 use Rattle.rasn_traits.specs.Calls.{without_memory, Writes, Written}
 use Rattle.rasn_traits.specs.Scopes.{OpenedToWrite, PresentsFields}

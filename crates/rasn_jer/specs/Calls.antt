@@ -1,9 +1,8 @@
 -- What a call answers that writes a value as JSON: the main theorem.
 use Rattle.std.specs.Prelude.{ℕ, ◌≡◌, ◌≤◌, ◌⊎◌, List, Some}
 use Rattle.rasn_types.specs.Values.{Value}
-use Rattle.rasn_schema.specs.Normal.{normal}
+use Rattle.rasn_schema.specs.Normal.{normal, AtDepths}
 use Rattle.rasn_schema.specs.Schemas.{Schema}
-use Rattle.rasn_schema.specs.AtDepths.{AtDepths}
 use Rattle.json.specs.Json.{document, Json, max_depth}
 use Rattle.json.specs.Tree.{depth}
 use Rattle.rasn_jer.specs.Rules.{fault_of}

@@ -3,7 +3,8 @@ use Rattle.std.specs.Prelude.{ℕ, suc, ◌<◌, ◌≡◌, ◌≢◌, ◌⊎◌
 use Rattle.std.specs.Prelude.{IfErr, IsErrAnd, OnOk}
 use Rattle.rasn_types.specs.Values.{Value}
 use Rattle.rasn_types.specs.declared.types.Codec.TheVariants.{Uper}
-use Rattle.rasn_schema.specs.Lawful.{is_group_schema, presence_bits}
+use Rattle.rasn_schema.specs.Lawful.{is_group_schema}
+use Rattle.rasn_schema.specs.Structures.{presence_bits}
 use Rattle.rasn_schema.specs.Schemas.{count, Schema}
 use Rattle.rasn_traits.specs.Calls.{Behaves, EncoderRules, Writes}
 use Rattle.rasn_traits.specs.Lists.{ListForm}

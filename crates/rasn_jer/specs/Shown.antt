@@ -9,12 +9,9 @@ use Rattle.rasn_types.specs.Values.{Value, truth, nothing, whole, octets, bits, 
 use Rattle.rasn_types.specs.Values.{bag_of, day, Side}
 use Rattle.rasn_types.specs.Identifiers.{contents}
 use Rattle.rasn_constraints.specs.Bounds.{Bounds, Size, fits_i128}
-use Rattle.rasn_schema.specs.Absent.{no_value}
-use Rattle.rasn_schema.specs.Canonised.{canonised, canonised_slots}
-use Rattle.rasn_schema.specs.Choices.{alternative_in, choice_schema}
+use Rattle.rasn_schema.specs.Structures.{no_value, alternative_in, choice_schema, list_value, record_value}
+use Rattle.rasn_schema.specs.Orders.{canonised, canonised_slots}
 use Rattle.rasn_schema.specs.Lawful.{is_group_schema}
-use Rattle.rasn_schema.specs.Lists.{list_value}
-use Rattle.rasn_schema.specs.Records.{record_value}
 use Rattle.rasn_schema.specs.Schemas.{Schema, Parts, no_parts, part, Presence, Order, by_tag, listed, TagTree}
 use Rattle.rasn_traits.specs.Additions.{addition_bit}
 use Rattle.rasn_traits.specs.Presences.{presence_bit}

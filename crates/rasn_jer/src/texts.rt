@@ -3,11 +3,11 @@
 ghost use Rattle.std.specs.Prelude.{◌≡◌, ◌+◌, ℕ, List, ◌⊎◌, Some, false, length, map, option_map, slice_get};
 ghost use Rattle.std.specs.Prelude.{◌++◌, flat_map, replicate, encode_utf8_all, string_bytes, IfOk, IfErr, OnOk};
 ghost use Rattle.std.specs.Char.{encode_utf8, OutOfScalarRange};
-ghost use Rattle.rasn_types.specs.Trimmed.{filled_up, trimmed};
+ghost use Rattle.rasn_types.specs.Bits.{filled_up, trimmed};
 ghost use Rattle.std.specs.Fmt.{decimal as decimal_of, signed_decimal};
 ghost use Rattle.rasn_types.specs.Contents.{generalized, is_time, utc};
 ghost use Rattle.rasn_schema.specs.Choices.{go_by, variants_on};
-ghost use Rattle.rasn_schema.specs.Fields.{tag_of};
+ghost use Rattle.rasn_schema.specs.Structures.{tag_of};
 ghost use Rattle.rasn_traits.specs.Choices.{IsPlaceOf, index_in, side_of};
 ghost use Rattle.hex.specs.Hex.{encode_upper};
 ghost use Rattle.json.specs.Json.{boolean, null, string};

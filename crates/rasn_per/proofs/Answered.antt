@@ -6,17 +6,15 @@ use Rattle.rasn_types.specs.Values.{Value}
 use Rattle.rasn_types.specs.declared.types.Codec.{Codec}
 use Rattle.rasn_schema.specs.Schemas.{Schema}
 use Rattle.rasn_traits.specs.Calls.{Refuses}
-use Rattle.per_core.specs.Ends.{Ends}
-use Rattle.per_bits.specs.Surpluses.{IsWhy}
-use Rattle.per_bits.specs.declared.ended.Surplus.{Surplus}
+use Rattle.per_core.specs.Ends.{Ends, IsWhy, kind_of}
+use Rattle.per_core.specs.declared.ends.Surplus.{Surplus}
 use Rattle.per_decoding.specs.Rules.{decoder_rules}
 use Rattle.per_decoding.specs.State.{State}
 use Rattle.per_decoding.specs.Faults.{refusal}
-use Rattle.per_read.specs.declared.error.DecodeError.{DecodeError}
-use Rattle.per_read.specs.declared.error.DecodeErrorKind.TheVariants.{OutOfMemory}
+use Rattle.per_core.specs.declared.decode_error.DecodeError.{DecodeError}
+use Rattle.per_core.specs.declared.decode_error.DecodeErrorKind.TheVariants.{OutOfMemory}
 use Rattle.rasn_per.specs.Calls.{DecodedBy, DecodedFront}
-use Rattle.rasn_per.specs.Remainders.{IsRemainder, IsWhyNone}
-use Rattle.rasn_per.specs.Kinds.{kind_of}
+use Rattle.rasn_per.specs.Kinds.{IsRemainder, IsWhyNone}
 use Rattle.rasn_per.proofs.Decoded.{fresh, Ended, decoded, refused, unended, decoded_front, refused_front, unended_front}
 use Rattle.rasn_per.proofs.Named.{named, named_surplus, named_front, named_none}
 

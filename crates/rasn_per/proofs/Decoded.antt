@@ -2,7 +2,7 @@
 use Rattle.std.proofs.Common.{◌≡◌, ◌≢◌, refl, sym, ap, ◌∙◌, subst, ℕ, Bool, false, List, ◌⊎◌, inl, inr, ◌%◌, ◌*◌, ◌≤◌, length, length-append, arith, Result, Err}
 use Rattle.std.specs.Prelude.{IfErr}
 use Rattle.rasn_types.specs.Bits.{Bits, AreOctets, unpack}
-use Rattle.rasn_types.specs.Codecs.{variant_of}
+use Rattle.rasn_types.specs.Variants.{variant_of}
 use Rattle.rasn_types.specs.declared.types.Codec.{Codec}
 use Rattle.rasn_types.specs.Values.{Value}
 use Rattle.rasn_types.proofs.Bits.{length-unpack}
@@ -18,10 +18,10 @@ use Rattle.per_decoding.specs.Laws.Spelled.{spelled}
 use Rattle.per_decoding.specs.Rules.{decoder_rules}
 use Rattle.per_decoding.specs.State.{State, Options, from_octet, with_bits, fresh as from_input}
 use Rattle.per_decoding.specs.Faults.{refusal}
-use Rattle.per_read.specs.declared.error.DecodeError.{DecodeError}
-use Rattle.per_read.specs.declared.error.DecodeErrorKind.TheVariants.{OutOfMemory}
-use Rattle.rasn_per.specs.Complete.{reading, basically, AreReadBy, AreUnreadBy, BeginWith, BeginWithNone}
-use Rattle.rasn_per.specs.Remainders.{IsRemainder}
+use Rattle.per_core.specs.declared.decode_error.DecodeError.{DecodeError}
+use Rattle.per_core.specs.declared.decode_error.DecodeErrorKind.TheVariants.{OutOfMemory}
+use Rattle.rasn_per.specs.Calls.{reading, basically, AreReadBy, AreUnreadBy, BeginWith, BeginWithNone}
+use Rattle.rasn_per.specs.Kinds.{IsRemainder}
 use Rattle.rasn_per.proofs.Fronts.{front_read, front_back}
 
 -- a decoder that has just begun with octets, given as bits

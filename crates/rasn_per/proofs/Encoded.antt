@@ -3,21 +3,21 @@ use Rattle.std.proofs.Common.{◌≡◌, ◌≢◌, ◌⊎◌, inl, inr, refl, s
 use Rattle.std.proofs.Math.Nat.{le_refl}
 use Rattle.std.specs.Prelude.{IfOk, IfErr, Vec}
 use Rattle.rasn_types.specs.Bits.{Bits}
-use Rattle.rasn_types.specs.Codecs.{variant_of}
+use Rattle.rasn_types.specs.Variants.{variant_of}
 use Rattle.rasn_types.specs.declared.types.Codec.{Codec}
 use Rattle.rasn_types.specs.Values.{Value}
 use Rattle.rasn_schema.specs.Schemas.{Schema}
-use Rattle.rasn_schema.specs.Normal.{normal}
-use Rattle.rasn_schema.specs.AtDepths.{AtDepths}
+use Rattle.rasn_schema.specs.Normal.{normal, AtDepths}
 use Rattle.per_core.specs.Writers.{join}
 use Rattle.per_core.specs.Canon.{canon, bytes, completed}
 use Rattle.per_enc.specs.Rules.{fresh, Presents}
 use Rattle.per_write.specs.Components.{Encoding}
 use Rattle.per_write.specs.State.{Scope, State, view}
-use Rattle.per_write.specs.Faults.{IsMemory, IsInValue, RefusesOutput, RefusesValue, Stands, output_fault}
-use Rattle.per_write.specs.declared.error.EncodeError.{EncodeError}
-use Rattle.per_write.specs.declared.error.EncodeErrorKind.{EncodeErrorKind}
-use Rattle.per_write.specs.declared.error.EncodeErrorKind.TheVariants.{AlreadyFailed, OutOfMemory}
+use Rattle.per_write.specs.Faults.{IsMemory, RefusesOutput, RefusesValue, Stands, output_fault}
+use Rattle.per_core.specs.WritingFaults.{IsInValue}
+use Rattle.per_core.specs.declared.encode_error.EncodeError.{EncodeError}
+use Rattle.per_core.specs.declared.encode_error.EncodeErrorKind.{EncodeErrorKind}
+use Rattle.per_core.specs.declared.encode_error.EncodeErrorKind.TheVariants.{AlreadyFailed, OutOfMemory}
 use Rattle.rasn_per.specs.Calls.{Encoded}
 
 join-nil : (o : Option Bits) → join [] o ≡ o

@@ -1,15 +1,13 @@
 -- What octets are read as has few items for them.
 use Rattle.std.specs.Borrow.{Bor}
 use Rattle.std.proofs.Common.{ℕ, Bool, List, Result, Ok, Err}
-use Rattle.rasn_types.specs.Codecs.{variant_of}
+use Rattle.rasn_types.specs.Variants.{variant_of}
 use Rattle.rasn_types.specs.Values.{Value}
 use Rattle.rasn_types.specs.declared.types.Codec.{Codec}
 use Rattle.rasn_schema.specs.Schemas.{Schema}
 use Rattle.per_core.proofs.FewTook.{fills_few, front_few}
-use Rattle.per_read.specs.declared.error.DecodeError.{DecodeError}
-use Rattle.rasn_per.specs.Calls.{DecodedBy, DecodedFront}
-use Rattle.rasn_per.specs.Complete.{reading, basically}
-use Rattle.rasn_per.specs.Counts.{AnswersFew, AnswersFewInFront}
+use Rattle.per_core.specs.declared.decode_error.DecodeError.{DecodeError}
+use Rattle.rasn_per.specs.Calls.{DecodedBy, DecodedFront, reading, basically, AnswersFew, AnswersFewInFront}
 
 module _ {T : Type 0} (codec : Codec) (schema : ℕ → Schema) (value : T → Value) (octets : List ℕ) where
   pub few : (strict : Bool) (result : Result T DecodeError) → DecodedBy strict codec schema value octets result → AnswersFew schema value octets result

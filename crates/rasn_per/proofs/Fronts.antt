@@ -8,10 +8,10 @@ use Rattle.rasn_types.specs.Variants.{Variant}
 use Rattle.rasn_types.proofs.Bits.{length-unpack, unpack-append}
 use Rattle.rasn_schema.specs.Schemas.{Schema}
 use Rattle.per_core.specs.Basic.{basic, front}
-use Rattle.per_core.specs.Took.{place, Took}
+use Rattle.per_core.specs.Spellings.{place, Took}
 use Rattle.per_core.proofs.Filling.{place-unpack}
-use Rattle.rasn_per.specs.Complete.{basically}
-use Rattle.rasn_per.specs.Remainders.{IsRemainder}
+use Rattle.rasn_per.specs.Calls.{basically}
+use Rattle.rasn_per.specs.Kinds.{IsRemainder}
 
 -- a list that begins with no more than the first part of another
 prefix : (f t xs ys : Bits) → f ++ t ≡ xs ++ ys → length f ≤ length xs → (m : Bits) × (xs ≡ f ++ m)

@@ -2,25 +2,25 @@
 use Rattle.std.proofs.Common.{◌≡◌, refl, sym, ap, subst, ℕ, Bool, List, length, ◌⊎◌, inl, inr, Result, Err, arith}
 use Rattle.std.specs.Prelude.{IfErr}
 use Rattle.rasn_types.specs.Bits.{Bits, unpack}
-use Rattle.rasn_types.specs.Codecs.{variant_of}
+use Rattle.rasn_types.specs.Variants.{variant_of}
 use Rattle.rasn_types.specs.Values.{Value}
 use Rattle.rasn_types.specs.declared.types.Codec.{Codec}
 use Rattle.rasn_schema.specs.Schemas.{Schema}
 use Rattle.rasn_traits.specs.Calls.{Refuses}
-use Rattle.per_core.specs.Ends.{AreOver}
-use Rattle.rasn_constraints.specs.Counts.{count_of, number_of}
-use Rattle.per_bits.specs.Surpluses.{IsWhy}
-use Rattle.per_bits.specs.declared.ended.Surplus.{Surplus}
-use Rattle.per_bits.specs.declared.ended.Surplus.TheVariants.{Missing, NonzeroOctet, NonzeroSpareBits, ExtraOctets}
+use Rattle.per_core.specs.Ends.{AreOver, IsWhy, kind_of}
+use Rattle.rasn_constraints.specs.Bounds.{count_of, number_of}
+use Rattle.per_core.specs.declared.ends.Surplus.{Surplus}
+use Rattle.per_core.specs.declared.ends.Surplus.TheVariants.{Missing, NonzeroOctet, NonzeroSpareBits, ExtraOctets}
 use Rattle.per_decoding.specs.Rules.{decoder_rules}
 use Rattle.per_decoding.specs.State.{State, noting}
 use Rattle.per_decoding.specs.Faults.{IsOf, refusal}
-use Rattle.per_read.specs.declared.error.DecodeError.{DecodeError}
-use Rattle.per_read.specs.declared.error.DecodeErrorKind.{DecodeErrorKind}
-use Rattle.per_read.specs.declared.error.DecodeErrorKind.TheVariants.{Incomplete, ParserFail, UnexpectedExtraData, AlreadyFailed, OutOfMemory}
-use Rattle.rasn_per.specs.Kinds.{IsInFront, IsInOctetsBy, IsUnended, IsWithoutRemainder, kind_of}
-use Rattle.rasn_per.specs.Complete.{reading}
-use Rattle.rasn_per.specs.Remainders.{IsRemainder, IsWhyNone}
+use Rattle.per_core.specs.declared.decode_error.DecodeError.{DecodeError}
+use Rattle.per_core.specs.declared.decode_error.DecodeErrorKind.{DecodeErrorKind}
+use Rattle.per_core.specs.declared.decode_error.DecodeErrorKind.TheVariants.{Incomplete, ParserFail}
+use Rattle.per_core.specs.declared.decode_error.DecodeErrorKind.TheVariants.{UnexpectedExtraData, AlreadyFailed}
+use Rattle.per_core.specs.declared.decode_error.DecodeErrorKind.TheVariants.{OutOfMemory}
+use Rattle.rasn_per.specs.Kinds.{IsInFront, IsInOctetsBy, IsUnended, IsWithoutRemainder, IsRemainder, IsWhyNone}
+use Rattle.rasn_per.specs.Calls.{reading}
 use Rattle.rasn_per.proofs.Decoded.{fresh, Ended, so}
 
 -- two words of a number are the number

@@ -1,20 +1,66 @@
 -- What the calls answer in either variant: the main theorem.
-use Rattle.std.specs.Prelude.{◌≡◌, ◌≢◌, ℕ, Bool, true, false, List, [], Vec, Result, OnOk, OnErr, IfOk, IfErr}
+use Rattle.std.specs.Prelude.{◌≡◌, ℕ, Bool, false, List, Some, None, ◌≢◌, true, [], Vec, Result, OnOk, OnErr, IfOk}
+use Rattle.std.specs.Prelude.{IfErr, ◌≤◌, ◌*◌, ◌-◌, length}
 use Rattle.std.specs.Borrow.{Bor}
-use Rattle.rasn_types.specs.Codecs.{variant_of}
+use Rattle.rasn_types.specs.Variants.{Variant, variant_of}
 use Rattle.rasn_types.specs.Values.{Value}
 use Rattle.rasn_types.specs.declared.types.Codec.{Codec}
 use Rattle.rasn_schema.specs.Schemas.{Schema}
-use Rattle.rasn_schema.specs.Normal.{normal}
-use Rattle.rasn_schema.specs.AtDepths.{AtDepths}
-use Rattle.per_write.specs.Faults.{IsInValue}
-use Rattle.per_write.specs.declared.error.EncodeError.{EncodeError}
-use Rattle.per_write.specs.declared.error.EncodeErrorKind.TheVariants.{OutOfMemory as no_room_to_write}
-use Rattle.per_read.specs.declared.error.DecodeError.{DecodeError}
-use Rattle.per_read.specs.declared.error.DecodeErrorKind.TheVariants.{OutOfMemory as no_room_to_read}
-use Rattle.rasn_per.specs.Complete.{AreBytes, HasNoBytes, reading, basically, AreReadBy, AreUnreadBy, BeginWith}
-use Rattle.rasn_per.specs.Complete.{BeginWithNone}
+use Rattle.rasn_schema.specs.Normal.{normal, AtDepths}
+use Rattle.per_core.specs.Spellings.{Settings}
+use Rattle.per_core.specs.Canon.{bytes}
+use Rattle.per_core.specs.Basic.{front, read}
+use Rattle.per_core.specs.WritingFaults.{IsInValue}
+use Rattle.per_core.specs.FewItems.{item_count, most_items, HasAtMost}
+use Rattle.per_core.specs.declared.encode_error.EncodeError.{EncodeError}
+use Rattle.per_core.specs.declared.encode_error.EncodeErrorKind.TheVariants.{OutOfMemory as no_room_to_write}
+use Rattle.per_core.specs.declared.decode_error.DecodeError.{DecodeError}
+use Rattle.per_core.specs.declared.decode_error.DecodeErrorKind.TheVariants.{OutOfMemory as no_room_to_read}
+use Rattle.per_core.specs.declared.decode_error.DecodeErrorKind.{DecodeErrorKind}
 use Rattle.rasn_per.specs.Kinds.{IsInFront, IsInOctetsBy}
+
+-- X.691 11.1: octets are the canonical bytes of a value's normal form, by the schema of its type at each depth that
+-- holds the value
+abbrev pub AreBytes : Variant → (ℕ → Schema) → ℕ → Value → List ℕ → Type 0
+AreBytes a schema levels v octets = AtDepths schema levels (λ s. bytes a s (normal s v) ≡ Some octets)
+
+-- there are none
+abbrev pub HasNoBytes : Variant → (ℕ → Schema) → ℕ → Value → Type 0
+HasNoBytes a schema levels v = AtDepths schema levels (λ s. bytes a s (normal s v) ≡ None)
+
+-- a reader that takes padding of any value, or of zero bits alone (this project's choice)
+abbrev pub reading : Bool → Variant → Settings
+reading strict a = record { variant = a; strict = strict }
+
+-- a reader that takes any padding bits
+abbrev pub basically : Variant → Settings
+basically a = reading false a
+
+-- within 128 levels octets are read as a value, and as no other
+pub record AreReadBy (a : Settings) (schema : ℕ → Schema) (v : Value) (octets : List ℕ) : Type 0 where
+  pub are_read : read a schema v octets
+  pub only : (w : Value) → read a schema w octets → w ≡ v
+
+-- within 128 levels octets are read as no value
+abbrev pub AreUnreadBy : Settings → (ℕ → Schema) → List ℕ → Type 0
+AreUnreadBy a schema octets = (v : Value) → read a schema v octets → ⊥
+
+-- within 128 levels octets are read as a value, and as no other, where padding has any value
+abbrev pub AreReadAs : Variant → (ℕ → Schema) → Value → List ℕ → Type 0
+AreReadAs a = AreReadBy (basically a)
+
+abbrev pub AreUnread : Variant → (ℕ → Schema) → List ℕ → Type 0
+AreUnread a = AreUnreadBy (basically a)
+
+-- within 128 levels octets begin with an encoding of a value and leave the rest, and with none of another value or with
+-- another rest
+pub record BeginWith (a : Variant) (schema : ℕ → Schema) (v : Value) (octets rest : List ℕ) : Type 0 where
+  pub are_read : front (basically a) (schema 128) v octets rest
+  pub only : (w : Value) (after : List ℕ) → front (basically a) (schema 128) w octets after → (w ≡ v) × (after ≡ rest)
+
+-- within 128 levels octets begin with an encoding of no value
+abbrev pub BeginWithNone : Variant → (ℕ → Schema) → List ℕ → Type 0
+BeginWithNone a schema octets = (v : Value) (rest : List ℕ) → front (basically a) (schema 128) v octets rest → ⊥
 
 -- A value is written by the schema of its type: its canonical bytes, or, memory aside, a refusal only where it has
 -- none, whose kind names a fault of the value.
@@ -63,3 +109,21 @@ pub record DecodedFront {T : Type 0} (codec : Codec) (schema : ℕ → Schema) (
   pub err : IfErr result (λ e. e.kind ≢ no_room_to_read → BeginWithNone (variant_of codec) schema octets)
   pub kind : IfErr result (λ e. IsInFront (basically (variant_of codec)) schema octets e.kind)
   pub variant : IfErr result (λ e. e.codec ≡ codec)
+
+-- X.691 11.9, 19.5: what is answered to octets has at most 65535 items, and 8192 for each bit of the octets; and so has
+-- each value within it, but for a default that stands for an absent part.
+pub record AnswersFew {T E : Type 0} (schema : ℕ → Schema) (value : T → Value) (octets : List ℕ)
+    (result : Result T E) : Type 0 where
+  pub own : IfOk result (λ x. item_count (value x) ≤ most_items (8 * length octets))
+  pub within : IfOk result (λ x. HasAtMost (most_items (8 * length octets)) (schema 128) (value x))
+
+-- X.691 11.9, 19.5: a value that is answered with the octets behind it has at most 65535 items, and 8192 for each bit
+-- of the octets in front of those; and so has each value within it, but for a default that stands for an absent part.
+pub record AnswersFewInFront {T E : Type 0} (schema : ℕ → Schema) (value : T → Value) (octets : List ℕ)
+    (result : Result (T × Bor (List ℕ)) E) : Type 0 where
+  pub own : IfOk result (λ x. item_count (value x.0) ≤ most_items (8 * (length octets - length x.1.now)))
+  pub within : IfOk result (λ x. HasAtMost (most_items (8 * (length octets - length x.1.now))) (schema 128) (value x.0))
+
+-- what a kind says of octets that all have to be read, where padding has any value
+abbrev pub IsInOctets : Variant → (ℕ → Schema) → List ℕ → DecodeErrorKind → Type 0
+IsInOctets a = IsInOctetsBy (basically a)

@@ -1,31 +1,31 @@
 -- The fault that a refused reading names, where it stands in the octets.
-use Rattle.std.specs.Prelude.{◌≡◌, ◌⊎◌, ℕ, List, length}
+use Rattle.std.specs.Prelude.{◌≡◌, ◌-◌, ◌*◌, ◌/◌, ◌<◌, ◌⊎◌, ◌∷◌, ℕ, List, [], length, drop}
 use Rattle.rasn_types.specs.Bits.{unpack, Bits}
-use Rattle.rasn_types.specs.Variants.{Variant}
 use Rattle.rasn_types.specs.Values.{Value}
+use Rattle.rasn_constraints.specs.Bounds.{number_of}
 use Rattle.rasn_schema.specs.Schemas.{Schema}
 use Rattle.per_core.specs.Basic.{basic}
-use Rattle.per_core.specs.Ends.{AreOver, spare}
-use Rattle.per_core.specs.Spellings.{Settings, ZeroIf}
-use Rattle.per_core.specs.Took.{Took}
-use Rattle.rasn_constraints.specs.Counts.{count_of, number_of}
-use Rattle.per_bits.specs.Surpluses.{IsWhy}
-use Rattle.per_bits.specs.declared.ended.Surplus.{Surplus}
-use Rattle.per_bits.specs.declared.ended.Surplus.TheVariants.{Missing, NonzeroOctet, NonzeroSpareBits, ExtraOctets}
-use Rattle.per_decoding.specs.Faults.{IsInBits}
-use Rattle.per_read.specs.declared.error.DecodeErrorKind.{DecodeErrorKind}
-use Rattle.per_read.specs.declared.error.DecodeErrorKind.TheVariants.{Incomplete, ParserFail, UnexpectedExtraData}
-use Rattle.per_read.specs.declared.error.DecodeErrorKind.TheVariants.{OutOfMemory}
-use Rattle.per_read.specs.declared.error.ParserFailCause.TheVariants.{NonzeroEmptyValue, NonzeroPadding}
-use Rattle.rasn_per.specs.Complete.{basically}
-use Rattle.rasn_per.specs.Remainders.{IsRemainder, IsWhyNone}
+use Rattle.per_core.specs.Ends.{AreOver, spare, IsWhy, kind_of}
+use Rattle.per_core.specs.Spellings.{Settings, ZeroIf, Took}
+use Rattle.per_core.specs.ReadingFaults.{IsInBits}
+use Rattle.per_core.specs.declared.ends.Surplus.{Surplus}
+use Rattle.per_core.specs.declared.ends.Surplus.TheVariants.{Missing, NonzeroOctet}
+use Rattle.per_core.specs.declared.decode_error.DecodeErrorKind.{DecodeErrorKind}
+use Rattle.per_core.specs.declared.decode_error.DecodeErrorKind.TheVariants.{Incomplete, ParserFail}
+use Rattle.per_core.specs.declared.decode_error.DecodeErrorKind.TheVariants.{UnexpectedExtraData, OutOfMemory}
 
--- the refusal of octets that are no complete encoding
-abbrev pub kind_of : Surplus → DecodeErrorKind
-kind_of (Missing bits) = Incomplete (count_of bits)
-kind_of NonzeroOctet = ParserFail NonzeroEmptyValue
-kind_of NonzeroSpareBits = ParserFail NonzeroPadding
-kind_of (ExtraOctets octets) = UnexpectedExtraData (count_of octets)
+-- X.691 11.1: they are the whole octets of the bits that are left; behind a value of no bits all but one octet, which
+-- is zero
+abbrev pub IsRemainder : ℕ → List ℕ → List ℕ → Type 0
+IsRemainder left octets rest =
+    ((left < 8 * length octets) × (rest ≡ drop (length octets - left / 8) octets))
+    ⊎ ((left ≡ 8 * length octets) × (octets ≡ 0 ∷ rest))
+
+-- why there are none: the octet of a value of no bits is missing, or isn't zero
+abbrev pub IsWhyNone : ℕ → List ℕ → Surplus → Type 0
+IsWhyNone left octets (Missing bits) = (octets ≡ []) × (bits ≡ 8)
+IsWhyNone left octets NonzeroOctet = (left ≡ 8 * length octets) × (0 < length octets)
+IsWhyNone left octets _ = ⊥
 
 -- X.691 11.1: behind what spells a value, and spare bits as they have to be, whole octets are left over
 pub record LeaveOver (a : Settings) (schema : ℕ → Schema) (octets : List ℕ) (over : ℕ) : Type 0 where
@@ -76,7 +76,3 @@ IsInOctetsBy a schema octets (Incomplete missing) = Names (IsUnended a schema oc
 IsInOctetsBy a schema octets (ParserFail cause) = Names (IsUnended a schema octets) (ParserFail cause)
     ⊎ IsInBits a (ParserFail cause) (schema 128) (unpack octets)
 IsInOctetsBy a schema octets k = IsInFront a schema octets k
-
--- what a kind says of octets that all have to be read, where padding has any value
-abbrev pub IsInOctets : Variant → (ℕ → Schema) → List ℕ → DecodeErrorKind → Type 0
-IsInOctets a = IsInOctetsBy (basically a)

@@ -1,8 +1,8 @@
 //! The ALIGNED variant: values to octets and back.
 
 ghost use Rattle.rasn_types.specs.declared.types.Codec.TheVariants.{Aper};
-ghost use Rattle.rasn_per.specs.Calls.{Encoded, EncodedInto, Decoded, DecodedFront, DecodedZeroPadded};
-ghost use Rattle.rasn_per.specs.Counts.{AnswersFew, AnswersFewInFront};
+ghost use Rattle.rasn_per.specs.Calls.{Encoded, EncodedInto, Decoded, DecodedFront, DecodedZeroPadded, AnswersFew};
+ghost use Rattle.rasn_per.specs.Calls.{AnswersFewInFront};
 
 pub use crate::complete::lawful;
 use crate::complete::{decode_front, decode_in, encode_in, encode_into};

@@ -2,11 +2,10 @@
 
 ghost use Rattle.std.specs.Prelude.{◌≡◌, ◌≤◌, ◌*◌, ℕ, false, List, length, OnErr, IfOk, IfErr};
 ghost use Rattle.rasn_constraints.specs.LawfulConstraints.{are_lawful};
-ghost use Rattle.per_write.specs.declared.error.EncodeErrorKind.TheVariants.{OutOfMemory};
-ghost use Rattle.rasn_per.specs.Calls.{Encoded, EncodedInto, DecodedBy, DecodedFront};
-ghost use Rattle.rasn_per.specs.Counts.{AnswersFew, AnswersFewInFront};
-ghost use Rattle.rasn_per.specs.Kinds.{kind_of};
-ghost use Rattle.rasn_per.specs.Remainders.{IsRemainder, IsWhyNone};
+ghost use Rattle.per_core.specs.declared.encode_error.EncodeErrorKind.TheVariants.{OutOfMemory};
+ghost use Rattle.rasn_per.specs.Calls.{Encoded, EncodedInto, DecodedBy, DecodedFront, AnswersFew, AnswersFewInFront};
+ghost use Rattle.per_core.specs.Ends.{kind_of};
+ghost use Rattle.rasn_per.specs.Kinds.{IsRemainder, IsWhyNone};
 
 use crate::types::{DecodeAs, EncodeAs};
 use per_bits::ended::{Surplus, ended};

@@ -4,9 +4,8 @@ ghost use Rattle.std.specs.Prelude.{ℕ, Bool, List, Result};
 ghost use Rattle.std.specs.Borrow.{Bor};
 ghost use Rattle.rasn_types.specs.declared.types.Codec.{Codec};
 ghost use Rattle.rasn_constraints.specs.declared.constraints.Constraints.{Constraints};
-ghost use Rattle.per_read.specs.declared.error.DecodeError.{DecodeError};
-ghost use Rattle.rasn_per.specs.Calls.{DecodedBy, DecodedFront};
-ghost use Rattle.rasn_per.specs.Counts.{AnswersFew, AnswersFewInFront};
+ghost use Rattle.per_core.specs.declared.decode_error.DecodeError.{DecodeError};
+ghost use Rattle.rasn_per.specs.Calls.{DecodedBy, DecodedFront, AnswersFew, AnswersFewInFront};
 
 use rasn_codec::codec::Decode;
 

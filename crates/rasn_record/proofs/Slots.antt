@@ -2,9 +2,8 @@
 use Rattle.std.proofs.Common.{◌≡◌, arith, refl, inl, inr, ℕ, max, true, false, Result, Ok, Err, List, ◌∷◌, Option, Some, None}
 use Rattle.rasn_types.specs.Values.{Value}
 use Rattle.rasn_schema.specs.Schemas.{TagTree, Presence, required, optional, group, default, Schema, Parts, part}
-use Rattle.rasn_schema.specs.Normal.{normal, normals, settle}
+use Rattle.rasn_schema.specs.Normal.{normal, normals, settle, AtDepths}
 use Rattle.rasn_schema.specs.Records.{AtParts}
-use Rattle.rasn_schema.specs.AtDepths.{AtDepths}
 use Rattle.rasn_traits.specs.Calls.{EncoderRules, Written, PresentsWell, DecoderRules, Answers}
 use Rattle.rasn_traits.specs.Scopes.{PresentsPart, presents_required, presents_there, presents_left_out, presents_next, refuses_here, refuses_behind, refuses_required, WrittenPart, WrittenParts, FaultyPart, faulty_required, ReadsPart, reads_required, reads_there, reads_left_out}
 use Rattle.rasn_record.specs.Slots.{IsComponent, normal_slot}

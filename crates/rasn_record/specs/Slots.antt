@@ -3,8 +3,7 @@ use Rattle.std.specs.Prelude.{◌≡◌, ◌≤◌, ℕ, Result, Option, Some, N
 use Rattle.std.proofs.Common.{arith}
 use Rattle.rasn_types.specs.Values.{Value}
 use Rattle.rasn_schema.specs.Schemas.{Presence, group, Schema}
-use Rattle.rasn_schema.specs.Normal.{normal}
-use Rattle.rasn_schema.specs.AtDepths.{AtDepths}
+use Rattle.rasn_schema.specs.Normal.{normal, AtDepths}
 use Rattle.rasn_traits.specs.Calls.{Behaves, EncoderRules}
 use Rattle.rasn_traits.specs.Scopes.{WrittenPart}
 use Rattle.rasn_record.specs.Lists.{Asked}

@@ -1,10 +1,10 @@
 //! One alternative of a CHOICE, as a list states it, whose constraints stand at its place in another.
 
 ghost use Rattle.std.specs.Prelude.{◌≡◌, ◌<◌, ◌≤◌, ℕ, [], Some, length};
-ghost use Rattle.rasn_schema.specs.Choices.{alternative_at, choices_of, place_of, variants_behind};
+ghost use Rattle.rasn_schema.specs.Structures.{alternative_at, tag_of};
+ghost use Rattle.rasn_schema.specs.Choices.{choices_of, place_of, variants_behind};
 ghost use Rattle.rasn_schema.specs.declared.items.Place.TheVariants.{Root};
 ghost use Rattle.rasn_schema.specs.Components.{added_parts, chosen, chosen_behind, root_parts};
-ghost use Rattle.rasn_schema.specs.Fields.{tag_of};
 ghost use Rattle.rasn_schema.specs.Records.{own_or};
 ghost use Rattle.rasn_traits.specs.Calls.{Reads};
 ghost use Rattle.rasn_traits.specs.Choices.{IsPlaceOf, WritesChosen};

@@ -1,10 +1,9 @@
 -- The components of a SET in the order of their tags: what hangs on them is put in order as they are.
 use Rattle.std.proofs.Common.{◌≡◌, refl, sym, ap, ◌∙◌, ℕ, zero, suc, ◌+◌, List, [], ◌∷◌, length, Option, Some, None, arith}
 use Rattle.rasn_types.specs.Values.{Value}
-use Rattle.rasn_schema.specs.Canonised.{put_part, canonised, canonised_slots}
-use Rattle.rasn_schema.specs.Lawful.{has_bit, presence_bits}
+use Rattle.rasn_schema.specs.Orders.{put_part, canonised, canonised_slots, insert_at, how_many_less, by_tags}
+use Rattle.rasn_schema.specs.Structures.{has_bit, presence_bits}
 use Rattle.rasn_schema.specs.Normal.{each_slot, normal, normals, settle}
-use Rattle.rasn_schema.specs.Orders.{insert_at, how_many_less, by_tags}
 use Rattle.rasn_schema.specs.Schemas.{Tag, TagTree, Presence, Schema, Parts, no_parts, part, smallest, tags, count}
 
 -- what is inserted makes a list longer by one

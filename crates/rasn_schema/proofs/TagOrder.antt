@@ -12,7 +12,8 @@ use Rattle.rasn_types.specs.declared.types.Class.{Class}
 use Rattle.rasn_types.specs.declared.types.Class.TheVariants.{Universal, Application, Context, Private}
 use Rattle.rasn_types.specs.declared.types.Tag as Rust
 use Rattle.rasn_types.specs.Values.{put, sorted}
-use Rattle.rasn_schema.specs.Fields.{Shape, class_number, in_tag_order, shape_of, tag_of}
+use Rattle.rasn_schema.specs.Fields.{Shape, in_tag_order, shape_of}
+use Rattle.rasn_schema.specs.Structures.{class_number, tag_of}
 use Rattle.rasn_schema.specs.declared.fields.Field.{Field}
 use Rattle.rasn_schema.specs.Orders.{insert_at, how_many_less, by_tags}
 use Rattle.rasn_schema.specs.Schemas.{Tag, tag_less}

@@ -2,7 +2,8 @@
 use Rattle.std.proofs.Common.{◌≡◌, refl, sym, ap, ap₂, ◌∙◌, Bool, true, false, ◌||◌, List, [], ◌∷◌, ◌++◌, map, drop, length, get_or, ℕ, ◌+◌, ◌<◌, Option, Some, None, arith, subst}
 use Rattle.std.proofs.lemmas.Bool.Decides.{nat_tests}
 use Rattle.std.proofs.lemmas.List.{drop_more}
-use Rattle.rasn_schema.specs.Fields.{and_tree, choice_tree, tag_of, tree_of, tree_step, trees_of}
+use Rattle.rasn_schema.specs.Fields.{and_tree, choice_tree, tree_of, tree_step, trees_of}
+use Rattle.rasn_schema.specs.Structures.{tag_of}
 use Rattle.rasn_schema.specs.Lawful.{leaves, leaves_of, same_tag}
 use Rattle.rasn_schema.specs.Schemas
 use Rattle.rasn_schema.specs.Schemas.{Tag, TagTrees, leaf, one_of, no_trees, tree, lesser, smallest, least_of}

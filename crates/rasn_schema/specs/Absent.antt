@@ -1,14 +1,10 @@
 -- What an `Option` is as a value: what it holds, or no value of any type.
-use Rattle.std.specs.Prelude.{◌≡◌, refl, ℕ, true, false, Option, Some, None, pos}
-use Rattle.rasn_types.specs.Values.{Value, day}
+use Rattle.std.specs.Prelude.{◌≡◌, refl, ℕ, true, false, Option, Some, None}
+use Rattle.rasn_types.specs.Values.{Value}
 use Rattle.rasn_schema.specs.Lawful.{if_bag, is_value}
 use Rattle.rasn_schema.specs.Normal.{normal, over_bag}
 use Rattle.rasn_schema.specs.Schemas.{Schema}
-
--- X.680 25.6: what stands for a component that is absent where a value is asked for: a day that isn't in the calendar,
--- which is a value of no schema and has an encoding under none
-abbrev pub no_value : Value
-no_value = day (pos 0) 0 0
+use Rattle.rasn_schema.specs.Structures.{no_value}
 
 -- the value of what may be absent
 abbrev pub value_if : {A : Type 0} → (A → Value) → Option A → Value

@@ -5,7 +5,8 @@ use Rattle.std.specs.Prelude.{Some, None}
 use Rattle.std.specs.List.{position_from}
 use Rattle.rasn_types.specs.declared.types.TheConstants.Tag.{EOC}
 use Rattle.rasn_types.specs.Values.{Side, root, added}
-use Rattle.rasn_schema.specs.Fields.{choice_tree, field_tag, tag_of, tree_of, trees_of}
+use Rattle.rasn_schema.specs.Fields.{choice_tree, tree_of, trees_of}
+use Rattle.rasn_schema.specs.Structures.{field_tag, tag_of, choice_schema}
 use Rattle.rasn_schema.specs.Lawful.{are_distinct, same_tag}
 use Rattle.rasn_schema.specs.Levels.{LevelledParts, Levelled, no_level, to_choice}
 use Rattle.rasn_schema.specs.Records.{own_or}
@@ -44,11 +45,6 @@ abbrev pub variants_of : Parts → List VariantShape
 variants_of no_parts = []
 variants_of (part t p s ps) = record { tag = field_tag t; tree = Some t } ∷ variants_of ps
 
--- X.691 23.5: the tags by which alternatives go, in their order; a nested untagged choice is one alternative
-abbrev pub tags_of : Parts → List Schemas.Tag
-tags_of no_parts = []
-tags_of (part t p s ps) = field_tag t ∷ tags_of ps
-
 -- X.680 29: the tag trees of alternatives
 abbrev pub trees_in : Parts → TagTrees
 trees_in no_parts = no_trees
@@ -83,22 +79,6 @@ abbrev pub StandsAt : Schemas.Tag → List VariantShape → Option (List Variant
 StandsAt t vs xs None = (place_of t vs ≡ None) × (place_of t (variants_behind xs) ≡ None)
 StandsAt t vs xs (Some (Root i)) = (place_of t vs ≡ Some i) × (place_of t (variants_behind xs) ≡ None)
 StandsAt t vs xs (Some (Added i)) = (place_of t vs ≡ None) × (place_of t (variants_behind xs) ≡ Some i)
-
--- the schema of the alternative at a place of a list
-abbrev pub alternative_at : Parts → ℕ → Option Schema
-alternative_at no_parts i = None
-alternative_at (part t p s ps) zero = Some s
-alternative_at (part t p s ps) (suc i) = alternative_at ps i
-
--- the schema of a choice's alternative at a place of one of its lists
-abbrev pub alternative_in : Schema → Side → ℕ → Option Schema
-alternative_in (Schema.choice ps qs marker) root i = alternative_at ps i
-alternative_in (Schema.choice ps qs marker) added i = alternative_at qs i
-alternative_in _ d i = None
-
--- X.680 29: a choice of the alternatives before an extension marker and those behind it
-abbrev pub choice_schema : Parts → Bool → Parts → Schema
-choice_schema ps marker qs = Schema.choice ps qs marker
 
 -- a choice with these variants behind an extension marker, where there is one, to a number of levels of its
 -- alternatives

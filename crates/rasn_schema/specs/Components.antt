@@ -15,13 +15,14 @@ use Rattle.rasn_schema.specs.Schemas.{Schema, TagTree, TagTrees, leaf, one_of, n
 use Rattle.rasn_schema.specs.Schemas.{no_parts, part, listed}
 use Rattle.rasn_schema.specs.Choices.{VariantShape, VariantShapes, choice_at, choice_levelled, trees_in}
 use Rattle.rasn_schema.specs.Choices.{variants_behind, variants_of}
-use Rattle.rasn_schema.specs.Fields.{Shape, Shapes, field_tag, presence_of, shapes_from}
+use Rattle.rasn_schema.specs.Fields.{Shape, Shapes, presence_of, shapes_from}
+use Rattle.rasn_schema.specs.Structures.{field_tag, record_value}
 use Rattle.rasn_schema.specs.Forms.{number_schema, octet_schema, bit_schema, named_bit_schema, character_schema}
 use Rattle.rasn_schema.specs.Forms.{size_of, is_size_marked, always}
 use Rattle.rasn_schema.specs.Levels.{TakesNone, Levelled, LevelledParts, simple_levelled, parts_levelled, part_levelled}
 use Rattle.rasn_schema.specs.Levels.{record_levelled}
 use Rattle.rasn_schema.specs.Lists.{list_at, list_fits, list_levelled}
-use Rattle.rasn_schema.specs.Records.{record_at, record_value}
+use Rattle.rasn_schema.specs.Records.{record_at}
 use Rattle.rasn_schema.specs.Tags.{IsTreeAt, may_be_whole, sequence_fits}
 
 -- a component of a record: its tags, whether it may be absent, and its schema to each number of levels, of which the

@@ -1,33 +1,22 @@
 -- Tags, tag trees and fields as contracts see them.
 use Rattle.std.specs.Prelude.{ℕ, suc, Bool, true, false, List, [], ◌∷◌, Option, Some, None, map}
 use Rattle.rasn_types.specs.declared.types.Tag.{Tag}
-use Rattle.rasn_types.specs.declared.types.Class.{Class}
-use Rattle.rasn_types.specs.declared.types.Class.TheVariants.{Universal, Application, Context, Private}
 use Rattle.rasn_schema.specs.Orders.{by_tags}
 use Rattle.rasn_schema.specs.Schemas
-use Rattle.rasn_schema.specs.Schemas.{leaf, one_of, no_trees, tree, smallest, Parts, no_parts, part}
+use Rattle.rasn_schema.specs.Schemas.{leaf, one_of, no_trees, tree, Parts, no_parts, part}
 use Rattle.rasn_schema.specs.declared.fields.Field.{Field}
 use Rattle.rasn_schema.specs.declared.fields.TagTree.{TagTree}
 use Rattle.rasn_schema.specs.declared.fields.TagTree.TheFolds.{fold-TagTree}
 use Rattle.rasn_schema.specs.declared.fields.TagTree.TheOpen.{TagTree-F, Leaf, Choice}
 use Rattle.rasn_schema.specs.declared.fields.Presence.{Presence}
 use Rattle.rasn_schema.specs.declared.fields.Presence.TheVariants.{Required, Optional, Default}
+use Rattle.rasn_schema.specs.Structures.{tag_of, field_tag}
 
 -- whether a component may be absent
 abbrev pub is_not_required : Presence → Bool
 is_not_required Required = false
 is_not_required Optional = true
 is_not_required Default = true
-
--- X.680 8.6: the classes in ascending order
-abbrev pub class_number : Class → ℕ
-class_number Universal = 0
-class_number Application = 1
-class_number Context = 2
-class_number Private = 3
-
-abbrev pub tag_of : Tag → Schemas.Tag
-tag_of t = record { class = class_number t.class; number = t.value }
 
 -- the tag tree of a type whose own tag is this
 abbrev pub tagged : Tag → Schemas.TagTree
@@ -81,11 +70,6 @@ presence_of Schemas.required = Required
 presence_of Schemas.optional = Optional
 presence_of Schemas.group = Optional
 presence_of (Schemas.default d) = Default
-
--- the tag that a field names: the type's own, or the smallest of an untagged choice
-abbrev pub field_tag : Schemas.TagTree → Schemas.Tag
-field_tag (leaf t) = t
-field_tag (one_of t ts) = smallest (one_of t ts)
 
 -- the fields of components, in order, counted from a number
 abbrev pub shapes_from : ℕ → Parts → List Shape

@@ -1,6 +1,6 @@
 -- What a lawful schema is: what ITU-T X.680 asks of a type, and the limits of this project.
-use Rattle.std.specs.Prelude.{ℕ, zero, suc, ◌+◌, ◌^◌, ◌≡◌, Bool, true, false, not, ◌&&◌, nat_lt, ◌==◌, List, [], ◌∷◌}
-use Rattle.std.specs.Prelude.{◌++◌, length, Option, Some, None}
+use Rattle.std.specs.Prelude.{ℕ, zero, suc, ◌^◌, ◌≡◌, Bool, true, false, not, ◌&&◌, nat_lt, ◌==◌, List, [], ◌∷◌, ◌++◌}
+use Rattle.std.specs.Prelude.{length, Option, Some, None}
 use Rattle.rasn_types.specs.Contents.{is_text, is_time, is_identifier, is_date}
 use Rattle.rasn_types.specs.Values.{Value, whole, truth, nothing, item, octets, bits, characters, elements, bag, fields}
 use Rattle.rasn_types.specs.Values.{alternative, day, root, added, values, slots, same, bag_of}
@@ -10,6 +10,7 @@ use Rattle.rasn_schema.specs.Depth.{Unfolds, meets_cut}
 use Rattle.rasn_schema.specs.Normal.{normal}
 use Rattle.rasn_schema.specs.Schemas.{Tag, TagTree, leaf, one_of, TagTrees, no_trees, tree, Presence, required}
 use Rattle.rasn_schema.specs.Schemas.{optional, group, default, Order, listed, by_tag, Schema, Parts, no_parts, part}
+use Rattle.rasn_schema.specs.Structures.{presence_bits}
 
 unfoldable mutual
   -- X.680 29.3: all tags of a tree
@@ -46,18 +47,6 @@ are_distinct (t ∷ ts) = is_new t ts && are_distinct ts
 abbrev pub are_lawful_tags : Order → Parts → Parts → Bool
 are_lawful_tags listed ps adds = true
 are_lawful_tags by_tag ps adds = are_distinct (tags_below ps ++ tags_below adds)
-
--- whether a part has a presence bit
-abbrev pub has_bit : Presence → ℕ
-has_bit required = 0
-has_bit optional = 1
-has_bit group = 1
-has_bit (default d) = 1
-
--- X.691 19.2: how many presence bits parts have
-abbrev pub presence_bits : Parts → ℕ
-presence_bits no_parts = 0
-presence_bits (part t p s ps) = has_bit p + presence_bits ps
 
 -- X.680 25.1: whether no part is an addition group
 abbrev pub no_groups : Parts → Bool

@@ -1,7 +1,5 @@
 pub mod Absent
-pub mod AtDepths
 pub mod Bags
-pub mod Canonised
 pub mod Choices
 pub mod Components
 pub mod Depth
@@ -19,3 +17,5 @@ pub mod Schemas
 pub mod Tags
 pub mod TreeTags
 pub mod Laws
+pub mod Structures
+pub mod Errors

@@ -1,6 +1,5 @@
 -- SEQUENCE OF: its schemas to a number of levels, and its values (ITU-T X.680, 26).
 use Rattle.std.specs.Prelude.{ℕ, zero, suc, max, Bool, false, List, [], ◌∷◌, Some, refl}
-use Rattle.rasn_types.specs.Values.{Value, elements, as_values}
 use Rattle.rasn_types.specs.declared.types.Class.TheVariants.{Universal}
 use Rattle.rasn_types.specs.declared.types.TheConstants.Tag.{SEQUENCE}
 use Rattle.rasn_constraints.specs.Bounds.{Size}
@@ -14,10 +13,6 @@ use Rattle.rasn_schema.specs.Tags.{AreTagsOf, IsTagOf, IsTreeAt}
 abbrev pub list_at : (ℕ → Schema) → Size → Bool → ℕ → Schema
 list_at element size mark zero = Schemas.cut
 list_at element size mark (suc n) = Schema.list (element n) size mark
-
--- what a SEQUENCE OF is: its elements in their order
-abbrev pub list_value : List Value → Value
-list_value vs = elements (as_values vs)
 
 -- how many levels the deepest of some values takes
 abbrev pub deepest : {A : Type 0} → (A → ℕ) → List A → ℕ

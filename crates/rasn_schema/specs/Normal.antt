@@ -1,9 +1,8 @@
 -- The normal form of a value: no addition group that holds nothing (ITU-T X.691, 19.9), named bits without zero bits at
 -- their end but those that the size asks for (16.2), and the same at every depth.
 use Rattle.std.specs.Prelude.{ℕ, zero, suc, ◌^◌, Bool, true, false, if◌then◌else◌, ◌&&◌, nat_lt, List, [], ◌∷◌, map}
-use Rattle.std.specs.Prelude.{Option, Some, None}
-use Rattle.rasn_types.specs.Bits.{Bits}
-use Rattle.rasn_types.specs.Trimmed.{filled_up, trimmed}
+use Rattle.std.specs.Prelude.{Option, Some, None, ◌≤◌}
+use Rattle.rasn_types.specs.Bits.{Bits, filled_up, trimmed}
 use Rattle.rasn_types.specs.Values.{Value, bits, elements, bag, fields, alternative, root, added, values, as_values}
 use Rattle.rasn_types.specs.Values.{slots, as_slots, same, bag_of}
 use Rattle.rasn_constraints.specs.Bounds.{Size}
@@ -118,3 +117,7 @@ unfoldable mutual
   pub normal_at : Parts → ℕ → Value → Value
   normal_at no_parts = λ i v. v
   normal_at (part t p s ps) = elim [ zero ↦ normal s | suc i ↦ normal_at ps i ]
+
+-- a fact at each unfolding of a schema that is deep enough for a value of k levels
+pub record AtDepths (schema : ℕ → Schema) (k : ℕ) (P : Schema → Type 0) : Type 0 where
+  pub at : (n : ℕ) → k ≤ n → P (schema n)

@@ -1,6 +1,5 @@
 -- Records: their schemas to a number of levels, and their values.
-use Rattle.std.specs.Prelude.{ℕ, zero, suc, ◌≤◌, Bool, List, Option, Some, None}
-use Rattle.rasn_types.specs.Values.{Value, fields, as_slots}
+use Rattle.std.specs.Prelude.{ℕ, zero, suc, ◌≤◌, Bool, Option, Some, None}
 use Rattle.rasn_schema.specs.Schemas
 use Rattle.rasn_schema.specs.Schemas.{Schema, Parts, no_parts, Order}
 
@@ -12,10 +11,6 @@ record_at o parts extensible additions (suc n) = Schema.sequence o (parts n) ext
 -- no additions, at every depth
 abbrev pub no_additions : ℕ → Parts
 no_additions n = no_parts
-
--- what a record is: its root components and its additions, each absent or there
-abbrev pub record_value : List (Option Value) → List (Option Value) → Value
-record_value rs xs = fields (as_slots rs) (as_slots xs)
 
 -- a fact at each unfolding of components that is deep enough for values of k levels
 pub record AtParts (parts : ℕ → Parts) (k : ℕ) (P : Parts → Type 0) : Type 0 where

@@ -1,6 +1,6 @@
 -- The tags of the tree that a constant states (X.680 29.3): its leaves, and the least of them (X.680 8.6).
 use Rattle.std.specs.Prelude.{Bool, false, ◌||◌, List, [], ◌∷◌, ◌++◌, Option, Some, None}
-use Rattle.rasn_schema.specs.Fields.{tag_of}
+use Rattle.rasn_schema.specs.Structures.{tag_of}
 use Rattle.rasn_schema.specs.Lawful.{same_tag}
 use Rattle.rasn_schema.specs.Schemas.{Tag, lesser}
 use Rattle.rasn_schema.specs.declared.fields.TagTree.{TagTree}

@@ -5,7 +5,7 @@ ghost use Rattle.std.specs.List.{position_from};
 ghost use Rattle.rasn_schema.specs.Choices.{AreVariants, StandsAt, VariantShape, choice_at, go_by, place_of};
 ghost use Rattle.rasn_schema.specs.Choices.{stated_tag};
 ghost use Rattle.rasn_schema.specs.Choices.{variant_shape, variants_behind, variants_of};
-ghost use Rattle.rasn_schema.specs.Fields.{tag_of};
+ghost use Rattle.rasn_schema.specs.Structures.{tag_of};
 ghost use Rattle.rasn_schema.specs.Lawful.{same_tag};
 ghost use Rattle.rasn_schema.specs.Schemas.{Parts};
 

@@ -5,7 +5,7 @@ ghost use Rattle.std.proofs.Common.{◌∙◌, ap};
 ghost use Rattle.rasn_types.specs.Values.{Value};
 ghost use Rattle.rasn_types.specs.declared.types.TheConstants.Tag.{SEQUENCE};
 ghost use Rattle.rasn_schema.specs.Fields.{Shapes, tagged};
-ghost use Rattle.rasn_schema.specs.Records.{record_value};
+ghost use Rattle.rasn_schema.specs.Structures.{record_value};
 ghost use Rattle.rasn_schema.specs.Tags.{sequence_tag, sequence_stated};
 ghost use Rattle.rasn_schema.specs.Components.{TypeLists, added_parts, has_marker, root_parts, sequence_at};
 ghost use Rattle.rasn_schema.specs.Components.{sequence_levelled};

@@ -6,6 +6,7 @@ pub mod boxed;
 pub mod choices;
 pub mod components;
 pub mod constrained;
+pub mod de;
 pub mod enumerated;
 pub mod fields;
 pub mod integers;

@@ -5,7 +5,8 @@ ghost use Rattle.rasn_types.specs.declared.types.TheConstants.Tag.{SEQUENCE};
 ghost use Rattle.rasn_constraints.specs.Ranges.{no_constraints};
 ghost use Rattle.rasn_schema.specs.Fields.{tagged};
 ghost use Rattle.rasn_schema.specs.Forms.{is_size_marked, size_of};
-ghost use Rattle.rasn_schema.specs.Lists.{deepest, list_at, list_levelled, list_tag, list_stated, list_value};
+ghost use Rattle.rasn_schema.specs.Lists.{deepest, list_at, list_levelled, list_tag, list_stated};
+ghost use Rattle.rasn_schema.specs.Structures.{list_value};
 
 use crate::fields::{TagTree, TypeTree};
 use crate::schema::{AsnType, Constraints};

@@ -3,7 +3,7 @@
 ghost use Rattle.std.specs.Prelude.{◌≡◌, ℕ, List, true, refl, Some};
 ghost use Rattle.std.specs.String.{string_bytes};
 ghost use Rattle.rasn_types.specs.Alphabets.{has};
-ghost use Rattle.rasn_types.specs.Codecs.{variant_of};
+ghost use Rattle.rasn_types.specs.Variants.{variant_of};
 ghost use Rattle.rasn_types.specs.Contents.{utf8};
 ghost use Rattle.rasn_types.specs.Values.{characters, octets};
 ghost use Rattle.rasn_types.specs.declared.types.TheConstants.Tag.{BMP_STRING, IA5_STRING, NUMERIC_STRING};

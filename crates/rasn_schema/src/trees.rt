@@ -1,7 +1,8 @@
 //! The tags of a tag tree: the smallest, and whether one of them is a given one.
 
 ghost use Rattle.std.specs.Prelude.{◌≡◌, Some, option_map};
-ghost use Rattle.rasn_schema.specs.Fields.{tag_of, tree_of};
+ghost use Rattle.rasn_schema.specs.Structures.{tag_of};
+ghost use Rattle.rasn_schema.specs.Fields.{tree_of};
 ghost use Rattle.rasn_schema.specs.Lawful.{leaves};
 ghost use Rattle.rasn_schema.specs.Schemas.{smallest};
 ghost use Rattle.rasn_schema.specs.TreeTags.{has_tag, least, leaves_in, lesser_there};

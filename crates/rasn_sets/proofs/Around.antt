@@ -3,7 +3,7 @@ use Rattle.std.proofs.Common.{◌≡◌, ℕ, suc, Result, List, length, Option}
 use Rattle.rasn_types.specs.Values.{Value}
 use Rattle.rasn_schema.specs.Components.{TypeLists, added_parts, has_marker, root_parts}
 use Rattle.rasn_schema.specs.Normal.{normals}
-use Rattle.rasn_schema.specs.Records.{record_value}
+use Rattle.rasn_schema.specs.Structures.{record_value}
 use Rattle.rasn_traits.specs.Calls.{DecoderRules, EncoderRules, Encodes, Reads}
 use Rattle.rasn_traits.specs.Scopes.{AnswersFields, AtFields, KeepsCodec, WrittenFields}
 use Rattle.rasn_traits.specs.Sets.{ReadsSet, WritesSet}

@@ -3,7 +3,8 @@ use Rattle.std.specs.Prelude.{IfOk}
 use Rattle.std.proofs.Common.{◌≡◌, refl, ◌⊎◌, inl, inr, ℕ, Result, Ok, Err, List, length, Option, Some, None}
 use Rattle.rasn_types.specs.Values.{Value}
 use Rattle.rasn_types.specs.declared.types.Tag.{Tag}
-use Rattle.rasn_schema.specs.Records.{record_at, record_value}
+use Rattle.rasn_schema.specs.Records.{record_at}
+use Rattle.rasn_schema.specs.Structures.{record_value}
 use Rattle.rasn_schema.specs.Schemas.{TagTree, Presence, by_tag, Schema}
 use Rattle.rasn_traits.specs.AdditionsRead.{FaultyAddition, faulty_added, ReadsAddition, reads_added, reads_lacking, TakesAddition}
 use Rattle.rasn_traits.specs.Calls.{DecoderRules, Reads, Refuses}

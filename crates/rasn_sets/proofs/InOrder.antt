@@ -1,9 +1,8 @@
 -- What stands in ascending order of tags does so at each number of levels.
 use Rattle.std.proofs.Common.{◌≡◌, refl, sym, ap, ℕ, List, [], ◌∷◌, length, Option, arith}
 use Rattle.rasn_types.specs.Values.{Value}
-use Rattle.rasn_schema.specs.Canonised.{canonised, canonised_slots}
+use Rattle.rasn_schema.specs.Orders.{canonised, canonised_slots, by_tags}
 use Rattle.rasn_schema.specs.Components.{Component, TypeLists, parts_of, root_parts}
-use Rattle.rasn_schema.specs.Orders.{by_tags}
 use Rattle.rasn_schema.specs.Schemas.{count, no_parts, part, Parts, smallest, Tag, tags}
 use Rattle.rasn_traits.specs.Sets.{InTagOrder}
 use Rattle.rasn_sets.specs.SetRecords.{AreAscending, slots_in_order}

@@ -1,8 +1,8 @@
 -- The fields of components, as they are listed and in ascending order of their tags, state the components in that order.
 use Rattle.std.proofs.Common.{◌≡◌, refl, ap, subst, ◌∙◌, ℕ, zero, suc, ◌+◌, List, [], ◌∷◌, map, Some, arith}
-use Rattle.rasn_schema.specs.Canonised.{canonised, put_part}
-use Rattle.rasn_schema.specs.Fields.{Shape, field_tag, in_tag_order, presence_of, shapes_from}
-use Rattle.rasn_schema.specs.Orders.{how_many_less, insert_at}
+use Rattle.rasn_schema.specs.Orders.{canonised, put_part, how_many_less, insert_at}
+use Rattle.rasn_schema.specs.Fields.{Shape, in_tag_order, presence_of, shapes_from}
+use Rattle.rasn_schema.specs.Structures.{field_tag}
 use Rattle.rasn_schema.specs.Schemas.{TagTree, leaf, one_of, smallest, tags, Presence, Schema, Parts, no_parts, part}
 use Rattle.rasn_sets.specs.Components.{StandsAt, stands_first, stands_behind}
 

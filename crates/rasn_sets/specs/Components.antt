@@ -7,9 +7,10 @@ use denote.Ref.{MutBor}
 use Rattle.rasn_types.specs.Values.{Value}
 use Rattle.rasn_types.specs.declared.types.Codec.{Codec}
 use Rattle.rasn_types.specs.declared.types.Tag.{Tag}
-use Rattle.rasn_schema.specs.Canonised.{canonised, canonised_slots}
-use Rattle.rasn_schema.specs.Fields.{Shape, field_tag, in_tag_order, tag_of}
-use Rattle.rasn_schema.specs.Records.{record_at, record_value}
+use Rattle.rasn_schema.specs.Orders.{canonised, canonised_slots}
+use Rattle.rasn_schema.specs.Fields.{Shape, in_tag_order}
+use Rattle.rasn_schema.specs.Structures.{field_tag, tag_of, record_value}
+use Rattle.rasn_schema.specs.Records.{record_at}
 use Rattle.rasn_schema.specs.Schemas.{TagTree, Presence, by_tag, Schema, Parts, no_parts, part}
 use Rattle.rasn_traits.specs.AdditionsRead.{FaultyAddition, ReadsAddition}
 use Rattle.rasn_traits.specs.Calls.{Answers, DecoderRules, Refuses}

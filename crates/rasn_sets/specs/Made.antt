@@ -2,7 +2,7 @@
 use Rattle.std.specs.Prelude.{◌≡◌, ℕ, ◌+◌, ◌⊎◌, false, Result, Ok, Err, IfOk, List, ◌++◌, length, map, Option}
 use Rattle.rasn_types.specs.Values.{Value}
 use Rattle.rasn_types.specs.declared.types.Tag.{Tag}
-use Rattle.rasn_schema.specs.Canonised.{canonised, canonised_slots}
+use Rattle.rasn_schema.specs.Orders.{canonised, canonised_slots}
 use Rattle.rasn_schema.specs.Fields.{Shape, in_tag_order, shape_of, shapes_from}
 use Rattle.rasn_schema.specs.declared.fields.Field.{Field}
 use Rattle.rasn_schema.specs.Schemas.{Parts}

@@ -3,12 +3,12 @@
 use Rattle.std.specs.Prelude.{◌≡◌, ℕ, zero, suc, false, List, [], ◌∷◌, Option, Some, refl}
 use Rattle.rasn_types.specs.Values.{Value}
 use Rattle.rasn_types.specs.declared.types.TheConstants.Tag.{SET}
-use Rattle.rasn_schema.specs.Canonised.{canonised_at, canonised_slots}
+use Rattle.rasn_schema.specs.Orders.{canonised_at, canonised_slots, how_many_less}
 use Rattle.rasn_schema.specs.Components.{Component, TypeLists, added_parts, components_behind, components_levelled}
 use Rattle.rasn_schema.specs.Components.{has_marker, root_parts, universal}
 use Rattle.rasn_schema.specs.Levels.{Levelled, record_levelled}
-use Rattle.rasn_schema.specs.Orders.{how_many_less}
-use Rattle.rasn_schema.specs.Records.{record_at, record_value}
+use Rattle.rasn_schema.specs.Records.{record_at}
+use Rattle.rasn_schema.specs.Structures.{record_value}
 use Rattle.rasn_schema.specs.Schemas
 use Rattle.rasn_schema.specs.Schemas.{by_tag, Parts, Schema, Tag}
 use Rattle.rasn_schema.specs.Fields.{tagged}

@@ -9,7 +9,7 @@ ghost use Rattle.rasn_schema.specs.Components.{TypeLists, added_parts, fields_de
 ghost use Rattle.rasn_schema.specs.Components.{root_parts};
 ghost use Rattle.rasn_schema.specs.Fields.{Shapes, tagged};
 ghost use Rattle.rasn_schema.specs.Laws.Fields.{lists_extend};
-ghost use Rattle.rasn_schema.specs.Records.{record_value};
+ghost use Rattle.rasn_schema.specs.Structures.{record_value};
 ghost use Rattle.rasn_schema.specs.Schemas.{by_tag};
 ghost use Rattle.rasn_sets.specs.SetRecords.{set_at, set_levelled, set_stated, set_tag};
 

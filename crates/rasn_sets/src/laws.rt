@@ -2,7 +2,7 @@
 
 ghost use Rattle.std.specs.Prelude.{◌≡◌, List, Option};
 ghost use Rattle.rasn_types.specs.Values.{Value};
-ghost use Rattle.rasn_schema.specs.Canonised.{canonised, canonised_slots};
+ghost use Rattle.rasn_schema.specs.Orders.{canonised, canonised_slots};
 ghost use Rattle.rasn_schema.specs.Schemas.{Parts, tags};
 ghost use Rattle.rasn_sets.specs.SetRecords.{AreAscending};
 

@@ -4,11 +4,11 @@ use Rattle.rasn_types.specs.Values.{Value, alternative, Side, root, added}
 use Rattle.rasn_types.specs.declared.types.Tag.{Tag}
 use Rattle.rasn_schema.specs.Schemas
 use Rattle.rasn_schema.specs.Schemas.{Schema, Parts, no_parts, part}
-use Rattle.rasn_schema.specs.Choices.{VariantShape, alternative_at, alternative_in, choice_at, choice_schema, choices_of, is_extensible, one_level_in, place_of, variants_on}
+use Rattle.rasn_schema.specs.Choices.{VariantShape, choice_at, choices_of, is_extensible, one_level_in, place_of}
+use Rattle.rasn_schema.specs.Choices.{variants_on}
+use Rattle.rasn_schema.specs.Structures.{alternative_at, alternative_in, choice_schema, tag_of}
 use Rattle.rasn_schema.specs.Components.{Chosen, chosen_value}
-use Rattle.rasn_schema.specs.Fields.{tag_of}
-use Rattle.rasn_schema.specs.Normal.{normal, normal_at}
-use Rattle.rasn_schema.specs.AtDepths.{AtDepths}
+use Rattle.rasn_schema.specs.Normal.{normal, normal_at, AtDepths}
 use Rattle.rasn_schema.specs.declared.items.Place.{Place}
 use Rattle.rasn_traits.specs.Calls.{Answers, EncoderRules, Written, DecoderRules, Refuses, DecodesWell}
 use Rattle.rasn_traits.specs.Choices.{AtAlternative, AlternativeWritten, PassesAlternative, PassesChoice, ClosesAlternative, ClosesChoice, ChoicesWell, IsChosen, OpenedAlternative, ReadsAlternative, StandsAtPlace, TakesAlternative, index_in, side_of}

@@ -4,7 +4,7 @@ use Rattle.std.specs.Prelude.{cond, count_by}
 use Rattle.std.proofs.Common.{◌≡◌, ℕ, suc, ◌+◌, arith, refl, subst, ◌∙◌, ◌⊎◌, inl, inr, true, false, Result, Ok, Err, Option, Some}
 use Rattle.rasn_types.specs.Values.{Value}
 use Rattle.rasn_schema.specs.Fields.{is_not_required, may_be_absent, presence_of, shapes_from}
-use Rattle.rasn_schema.specs.Lawful.{has_bit, presence_bits}
+use Rattle.rasn_schema.specs.Structures.{has_bit, presence_bits}
 use Rattle.rasn_schema.specs.Schemas.{Presence, required, optional, group, default, Schema, Parts, no_parts, part}
 use Rattle.rasn_traits.specs.Calls.{EncoderRules, Written, PresentsWell, DecoderRules, DecodesWell, Refuses, Answers}
 use Rattle.rasn_traits.specs.Presences.{presence_bit, left_out}

@@ -1,7 +1,8 @@
 -- The places of a choice's alternatives, and how many these are.
 use Rattle.std.proofs.Common.{◌≡◌, ap, sym, refl, subst, ◌∙◌, ◌<◌, ℕ, zero, suc, Bool, length, true, lt-ltb, ltb-true, inl, inr, arith, List, Option, Some, None, Result, Ok, Err}
 use Rattle.rasn_types.specs.Values.{Side}
-use Rattle.rasn_schema.specs.Choices.{VariantShape, alternative_at, alternative_in, choice_schema, choices_of, is_extensible, variants_behind, variants_of}
+use Rattle.rasn_schema.specs.Choices.{VariantShape, choices_of, is_extensible, variants_behind, variants_of}
+use Rattle.rasn_schema.specs.Structures.{alternative_at, alternative_in, choice_schema}
 use Rattle.rasn_schema.specs.Schemas.{count, Parts, no_parts, part, Schema}
 use Rattle.rasn_schema.specs.declared.items.ItemCounts.{ItemCounts}
 use Rattle.rasn_schema.specs.declared.items.Place.{Place}

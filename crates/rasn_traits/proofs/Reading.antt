@@ -1,13 +1,12 @@
 -- How the law of a record follows from those of its components and of its scope, over any decoder.
 use Rattle.std.proofs.Common.{◌≡◌, refl, sym, ap, subst, ◌∙◌, ℕ, suc, ◌⊎◌, inl, inr, Bool, true, false, List, [], ◌∷◌, Result, Ok, Err, Option, Some, None}
 use Rattle.rasn_types.specs.Values.{Value}
-use Rattle.rasn_schema.specs.Fields.{field_tag}
+use Rattle.rasn_schema.specs.Structures.{field_tag, extended, record_value}
 use Rattle.rasn_schema.specs.Schemas.{TagTree, Presence, required, optional, group, default, listed, Schema, Parts, no_parts, part}
-use Rattle.rasn_traits.specs.Additions.{extended}
 use Rattle.rasn_traits.specs.AdditionsRead.{ReadsAddition, reads_added, reads_lacking, ReadsAdditions, reads_no_more, reads_further, FaultyAddition, faulty_lacking, FaultyAdditions, faulty_addition, faulty_further}
 use Rattle.rasn_traits.specs.Calls.{DecoderRules, Reads, Refuses, ReadsWell, DecodesWell}
 use Rattle.rasn_traits.specs.Presences.{left_out}
-use Rattle.rasn_schema.specs.Records.{record_at, no_additions, record_value}
+use Rattle.rasn_schema.specs.Records.{record_at, no_additions}
 use Rattle.rasn_traits.specs.Scopes.{ReadsPart, reads_required, reads_there, reads_left_out, ReadsParts, reads_end, reads_next, FaultyPart, faulty_required, FaultyParts, faulty_here, faulty_behind, ReadsFields, reads_fields, faulty_root, faulty_behind_root, ReadsNoFields, AnswersFields, AnswersParts, KeepsCodec, ReadsAround, ScopesWell}
 
 -- how a component was read, which may be absent

@@ -1,8 +1,9 @@
 -- How the law of a SET follows from that of the SEQUENCE of its components in ascending order of their tags, over any decoder.
 use Rattle.std.proofs.Common.{◌≡◌, sym, subst, ℕ, zero, suc, ◌⊎◌, inl, inr, Bool, List, Option}
 use Rattle.rasn_types.specs.Values.{Value}
-use Rattle.rasn_schema.specs.Canonised.{canonised_at, canonised_slots}
-use Rattle.rasn_schema.specs.Records.{record_at, record_value}
+use Rattle.rasn_schema.specs.Orders.{canonised_at, canonised_slots}
+use Rattle.rasn_schema.specs.Records.{record_at}
+use Rattle.rasn_schema.specs.Structures.{record_value}
 use Rattle.rasn_schema.specs.Schemas.{listed, by_tag, Parts, Schema}
 use Rattle.rasn_traits.specs.Calls.{DecoderRules, Refuses}
 use Rattle.rasn_traits.specs.Sets.{SetsWell}

@@ -1,12 +1,12 @@
 -- How the law of a SET follows from that of the SEQUENCE of its components in the order of their tags, over any encoder.
 use Rattle.std.proofs.Common.{◌≡◌, sym, ap, ◌∙◌, subst, ℕ, suc, inl, inr, Bool, Result, Ok, Err, List, length, Option, arith}
 use Rattle.rasn_types.specs.Values.{Value}
-use Rattle.rasn_schema.specs.Canonised.{canonised, canonised_at, canonised_slots}
-use Rattle.rasn_schema.specs.Normal.{normal, normals}
-use Rattle.rasn_schema.specs.Records.{record_at, record_value}
+use Rattle.rasn_schema.specs.Orders.{canonised, canonised_at, canonised_slots}
+use Rattle.rasn_schema.specs.Normal.{normal, normals, AtDepths}
+use Rattle.rasn_schema.specs.Records.{record_at}
+use Rattle.rasn_schema.specs.Structures.{record_value}
 use Rattle.rasn_schema.specs.Schemas.{by_tag, count, listed, Parts, Schema}
 use Rattle.rasn_schema.proofs.Canonised.{normals_ordered}
-use Rattle.rasn_schema.specs.AtDepths.{AtDepths}
 use Rattle.rasn_traits.specs.Calls.{EncoderRules, Written}
 use Rattle.rasn_traits.specs.Scopes.{OpenedToWrite}
 use Rattle.rasn_traits.specs.Sets.{InTagOrder, SetsWritten}

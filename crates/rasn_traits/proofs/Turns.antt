@@ -1,7 +1,7 @@
 -- The components of a record that were presented as they are listed are as many as it takes, over any encoder.
 use Rattle.std.proofs.Common.{◌≡◌, refl, sym, ap, ap₂, ◌∙◌, subst, ℕ, suc, ◌+◌, Bool, true, false, List, [], ◌∷◌, Option, Some, None, arith}
 use Rattle.rasn_types.specs.Values.{Value}
-use Rattle.rasn_schema.specs.Lawful.{has_bit, presence_bits}
+use Rattle.rasn_schema.specs.Structures.{has_bit, presence_bits}
 use Rattle.rasn_schema.specs.Schemas.{count, default, group, no_parts, optional, part, Parts, Presence, required, Schema}
 use Rattle.rasn_traits.specs.Additions.{PresentsAddition, presents_added, presents_skipped, PresentsAdditions, presents_no_more, presents_further}
 use Rattle.rasn_traits.specs.Calls.{EncoderRules}

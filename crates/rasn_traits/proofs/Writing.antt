@@ -3,11 +3,11 @@ use Rattle.std.proofs.Common.{◌≡◌, refl, ℕ, zero, suc, ◌≤◌, ◌⊎
 use Rattle.rasn_types.specs.Values.{Value}
 use Rattle.rasn_types.proofs.Values.{slots-as_slots}
 use Rattle.rasn_schema.specs.Schemas.{TagTree, Presence, required, listed, by_tag, count, Order, Schema, Parts, no_parts, part}
-use Rattle.rasn_schema.specs.Normal.{normal, normals}
-use Rattle.rasn_schema.specs.AtDepths.{AtDepths}
+use Rattle.rasn_schema.specs.Normal.{normal, normals, AtDepths}
 use Rattle.rasn_traits.specs.Calls.{EncoderRules, Written, Encodes, PresentsWell}
-use Rattle.rasn_schema.specs.Records.{record_at, no_additions, record_value, AtParts}
-use Rattle.rasn_traits.specs.Additions.{extended, PresentsAdditions, presents_no_more, WrittenAdditions}
+use Rattle.rasn_schema.specs.Records.{record_at, no_additions, AtParts}
+use Rattle.rasn_schema.specs.Structures.{record_value, extended}
+use Rattle.rasn_traits.specs.Additions.{PresentsAdditions, presents_no_more, WrittenAdditions}
 use Rattle.rasn_traits.specs.Scopes.{PresentsPart, PresentsParts, presents_required, presents_there, presents_left_out, presents_end, presents_next, refuses_required, RefusesParts, refuses_here, refuses_behind, WrittenParts, presents_fields, refuses_root, refuses_behind_root, WrittenFields, IsCounted, Passes, ClosesWritten, KeepsCodec, WritesAround, deeper_of}
 use Rattle.std.proofs.Math.Nat.{le-max_left, le-max_right}
 

@@ -1,6 +1,6 @@
 -- What a call owes that is asked for a value that is absent (X.680 25.6), stated over any codec's relations.
 use Rattle.std.specs.Prelude.{Result, IsErrAnd}
-use Rattle.rasn_schema.specs.Absent.{no_value}
+use Rattle.rasn_schema.specs.Structures.{no_value}
 use Rattle.rasn_schema.specs.Schemas.{Schema}
 use Rattle.rasn_traits.specs.Calls.{Behaves, EncoderRules}
 

@@ -2,18 +2,13 @@
 -- codec's relations.
 use Rattle.std.specs.Prelude.{◌≡◌, ℕ, ◌⊎◌, Bool, true, false, Result, Ok, Err, OnErr, List, [], ◌∷◌, Option, Some, None}
 use Rattle.rasn_types.specs.Values.{Value}
-use Rattle.rasn_schema.specs.Schemas.{TagTree, Presence, required, group, listed, Schema, Parts, no_parts, part}
-use Rattle.rasn_schema.specs.Normal.{normal, normals, settle}
+use Rattle.rasn_schema.specs.Schemas.{TagTree, Presence, required, group, Schema, Parts, no_parts, part}
+use Rattle.rasn_schema.specs.Normal.{normal, normals, settle, AtDepths}
 use Rattle.rasn_schema.specs.Records.{AtParts}
-use Rattle.rasn_schema.specs.AtDepths.{AtDepths}
 use Rattle.rasn_traits.specs.Calls.{Behaves, EncoderRules}
 use Rattle.rasn_traits.specs.Presences.{presence_bit}
 use Rattle.rasn_traits.specs.Amounts.{one_value}
 use Rattle.rasn_traits.specs.Turns.{RefusesOther}
-
--- a record of these root components, with or without an extension marker, and these additions behind it
-abbrev pub extended : Parts → Bool → Parts → Schema
-extended ps marker qs = Schema.sequence listed ps marker qs
 
 -- X.691 19.7: the bit of an addition: a required one that is there is written, and else it is as for a component of the
 -- root

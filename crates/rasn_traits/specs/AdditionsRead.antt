@@ -3,7 +3,7 @@
 use Rattle.std.specs.Prelude.{◌≡◌, ℕ, ◌⊎◌, true, false, Result, Ok, Err, OnErr, List, [], ◌∷◌, Option, Some, None}
 use Rattle.std.specs.Prelude.{IfOk, IfSome}
 use Rattle.rasn_types.specs.Values.{Value}
-use Rattle.rasn_schema.specs.Fields.{field_tag}
+use Rattle.rasn_schema.specs.Structures.{field_tag}
 use Rattle.rasn_schema.specs.Schemas.{TagTree, Presence, required, Schema, Parts, no_parts, part}
 use Rattle.rasn_traits.specs.Amounts.{one_value}
 use Rattle.rasn_traits.specs.Calls.{Behaves, DecoderRules, Answers}

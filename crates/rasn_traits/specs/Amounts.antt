@@ -1,6 +1,6 @@
 -- How much comes in an open scope: components, presence bits and additions.
 use Rattle.std.specs.Prelude.{ℕ, suc, Bool, true, false}
-use Rattle.rasn_schema.specs.Lawful.{presence_bits}
+use Rattle.rasn_schema.specs.Structures.{presence_bits}
 use Rattle.rasn_schema.specs.Schemas.{count, Parts}
 
 -- How much came in a scope: components, of which each comes as a value or as a presence bit 0; presence bits; and

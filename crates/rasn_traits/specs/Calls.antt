@@ -2,10 +2,9 @@
 use Rattle.std.specs.Prelude.{◌≡◌, ℕ, ◌≤◌, ◌⊎◌, Bool, true, false, Option, Result, Ok, Err, OnErr, IsErrAnd}
 use Rattle.rasn_types.specs.declared.types.Codec.{Codec}
 use Rattle.rasn_types.specs.Values.{Value}
-use Rattle.rasn_schema.specs.AtDepths.{AtDepths}
+use Rattle.rasn_schema.specs.Normal.{AtDepths, normal, is_vacant}
 use Rattle.rasn_schema.specs.Schemas.{Schema, Tag}
 use Rattle.rasn_schema.specs.Lawful.{is_group_schema}
-use Rattle.rasn_schema.specs.Normal.{normal, is_vacant}
 use Rattle.rasn_traits.specs.Amounts.{Amount}
 
 -- of a call that takes no memory: no error says that there was none

@@ -7,12 +7,10 @@ use Rattle.rasn_types.specs.Values.{Value, alternative, Side, root, added}
 use Rattle.rasn_types.specs.declared.types.Tag.{Tag}
 use Rattle.rasn_schema.specs.Schemas
 use Rattle.rasn_schema.specs.Schemas.{Schema}
-use Rattle.rasn_schema.specs.Choices.{VariantShape, alternative_in, one_level_in, place_of, variants_behind}
-use Rattle.rasn_schema.specs.Choices.{variants_on}
+use Rattle.rasn_schema.specs.Choices.{VariantShape, one_level_in, place_of, variants_behind, variants_on}
+use Rattle.rasn_schema.specs.Structures.{alternative_in, tag_of}
 use Rattle.rasn_schema.specs.Components.{Chosen}
-use Rattle.rasn_schema.specs.Fields.{tag_of}
-use Rattle.rasn_schema.specs.Normal.{normal}
-use Rattle.rasn_schema.specs.AtDepths.{AtDepths}
+use Rattle.rasn_schema.specs.Normal.{normal, AtDepths}
 use Rattle.rasn_schema.specs.declared.items.Place.{Place}
 use Rattle.rasn_schema.specs.declared.items.Place.TheVariants.{Root, Added}
 use Rattle.rasn_traits.specs.Calls.{Behaves, EncoderRules, Encodes, Written, DecoderRules, Refuses, Answers}

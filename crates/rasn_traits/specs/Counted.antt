@@ -1,16 +1,12 @@
 -- What the calls owe for types that are data: records by counts, items and alternatives by counts and places, stated
 -- over any codec's relations and for each family of schemas that is so counted.
-use Rattle.std.specs.Prelude.{◌≡◌, ℕ, suc, ◌⊎◌, Bool, true, false, ◌&&◌, nat_lt, List, [], ◌∷◌, Option, Some, None}
-use Rattle.std.specs.Prelude.{length, option_map, Result, Ok, Err, IfOk, IsErrAnd}
-use Rattle.rasn_types.specs.Alphabets.{has_all}
-use Rattle.rasn_types.specs.Contents.{is_date, is_identifier, is_text, is_time}
-use Rattle.rasn_types.specs.Values.{Value, Side, root, added, item, alternative, no_slots, slots}
-use Rattle.rasn_types.specs.Values
+use Rattle.std.specs.Prelude.{◌≡◌, ℕ, suc, ◌⊎◌, Bool, true, false, nat_lt, List, Option, length, option_map, Result, Ok}
+use Rattle.std.specs.Prelude.{Err, IfOk, IsErrAnd}
+use Rattle.rasn_types.specs.Values.{Value, Side, added, item, alternative}
 use Rattle.rasn_schema.specs.Choices.{VariantShape, one_level_in}
 use Rattle.rasn_schema.specs.Enumerations.{addeds_of, is_extensible}
-use Rattle.rasn_schema.specs.Lawful.{presence_bits}
-use Rattle.rasn_schema.specs.Schemas
-use Rattle.rasn_schema.specs.Schemas.{count, listed, no_parts, part, Parts, Presence, required, Schema}
+use Rattle.rasn_schema.specs.Structures.{presence_bits, is_of_kind}
+use Rattle.rasn_schema.specs.Schemas.{count, listed, no_parts, Parts, Schema}
 use Rattle.rasn_schema.specs.declared.items.ItemCounts.{ItemCounts}
 use Rattle.rasn_schema.specs.declared.items.Place.{Place}
 use Rattle.rasn_schema.specs.declared.items.Place.TheVariants.{Root, Added}
@@ -115,50 +111,6 @@ pub record ClosesGroupOf {E X O : Type 0} (rules : EncoderRules E X) (opens : X 
   pub closed : (schema : ℕ → Schema) → ((n : ℕ) → IsGroupOf has_required (schema n))
       → ClosesGroup rules opens schema o j result y
   pub behaves : Behaves rules.already rules.failed rules.codec j result y
-
--- X.680 25.6: whether a part may be absent, or there, as it is. Of one with a default this says nothing: where it is
--- absent it has no encoding, but a group of such parts holds nothing, and isn't refused (X.691 19.9).
-abbrev pub may_be : Presence → Option Value → Bool
-may_be required None = false
-may_be p r = true
-
--- whether what stands for parts is as many, and there where it has to be
-abbrev pub all_may_be : Parts → List (Option Value) → Bool
-all_may_be no_parts [] = true
-all_may_be no_parts (x ∷ xs) = false
-all_may_be (part t p s ps) [] = false
-all_may_be (part t p s ps) (x ∷ xs) = may_be p x && all_may_be ps xs
-
--- whether a list has a member at an index
-abbrev pub has_at : Parts → ℕ → Bool
-has_at ps i = nat_lt i (count ps)
-
--- whether a value is of a schema's kind, its outermost level alone: of a text, an identifier, a time and a date one
--- that it may be, of a character string characters of its alphabet. Where a tree is cut off, a record without parts may
--- be a group that holds nothing (X.691 19.9).
-abbrev pub is_of_kind : Schema → Value → Bool
-is_of_kind Schemas.boolean (Values.truth b) = true
-is_of_kind Schemas.null Values.nothing = true
-is_of_kind Schemas.cut (Values.fields no_slots no_slots) = true
-is_of_kind (Schemas.number bounds mark range) (Values.whole z) = true
-is_of_kind (Schemas.items roots addeds ext) (Values.item root i) = nat_lt i roots
-is_of_kind (Schemas.items roots addeds ext) (Values.item added i) = nat_lt i addeds
-is_of_kind (Schemas.octet_string size mark) (Values.octets os) = true
-is_of_kind Schemas.any (Values.octets os) = true
-is_of_kind (Schemas.text kind) (Values.octets os) = is_text kind os
-is_of_kind Schemas.identifier (Values.octets os) = is_identifier os
-is_of_kind (Schemas.bit_string size mark named) (Values.bits bs) = true
-is_of_kind (Schemas.char_string alphabet size mark) (Values.characters cs) = has_all alphabet cs
-is_of_kind (Schemas.time kind) (Values.characters cs) = is_time kind cs
-is_of_kind Schemas.date (Values.day y m d) = is_date y m d
-is_of_kind (Schemas.containing s) v = is_of_kind s v
-is_of_kind (Schemas.list e size mark) (Values.elements vs) = true
-is_of_kind (Schemas.set_of e size mark) (Values.bag vs) = true
-is_of_kind (Schemas.sequence o ps ext adds) (Values.fields rs xs) = all_may_be ps (slots rs)
-    && all_may_be adds (slots xs)
-is_of_kind (Schemas.choice ps adds ext) (Values.alternative root i v) = has_at ps i
-is_of_kind (Schemas.choice ps adds ext) (Values.alternative added i v) = has_at adds i
-is_of_kind _ v = false
 
 -- A call of an encoder that refuses a value which isn't of its schema's kind. It takes no memory.
 pub record WritesOther {E X : Type 0} (rules : EncoderRules E X) (x : X) (result : Result (Unit {0}) E)

@@ -2,8 +2,7 @@
 use Rattle.std.specs.Prelude.{◌≡◌, ℕ, Bool, Result, Ok, Err, Option, Some, None}
 use Rattle.rasn_types.specs.Values.{Value, same}
 use Rattle.rasn_schema.specs.Schemas.{Presence, optional, default, Schema}
-use Rattle.rasn_schema.specs.Normal.{normal}
-use Rattle.rasn_schema.specs.AtDepths.{AtDepths}
+use Rattle.rasn_schema.specs.Normal.{normal, AtDepths}
 use Rattle.rasn_traits.specs.Calls.{Behaves, EncoderRules, DecoderRules, Answers, takes_none}
 use Rattle.rasn_traits.specs.Scopes.{PresentsPart, RefusesPart, WrittenPart, ReadsPart, FaultyPart}
 

@@ -5,16 +5,16 @@ use Rattle.std.specs.Prelude.{IfOk, IsErrAnd, List, [], ◌∷◌, length, Optio
 use Rattle.rasn_types.specs.Values.{Value}
 use Rattle.rasn_schema.specs.Schemas.{TagTree, Presence, required, listed, by_tag, count, Order, Schema, Parts}
 use Rattle.rasn_schema.specs.Schemas.{no_parts, part}
-use Rattle.rasn_schema.specs.Normal.{normal, normals}
-use Rattle.rasn_schema.specs.AtDepths.{AtDepths}
+use Rattle.rasn_schema.specs.Normal.{normal, normals, AtDepths}
 use Rattle.rasn_traits.specs.Calls.{Behaves, EncoderRules, Written, DecoderRules, Refuses, Answers}
-use Rattle.rasn_traits.specs.Additions.{extended, PresentsAdditions, RefusesAdditions}
+use Rattle.rasn_schema.specs.Structures.{extended, record_value}
+use Rattle.rasn_traits.specs.Additions.{PresentsAdditions, RefusesAdditions}
 use Rattle.rasn_traits.specs.AdditionsRead.{ReadsAdditions, FaultyAdditions}
 use Rattle.rasn_traits.specs.Presences.{presence_bit, left_out}
 use Rattle.rasn_traits.specs.Amounts.{Amount, amount_of, one_value}
 use Rattle.rasn_traits.specs.Turns.{RefusesOther}
 use Rattle.rasn_traits.specs.TurnsRead.{RefusesInList, RefusesOtherRead}
-use Rattle.rasn_schema.specs.Records.{record_at, record_value, AtParts}
+use Rattle.rasn_schema.specs.Records.{record_at, AtParts}
 
 -- a record of these root components, without an extension marker
 abbrev pub schema_of_parts : Parts → Schema

@@ -2,11 +2,11 @@
 -- order of their smallest tags, and then its additions, as they are listed (ITU-T X.691, 21.1).
 use Rattle.std.specs.Prelude.{◌≡◌, ℕ, suc, Bool, true, List, Option, Result, OnErr, IsErrAnd, length}
 use Rattle.rasn_types.specs.Values.{Value}
-use Rattle.rasn_schema.specs.Canonised.{canonised, canonised_at, canonised_slots}
-use Rattle.rasn_schema.specs.Normal.{normal}
-use Rattle.rasn_schema.specs.Records.{record_at, record_value}
+use Rattle.rasn_schema.specs.Orders.{canonised, canonised_at, canonised_slots}
+use Rattle.rasn_schema.specs.Normal.{normal, AtDepths}
+use Rattle.rasn_schema.specs.Records.{record_at}
+use Rattle.rasn_schema.specs.Structures.{record_value}
 use Rattle.rasn_schema.specs.Schemas.{by_tag, count, listed, Parts, Schema}
-use Rattle.rasn_schema.specs.AtDepths.{AtDepths}
 use Rattle.rasn_traits.specs.Calls.{Answers, DecoderRules, EncoderRules, Written}
 use Rattle.rasn_traits.specs.Scopes.{Ends, KeepsCodec, ReadsScope, WritesScope}
 

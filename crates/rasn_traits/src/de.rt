@@ -2,24 +2,10 @@
 
 ghost use Rattle.std.specs.Prelude.{◌≡◌, ℕ, List, IfOk};
 ghost use Rattle.std.specs.Cow.{cow_slice_items, IsBorrowedSlice};
-ghost use Rattle.rasn_schema.specs.Fields.{tag_of};
-ghost use Rattle.rasn_traits.specs.Errors.{Lacking};
 
-use rasn_types::types::{Codec, Tag};
+pub use rasn_schema::de::Error;
 use std::alloc::{AllocError, Global};
 use std::borrow::CowSlice;
-
-/// What a decoder refuses by.
-pub trait Error: Sized + Drop {
-    // An error says, under a variant, that a required addition of a tag isn't there.
-    ghost lacks: { Lacking Self };
-
-    /// The refusal of a value of which a required addition, which has this tag, isn't there (X.691 19.9), under the
-    /// variant in use. A decoder that has refused refuses from then on: its own `required_extension_not_present` sees
-    /// to that. Takes no memory.
-    fn required_extension_not_present(tag: Tag, codec: Codec) -> Self
-        ensures { lacks (tag_of tag) codec result };
-}
 
 /// The octets of an OCTET STRING, as a decoder answers them: lent where it can, and else as a copy.
 pub trait Octets: Sized + Drop {

@@ -7,13 +7,13 @@ ghost use Rattle.rasn_types.specs.Alphabets.{visible, ia5, printable, numeric, b
 ghost use Rattle.rasn_types.specs.Contents.{utf8, other, utc, generalized};
 ghost use Rattle.rasn_types.specs.Values.{Side, truth, nothing, whole, octets, bits, characters};
 ghost use Rattle.rasn_constraints.specs.Bounds.{Size};
-ghost use Rattle.rasn_schema.specs.Canonised.{canonised_at};
+ghost use Rattle.rasn_schema.specs.Orders.{canonised_at};
 ghost use Rattle.rasn_schema.specs.Schemas.{Schema, listed};
 ghost use Rattle.rasn_schema.specs.Forms.{number_schema, octet_schema, bit_schema, named_bit_schema};
 ghost use Rattle.rasn_schema.specs.Forms.{character_schema, size_of, is_size_marked};
 ghost use Rattle.rasn_schema.specs.Choices.{choices_of};
-ghost use Rattle.rasn_schema.specs.Fields.{tag_of};
-ghost use Rattle.rasn_schema.specs.Records.{record_at, record_value};
+ghost use Rattle.rasn_schema.specs.Structures.{tag_of, record_value};
+ghost use Rattle.rasn_schema.specs.Records.{record_at};
 ghost use Rattle.rasn_traits.specs.AdditionsRead.{AdditionsWell, OpensAdditionToRead};
 ghost use Rattle.rasn_traits.specs.BagsRead.{BagsWell};
 ghost use Rattle.rasn_traits.specs.Optionals.{ReadsBit};

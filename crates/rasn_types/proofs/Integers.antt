@@ -5,8 +5,7 @@ use Rattle.std.specs.Int.{byte_at, to_be_bytes, w128, cast_unsigned, leading_zer
 use Rattle.std.proofs.lemmas.List.{take_all}
 use lib.Count.{count_leading_zeros}
 use lib.Signed.{mag, lt_z}
-use Rattle.rasn_types.specs.Bits.{to_bits, pack, width}
-use Rattle.rasn_types.specs.Octets.{octets_of_whole, twos_complement, whole_bits, signed_octets}
+use Rattle.rasn_types.specs.Bits.{to_bits, pack, width, octets_of_whole, twos_complement, whole_bits, signed_octets}
 use Rattle.rasn_types.proofs.Bits.{width_is, width_least, to_bits-same, to_bits-split, number-to_bits, octet_power}
 use Rattle.rasn_types.proofs.Octets.{mag_fits, length-signed_octets}
 

@@ -4,9 +4,9 @@ use Rattle.std.proofs.lemmas.Bool.{lt-leb}
 use Rattle.std.proofs.lemmas.List.{take-append-le}
 use Rattle.std.proofs.Math.Nat.{add-mod_right}
 use lib.Signed.{mag}
-use Rattle.rasn_types.specs.Bits.{Bits, to_bits, number_of, pack, unpack, width, AreOctets}
+use Rattle.rasn_types.specs.Bits.{Bits, to_bits, number_of, pack, unpack, width, AreOctets, octets_of_whole}
+use Rattle.rasn_types.specs.Bits.{twos_complement, whole_bits, signed, signed_bits, signed_octets}
 use Rattle.rasn_types.specs.Integers.{AreFewest}
-use Rattle.rasn_types.specs.Octets.{octets_of_whole, twos_complement, whole_bits, signed, signed_bits, signed_octets}
 use Rattle.rasn_types.proofs.Bits.{length-to_bits, length-unpack, number-to_bits, to_bits-number, number_below, width_holds, width_least}
 
 -- ---- bits in octets

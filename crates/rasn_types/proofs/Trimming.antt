@@ -2,8 +2,7 @@
 use Rattle.std.proofs.Common.{◌≡◌, refl, sym, ap, ◌∙◌, ℕ, zero, suc, ◌+◌, ◌-◌, ◌*◌, ◌/◌, ◌<◌, ◌≤◌, max, Bool, true, false, List, [], ◌∷◌, ◌++◌, length, take, replicate, arith, length-append, append_assoc, append-nil, length-take, get_or}
 use Rattle.std.proofs.Math.Seq.{take-append_seam}
 use Rattle.std.proofs.lemmas.List.{length-replicate, replicate_more, take-take}
-use Rattle.rasn_types.specs.Bits.{Bits, unpack}
-use Rattle.rasn_types.specs.Trimmed.{filled_up, trimmed, unless_zeros}
+use Rattle.rasn_types.specs.Bits.{Bits, unpack, filled_up, trimmed, unless_zeros}
 use Rattle.rasn_types.specs.Packed.{packed}
 use Rattle.rasn_types.proofs.Octets.{length-pack}
 

@@ -1,7 +1,7 @@
 -- Whole numbers and the octets that mean them.
 use Rattle.std.specs.Prelude.{◌≡◌, ℕ, ◌-◌, ◌^◌, ◌<◌, ◌≤◌, Bool, ◌&&◌, List, length, ℤ, pos, negsuc}
 use lib.Signed.{le_z}
-use Rattle.rasn_types.specs.Octets.{signed}
+use Rattle.rasn_types.specs.Bits.{signed}
 
 -- the numbers that an `i128` holds: from -2^127 to 2^127 - 1
 abbrev pub is_i128 : ℤ → Bool

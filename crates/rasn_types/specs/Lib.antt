@@ -1,13 +1,10 @@
 pub mod Alphabets
 pub mod AllOf
 pub mod Bits
-pub mod Codecs
 pub mod Contents
 pub mod Forms
 pub mod Integers
-pub mod Octets
 pub mod Packed
 pub mod Values
 pub mod Variants
 pub mod Identifiers
-pub mod Trimmed

@@ -6,8 +6,7 @@ ghost use Rattle.std.specs.Bool.{beq};
 ghost use Rattle.std.specs.Cmp.{bool_eq_equiv, partial_equiv_from_equiv};
 ghost use Rattle.std.specs.Cmp.Lexicographic.{lists_equiv, pointwise};
 ghost use Rattle.std.specs.Iterator.{YieldsFirst, item_count};
-ghost use Rattle.rasn_types.specs.Bits.{AreOctets, number_of, to_bits, unpack};
-ghost use Rattle.rasn_types.specs.Trimmed.{filled_up, trimmed};
+ghost use Rattle.rasn_types.specs.Bits.{AreOctets, number_of, to_bits, unpack, filled_up, trimmed};
 ghost use Rattle.rasn_types.specs.Packed.{packed, ArePacked};
 
 use std::alloc::{AllocError, Global};

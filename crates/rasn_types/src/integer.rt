@@ -2,7 +2,7 @@
 
 ghost use Rattle.std.specs.Prelude.{◌≡◌, ◌≤◌, false, IfNone, IfOk, IfSome};
 ghost use Rattle.rasn_types.specs.Integers.{AreFewest, is_i128};
-ghost use Rattle.rasn_types.specs.Octets.{octets_of_whole, signed, signed_octets};
+ghost use Rattle.rasn_types.specs.Bits.{octets_of_whole, signed, signed_octets};
 
 use std::alloc::{AllocError, Allocator};
 

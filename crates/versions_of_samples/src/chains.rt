@@ -5,7 +5,7 @@
 ghost use Rattle.std.specs.Prelude.{ℕ, Bool, List, Result, Ok};
 ghost use Rattle.rasn_types.specs.declared.types.Codec.{Codec};
 ghost use Rattle.per_core.specs.Versions.{NewerType};
-ghost use Rattle.per_read.specs.declared.error.DecodeError.{DecodeError};
+ghost use Rattle.per_core.specs.declared.decode_error.DecodeError.{DecodeError};
 ghost use Rattle.rasn_per.specs.Calls.{DecodedBy};
 ghost use Rattle.per_versions.specs.Answers.{Answers, AreKnown};
 ghost use Rattle.per_versions.specs.Readings.{IsProjection, IsWidening};

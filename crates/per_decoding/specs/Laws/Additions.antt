@@ -6,17 +6,18 @@ use Rattle.rasn_types.specs.Values.{Value}
 use Rattle.rasn_schema.specs.Schemas.{Schema}
 use Rattle.rasn_traits.specs.AdditionsRead.{AdditionsWell}
 use Rattle.per_core.specs.Basic.{OpenOf, basic}
-use Rattle.per_core.specs.Took.{Took}
-use Rattle.per_read.specs.declared.error.DecodeError.{DecodeError}
-use Rattle.per_read.specs.declared.error.DecodeErrorKind.{DecodeErrorKind}
-use Rattle.per_read.specs.declared.error.DecodeErrorKind.TheVariants.{AlreadyFailed, OutOfMemory}
-use Rattle.per_bits.specs.declared.ended.Surplus.{Surplus}
-use Rattle.per_bits.specs.declared.ended.Surplus.TheVariants.{Missing, NonzeroOctet, NonzeroSpareBits, ExtraOctets}
-use Rattle.per_read.specs.Ends.{EndsAs, IsOfEnd, kind_of}
+use Rattle.per_core.specs.Spellings.{Took}
+use Rattle.per_core.specs.declared.decode_error.DecodeError.{DecodeError}
+use Rattle.per_core.specs.declared.decode_error.DecodeErrorKind.{DecodeErrorKind}
+use Rattle.per_core.specs.declared.decode_error.DecodeErrorKind.TheVariants.{AlreadyFailed, OutOfMemory}
+use Rattle.per_core.specs.declared.ends.Surplus.{Surplus}
+use Rattle.per_core.specs.declared.ends.Surplus.TheVariants.{Missing, NonzeroOctet, NonzeroSpareBits, ExtraOctets}
+use Rattle.per_read.specs.Ends.{EndsAs}
+use Rattle.per_core.specs.Ends.{IsOfEnd, kind_of}
 use Rattle.per_read.proofs.Opened.{open_took, took_open}
 use Rattle.per_decoding.specs.Additions.{Adds, ClosesAddition, OpensAddition, OutsideAddition, with_outside_addition}
-use Rattle.per_decoding.specs.Faults.{Fault, IsInBits, IsInNext, IsInOpen, in_contents, at_their_end, in_open, IsOfNext}
-use Rattle.per_decoding.specs.Faults.{Misadds, UnendedAddition, refusal}
+use Rattle.per_decoding.specs.Faults.{Fault, IsInNext, in_open, IsOfNext, Misadds, UnendedAddition, refusal}
+use Rattle.per_core.specs.ReadingFaults.{IsInBits, IsInOpen, in_contents, at_their_end}
 use Rattle.per_decoding.specs.Laws.Records.{IsNew, in_bits, is_new}
 use Rattle.per_decoding.specs.Rules.{plain_rules}
 use Rattle.per_decoding.specs.Laws.Spelled.{added, spelled}

@@ -4,25 +4,23 @@ use Rattle.std.proofs.Common.{◌≡◌, ◌∙◌, ◌<◌, inl, inr, refl, sym
 use Rattle.std.proofs.Common.{List, length, Option, Some, None}
 use Rattle.rasn_types.specs.Bits.{Bits}
 use Rattle.rasn_types.specs.Values.{Value, alternative, item, Side, root, added}
-use Rattle.rasn_schema.specs.Choices.{alternative_at, alternative_in, choice_schema, tags_of}
+use Rattle.rasn_schema.specs.Structures.{alternative_at, alternative_in, choice_schema, tags_of}
 use Rattle.rasn_schema.specs.Schemas.{Schema, Parts, no_parts, part}
 use Rattle.rasn_traits.specs.Choices.{ChoicesWell, ReadsAlternative}
-use Rattle.per_core.specs.Spellings.{Settings, Spelling}
+use Rattle.per_core.specs.Spellings.{Settings, Spelling, Took, NoneIn}
 use Rattle.per_core.specs.Basic.{basic, basic_in, rules, rules_in, Choice, Chosen, Fills, IsConstrainedWhole, Octets}
 use Rattle.per_core.specs.Basic.{Open, Small}
-use Rattle.per_core.specs.Took.{Took}
 use Rattle.per_core.proofs.Readings.{one_reading}
 use Rattle.per_core.proofs.Took.{took_then, then_took, took_map, took_agree}
-use Rattle.per_decoding.specs.ChoiceIndexes.{index_form}
-use Rattle.per_read.specs.Kinds.{NoneIn}
-use Rattle.per_read.specs.declared.error.DecodeError.{DecodeError}
-use Rattle.per_read.specs.declared.error.DecodeErrorKind.TheVariants.{OutOfMemory}
+use Rattle.per_core.specs.IndexFaults.{index_form}
+use Rattle.per_core.specs.declared.decode_error.DecodeError.{DecodeError}
+use Rattle.per_core.specs.declared.decode_error.DecodeErrorKind.TheVariants.{OutOfMemory}
 use Rattle.per_read.proofs.Opened.{no_open}
 use Rattle.per_decoding.specs.Laws.Contents.{back, moved, of_contents, of_end, opened, outside_again}
 use Rattle.per_decoding.specs.Additions.{OutsideAddition, with_outside_addition}
 use Rattle.per_decoding.specs.Choices.{OutsideChoice, ClosesChoice, EndsFrom, OpensChoice, StandsFrom, UnendedChoice}
-use Rattle.per_decoding.specs.Faults.{Fault, IsInBits, in_added_alternative}
-use Rattle.per_decoding.specs.Faults.{in_alternative}
+use Rattle.per_decoding.specs.Faults.{Fault}
+use Rattle.per_core.specs.ReadingFaults.{IsInBits, in_added_alternative, in_alternative}
 use Rattle.per_decoding.specs.Laws.Records.{in_bits, is_new, of_bits}
 use Rattle.per_decoding.specs.Rules.{plain_rules}
 use Rattle.per_decoding.specs.Scopes.{with_outside_record}

@@ -5,19 +5,19 @@ use Rattle.rasn_types.specs.Bits.{Bits, unpack}
 use Rattle.rasn_types.specs.Values.{Value}
 use Rattle.rasn_schema.specs.Schemas.{Schema}
 use Rattle.rasn_traits.specs.Contents.{ContentsWell}
-use Rattle.per_core.specs.Spellings.{Settings}
+use Rattle.per_core.specs.Spellings.{Settings, Took}
 use Rattle.per_core.specs.Basic.{basic, basic_in, Fills, Octets, Open}
-use Rattle.per_core.specs.Took.{Took}
-use Rattle.per_read.specs.declared.error.DecodeError.{DecodeError}
-use Rattle.per_read.specs.declared.error.DecodeErrorKind.{DecodeErrorKind}
-use Rattle.per_read.specs.declared.error.DecodeErrorKind.TheVariants.{OutOfMemory}
-use Rattle.per_read.specs.Ends.{EndsAs, IsOfEnd}
+use Rattle.per_core.specs.declared.decode_error.DecodeError.{DecodeError}
+use Rattle.per_core.specs.declared.decode_error.DecodeErrorKind.{DecodeErrorKind}
+use Rattle.per_core.specs.declared.decode_error.DecodeErrorKind.TheVariants.{OutOfMemory}
+use Rattle.per_read.specs.Ends.{EndsAs}
+use Rattle.per_core.specs.Ends.{IsOfEnd}
 use Rattle.per_read.proofs.Opened.{open_took, took_open}
 use Rattle.per_decoding.specs.Laws.Additions.{new_why}
 use Rattle.per_decoding.specs.Additions.{ClosesAddition, OpensContaining, OpensContents, OutsideAddition}
 use Rattle.per_decoding.specs.Additions.{with_outside_addition}
-use Rattle.per_decoding.specs.Faults.{Fault, IsInBits, IsInOpen, UnendedAddition, at_their_end, in_containing}
-use Rattle.per_decoding.specs.Faults.{in_contents, refusal}
+use Rattle.per_decoding.specs.Faults.{Fault, UnendedAddition, refusal}
+use Rattle.per_core.specs.ReadingFaults.{IsInBits, IsInOpen, at_their_end, in_containing, in_contents}
 use Rattle.per_decoding.specs.Laws.Records.{IsNew, in_bits, is_new, of_bits}
 use Rattle.per_decoding.specs.Rules.{plain_rules}
 use Rattle.per_decoding.specs.Laws.Spelled.{spelled}

@@ -4,10 +4,8 @@
 use Rattle.std.proofs.Common.{◌≡◌, ◌∙◌, ◌⊎◌, inl, inr, refl, sym, ap, subst, arith, ℕ, zero, suc, ◌+◌, Bool, true}
 use Rattle.std.proofs.Common.{false, [], ◌∷◌, length, List, Option, Some, None}
 use Rattle.rasn_types.specs.Values.{Side, Value, alternative}
-use Rattle.rasn_schema.specs.Choices.{alternative_in}
-use Rattle.rasn_schema.specs.Records.{record_value}
+use Rattle.rasn_schema.specs.Structures.{alternative_in, record_value, extended}
 use Rattle.rasn_schema.specs.Schemas.{Presence, Schema, Parts, count, no_parts, part}
-use Rattle.rasn_traits.specs.Additions.{extended}
 use Rattle.rasn_traits.specs.AdditionsRead.{AdditionsWell, FaultyAddition, FaultyAdditions, ReadsAddition}
 use Rattle.rasn_traits.specs.AdditionsRead.{ReadsAdditions, faulty_added, faulty_addition, faulty_further}
 use Rattle.rasn_traits.specs.AdditionsRead.{faulty_lacking, reads_added, reads_further, reads_lacking, reads_no_more}
@@ -23,10 +21,10 @@ use Rattle.rasn_traits.specs.Scopes.{faulty_required, faulty_root, faulty_there,
 use Rattle.rasn_traits.specs.Scopes.{reads_left_out, reads_next, reads_required, reads_there}
 use Rattle.rasn_traits.specs.Sets.{SetsWell}
 use Rattle.rasn_traits.specs.TurnsRead.{CameRead, read_addition, read_bit, read_nothing, read_value}
-use Rattle.per_read.specs.Lacking.{NamesLacking}
-use Rattle.per_read.specs.declared.error.DecodeError.{DecodeError}
-use Rattle.per_read.specs.declared.error.DecodeErrorKind.{DecodeErrorKind}
-use Rattle.per_read.specs.declared.error.DecodeErrorKind.TheVariants.{AlreadyFailed, OutOfMemory}
+use Rattle.per_core.specs.ReadingFaults.{NamesLacking}
+use Rattle.per_core.specs.declared.decode_error.DecodeError.{DecodeError}
+use Rattle.per_core.specs.declared.decode_error.DecodeErrorKind.{DecodeErrorKind}
+use Rattle.per_core.specs.declared.decode_error.DecodeErrorKind.TheVariants.{AlreadyFailed, OutOfMemory}
 use Rattle.per_decoding.specs.Additions.{Adds, AddsValue, Asks, ClosesAddition, OpensAddition, OpensContaining}
 use Rattle.per_decoding.specs.Additions.{OutsideAddition}
 use Rattle.per_decoding.specs.Choices.{ClosesChoice, EndsFrom, OpensChoice, OutsideChoice, UnendedChoice}

@@ -4,22 +4,22 @@ use Rattle.std.proofs.Common.{◌≡◌, ◌∙◌, refl, sym, ap, subst, inl, i
 use Rattle.std.proofs.Common.{◌++◌, length, Option, Some, None, arith, append_assoc, length-append}
 use Rattle.rasn_types.specs.Bits.{Bits}
 use Rattle.rasn_types.specs.Values.{Value}
-use Rattle.rasn_schema.specs.Lawful.{has_bit, presence_bits}
+use Rattle.rasn_schema.specs.Structures.{has_bit, presence_bits}
 use Rattle.rasn_schema.specs.Schemas.{Presence, required, optional, group, default, Schema, Parts, no_parts, part}
 use Rattle.rasn_traits.specs.Presences.{left_out}
 use Rattle.rasn_traits.specs.Scopes.{ReadsPart, reads_required, reads_there, reads_left_out, ReadsParts, reads_end}
 use Rattle.rasn_traits.specs.Scopes.{reads_next, FaultyParts, faulty_required, faulty_there, faulty_bit, faulty_here}
 use Rattle.rasn_traits.specs.Scopes.{faulty_behind}
-use Rattle.per_core.specs.Spellings.{Settings, Spelling, exactly}
+use Rattle.per_core.specs.Spellings.{Settings, Spelling, exactly, place, Took}
 use Rattle.per_core.specs.Basic.{basic, rules, rules_in, Body, Flags, FlagOf, Bodies, IsLeftOut}
-use Rattle.per_core.specs.Took.{place, Took}
 use Rattle.per_core.proofs.Took.{took_then, then_took, took_map, took_nothing, nothing_took, took_bit}
-use Rattle.per_read.specs.declared.error.DecodeError.{DecodeError}
-use Rattle.per_read.specs.declared.error.DecodeErrorKind.{DecodeErrorKind}
-use Rattle.per_read.specs.declared.error.DecodeErrorKind.TheVariants.{AlreadyFailed}
+use Rattle.per_core.specs.declared.decode_error.DecodeError.{DecodeError}
+use Rattle.per_core.specs.declared.decode_error.DecodeErrorKind.{DecodeErrorKind}
+use Rattle.per_core.specs.declared.decode_error.DecodeErrorKind.TheVariants.{AlreadyFailed}
 use Rattle.per_decoding.specs.Laws.Spelled.{spelled}
 use Rattle.per_decoding.specs.State.{State, Marks, Spells, settings_of, with_bits}
-use Rattle.per_decoding.specs.Faults.{IsOf, IsInBits, IsInParts, here, later, IsUnmarked}
+use Rattle.per_decoding.specs.Faults.{IsOf, IsUnmarked}
+use Rattle.per_core.specs.ReadingFaults.{IsInBits, IsInParts, here, later}
 use Rattle.per_decoding.specs.Rules.{plain_rules}
 
 -- a decoder's state with other bits left and other presence bits still to be read

@@ -4,13 +4,12 @@ use Rattle.rasn_types.specs.Values.{Value}
 use Rattle.rasn_schema.specs.Schemas.{Schema}
 use Rattle.rasn_traits.specs.Calls.{DecodesWell, ReadsWell}
 use Rattle.per_core.specs.Basic.{Fills, OpenOf, basic}
-use Rattle.per_core.specs.Took.{Took}
+use Rattle.per_core.specs.Spellings.{Took, Settings}
 use Rattle.per_core.proofs.Agree.{Agree}
 use Rattle.per_core.proofs.Took.{took_agree}
 use Rattle.per_core.proofs.Readings.{one_reading}
 use Rattle.per_core.proofs.Unique.{fills_agree, open_agree}
-use Rattle.per_core.specs.Spellings.{Settings}
-use Rattle.per_read.specs.declared.error.DecodeErrorKind.TheVariants.{OutOfMemory}
+use Rattle.per_core.specs.declared.decode_error.DecodeErrorKind.TheVariants.{OutOfMemory}
 use Rattle.per_decoding.specs.Additions.{Adds, Asks}
 use Rattle.per_decoding.specs.State.{State, Marks, Spells, settings_of, with_bits}
 use Rattle.per_decoding.specs.Faults.{refusal}

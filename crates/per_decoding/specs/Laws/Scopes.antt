@@ -4,31 +4,29 @@ use Rattle.std.proofs.Common.{◌≡◌, ◌∙◌, ◌⊎◌, inl, inr, refl, s
 use Rattle.std.proofs.Common.{Option, arith}
 use Rattle.rasn_types.specs.Bits.{Bits}
 use Rattle.rasn_types.specs.Values.{Value}
-use Rattle.rasn_schema.specs.Records.{record_value}
+use Rattle.rasn_schema.specs.Structures.{record_value, extended}
 use Rattle.rasn_schema.specs.Schemas.{Parts, no_parts, count}
-use Rattle.rasn_traits.specs.Additions.{extended}
 use Rattle.rasn_traits.specs.AdditionsRead.{ReadsAdditions}
 use Rattle.rasn_traits.specs.Scopes.{ReadsParts, ReadsFields, reads_fields, FaultyFields, faulty_root}
 use Rattle.rasn_traits.specs.Scopes.{faulty_behind_root, ScopesWell}
-use Rattle.per_core.specs.Spellings.{Settings, Then, exactly}
+use Rattle.per_core.specs.Spellings.{Settings, Then, exactly, Took}
 use Rattle.per_core.specs.Basic.{basic, basic_in, rules, rules_in, Additions, Bodies, Extended, ExtensionBit, Record}
 use Rattle.per_core.specs.Basic.{Flags, Root, Rule, Unknown}
-use Rattle.per_core.specs.Took.{Took}
 use Rattle.per_core.proofs.Agree.{Agree, weaken, agree_never, empty_agree, exactly_agree, never_agree}
 use Rattle.per_core.proofs.Took.{took_then, then_took, took_map, took_nothing, nothing_took, took_agree}
 use Rattle.per_read.proofs.Fields.{either_took, when_took}
-use Rattle.per_read.specs.declared.error.DecodeError.{DecodeError}
-use Rattle.per_read.specs.declared.error.DecodeErrorKind.TheVariants.{OutOfMemory}
+use Rattle.per_core.specs.declared.decode_error.DecodeError.{DecodeError}
+use Rattle.per_core.specs.declared.decode_error.DecodeErrorKind.TheVariants.{OutOfMemory}
 use Rattle.per_read.proofs.Records.{extended_took, plain_took}
-use Rattle.per_decoding.specs.Additions.{Shown}
-use Rattle.per_decoding.specs.Faults.{Fault, IsInTail, in_root, behind_root, IsOfEnding, unread, unskipped, Unended}
-use Rattle.per_decoding.specs.Faults.{refusal}
+use Rattle.per_core.specs.AdditionFaults.{Shown, extension_of}
+use Rattle.per_decoding.specs.Faults.{Fault, IsOfEnding, unread, unskipped, Unended, refusal}
+use Rattle.per_core.specs.ReadingFaults.{IsInTail, in_root, behind_root}
 use Rattle.per_decoding.specs.Laws.Records.{IsNew, exact_took, faulty_in, flags_off, no_more, of_bits, parts_back, read}
 use Rattle.per_decoding.specs.Laws.Records.{with_rest}
 use Rattle.per_decoding.specs.Rules.{plain_rules}
 use Rattle.per_decoding.specs.Scopes.{OutsideRecord, with_outside_record, Opens, Closes}
 use Rattle.per_decoding.specs.Laws.Spelled.{spelled}
-use Rattle.per_decoding.specs.State.{State, Spells, extension_of, settings_of, with_bits, Source}
+use Rattle.per_decoding.specs.State.{State, Spells, settings_of, with_bits, Source}
 use Rattle.per_decoding.specs.Laws.Tails.{ending_new, Left, Tail, behind_additions, faulty_tail, left_of, tail_of}
 use Rattle.per_decoding.specs.Laws.Tails.{turns_of}
 

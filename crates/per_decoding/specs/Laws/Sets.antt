@@ -3,21 +3,20 @@
 use Rattle.std.proofs.Common.{subst, sym, ℕ, Bool, true, inl, inr}
 use Rattle.rasn_types.specs.Bits.{Bits}
 use Rattle.rasn_types.specs.Values.{Value}
-use Rattle.rasn_schema.specs.Canonised.{canonised, canonised_slots}
-use Rattle.rasn_schema.specs.Records.{record_value}
+use Rattle.rasn_schema.specs.Orders.{canonised, canonised_slots}
+use Rattle.rasn_schema.specs.Structures.{record_value, extended}
 use Rattle.rasn_schema.specs.Schemas.{Schema, Parts, by_tag}
 use Rattle.rasn_schema.proofs.Canonised.{bits_ordered}
-use Rattle.rasn_traits.specs.Additions.{extended}
 use Rattle.rasn_traits.specs.Sets.{SetsWell}
 use Rattle.per_core.specs.Basic.{basic}
-use Rattle.per_core.specs.Spellings.{Settings}
-use Rattle.per_core.specs.Took.{Took, place}
+use Rattle.per_core.specs.Spellings.{Settings, Took, place}
 use Rattle.per_core.proofs.Took.{took_map}
 use Rattle.per_core.proofs.SetReadings.{in_order, out_of_order, read_as_listed}
-use Rattle.per_read.specs.declared.error.DecodeErrorKind.{DecodeErrorKind}
-use Rattle.per_read.specs.declared.error.DecodeErrorKind.TheVariants.{AlreadyFailed}
-use Rattle.per_read.specs.Fields.{IsOfField}
-use Rattle.per_decoding.specs.Faults.{IsInBits, IsOf, IsOfHead, at_once, in_set}
+use Rattle.per_core.specs.declared.decode_error.DecodeErrorKind.{DecodeErrorKind}
+use Rattle.per_core.specs.declared.decode_error.DecodeErrorKind.TheVariants.{AlreadyFailed}
+use Rattle.per_core.specs.FieldFaults.{IsOfField}
+use Rattle.per_core.specs.ReadingFaults.{IsInBits, IsOfHead, at_once, in_set}
+use Rattle.per_decoding.specs.Faults.{IsOf}
 use Rattle.per_decoding.specs.Rules.{plain_rules}
 use Rattle.per_decoding.specs.Laws.Spelled.{spelled}
 use Rattle.per_decoding.specs.State.{State}

@@ -3,7 +3,7 @@ use Rattle.std.specs.Prelude.{◌≡◌, true, false, Some}
 use Rattle.rasn_types.specs.Values.{Value}
 use Rattle.rasn_schema.specs.Schemas.{Schema}
 use Rattle.per_core.specs.Basic.{OpenOf, basic}
-use Rattle.per_core.specs.Took.{Took}
+use Rattle.per_core.specs.Spellings.{Took}
 use Rattle.per_core.proofs.FewTook.{took_few, open_few}
 use Rattle.per_decoding.specs.Additions.{AddsValue, Asks}
 use Rattle.per_decoding.specs.State.{State, Spells, settings_of, with_bits}

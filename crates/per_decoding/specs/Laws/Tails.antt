@@ -5,34 +5,32 @@ use Rattle.std.proofs.Common.{◌≡◌, ◌∙◌, refl, sym, ap, subst, inl, i
 use Rattle.std.proofs.Common.{Option, Some, None, arith}
 use Rattle.rasn_types.specs.Bits.{Bits}
 use Rattle.rasn_types.specs.Values.{Value}
-use Rattle.rasn_schema.specs.Fields.{field_tag}
+use Rattle.rasn_schema.specs.Structures.{field_tag}
 use Rattle.rasn_schema.specs.Schemas.{TagTree, Presence, required, Schema, Parts, no_parts, part, count}
 use Rattle.rasn_traits.specs.AdditionsRead.{ReadsAddition, reads_added, reads_lacking, ReadsAdditions, reads_no_more}
 use Rattle.rasn_traits.specs.AdditionsRead.{reads_further, faulty_added, faulty_lacking, FaultyAdditions}
 use Rattle.rasn_traits.specs.AdditionsRead.{faulty_addition, faulty_further}
-use Rattle.per_core.specs.Spellings.{Settings, Then}
+use Rattle.per_core.specs.Spellings.{Settings, Then, Took, NoneIn}
 use Rattle.per_core.specs.Basic.{Additions, IsBitmap, OpenOf, Unknown, basic, rules, rules_in}
-use Rattle.per_core.specs.Took.{Took}
 use Rattle.per_core.proofs.Agree.{Agree, weaken, when_agree, empty_agree}
 use Rattle.per_core.proofs.Records.{bitmap_agree}
 use Rattle.per_core.proofs.Took.{took_then, then_took, took_map, took_nothing, nothing_took, took_agree}
 use Rattle.per_read.proofs.Fields.{when_took}
-use Rattle.per_read.specs.Bitmaps.{IsOfBitmap}
-use Rattle.per_read.specs.Kinds.{IsTested, NoneIn}
+use Rattle.per_core.specs.AdditionFaults.{IsOfBitmap, Addition, NextFlag, rule_of, Shown, Extension, ahead, shown}
+use Rattle.per_read.specs.Kinds.{IsTested}
 use Rattle.per_read.proofs.OfBitmaps.{bitmap_tested, unknown_tested}
-use Rattle.per_read.specs.declared.error.DecodeError.{DecodeError}
-use Rattle.per_read.specs.declared.error.DecodeErrorKind.{DecodeErrorKind}
-use Rattle.per_read.specs.declared.error.DecodeErrorKind.TheVariants.{AlreadyFailed}
-use Rattle.per_read.specs.Additions.{Addition, NextFlag, rule_of}
+use Rattle.per_core.specs.declared.decode_error.DecodeError.{DecodeError}
+use Rattle.per_core.specs.declared.decode_error.DecodeErrorKind.{DecodeErrorKind}
+use Rattle.per_core.specs.declared.decode_error.DecodeErrorKind.TheVariants.{AlreadyFailed}
 use Rattle.per_read.proofs.Additions.{additions_took, took_additions, took_unknown}
-use Rattle.per_decoding.specs.Additions.{Adds, Asks, Shown}
-use Rattle.per_decoding.specs.Faults.{IsInTail, in_bitmap, behind_bitmap, IsInAdditions, in_addition, lacking, further}
-use Rattle.per_decoding.specs.Faults.{in_unknown, IsInNext, IsInOpen, IsOfLacking, out_of_turn, not_expected, at_bitmap}
-use Rattle.per_decoding.specs.Faults.{in_open, IsOfNext}
+use Rattle.per_decoding.specs.Additions.{Adds, Asks}
+use Rattle.per_core.specs.ReadingFaults.{IsInTail, in_bitmap, behind_bitmap, IsInAdditions, in_addition, lacking}
+use Rattle.per_core.specs.ReadingFaults.{further, in_unknown, IsInOpen, IsOfLacking}
+use Rattle.per_decoding.specs.Faults.{IsInNext, out_of_turn, not_expected, at_bitmap, in_open, IsOfNext}
 use Rattle.per_decoding.specs.Laws.Records.{IsNew, is_left_out, left_out_is}
 use Rattle.per_decoding.specs.Rules.{plain_rules}
 use Rattle.per_decoding.specs.Laws.Spelled.{added}
-use Rattle.per_decoding.specs.State.{Extension, ahead, shown, State, settings_of, with_bits}
+use Rattle.per_decoding.specs.State.{State, settings_of, with_bits}
 
 -- the presence bits of a bitmap are one list, and one of them is next
 pub shown_agree : (a : Settings) (x : Extension) (f g : List Bool) → Agree (f ≡ g) (Shown a x f) (Shown a x g)

@@ -1,22 +1,24 @@
 -- What holds of an encoder's SETs.
 use Rattle.std.specs.Prelude.{Bool, List, Option}
 use Rattle.std.proofs.Common.{◌∙◌, ap, sym, subst}
-use Rattle.rasn_types.specs.Codecs.{variant_of}
+use Rattle.rasn_types.specs.Variants.{variant_of}
 use Rattle.rasn_types.specs.Values.{Value}
-use Rattle.rasn_schema.specs.Canonised.{canonised, canonised_slots}
-use Rattle.rasn_schema.specs.Records.{record_value}
+use Rattle.rasn_schema.specs.Orders.{canonised, canonised_slots}
+use Rattle.rasn_schema.specs.Structures.{record_value}
 use Rattle.rasn_schema.specs.Schemas.{by_tag, listed, Parts, Schema}
 use Rattle.rasn_traits.specs.Sets.{SetsWritten}
 use Rattle.per_core.proofs.SetReadings.{written}
-use Rattle.per_write.specs.declared.error.EncodeError.{EncodeError}
-use Rattle.per_write.specs.declared.error.EncodeErrorKind.{EncodeErrorKind}
-use Rattle.per_write.specs.declared.error.EncodeErrorKind.TheVariants.{SizeConstraintNotSatisfied}
-use Rattle.per_write.specs.declared.error.EncodeErrorKind.TheVariants.{ValueConstraintNotSatisfied}
-use Rattle.per_write.specs.declared.error.EncodeErrorKind.TheVariants.{AlphabetConstraintNotSatisfied}
-use Rattle.per_write.specs.declared.error.EncodeErrorKind.TheVariants.{IntegerTypeConversionFailed, VariantNotInChoice}
-use Rattle.per_write.specs.declared.error.EncodeErrorKind.TheVariants.{RealNotSupported, TooManyAdditions, Below}
-use Rattle.per_write.specs.declared.error.EncodeErrorKind.TheVariants.{AlreadyFailed, OutOfMemory, OutOfTurn, WrongKind}
-use Rattle.per_write.specs.Faults.{in_set, RefusesValue, Stands}
+use Rattle.per_core.specs.declared.encode_error.EncodeError.{EncodeError}
+use Rattle.per_core.specs.declared.encode_error.EncodeErrorKind.{EncodeErrorKind}
+use Rattle.per_core.specs.declared.encode_error.EncodeErrorKind.TheVariants.{SizeConstraintNotSatisfied}
+use Rattle.per_core.specs.declared.encode_error.EncodeErrorKind.TheVariants.{ValueConstraintNotSatisfied}
+use Rattle.per_core.specs.declared.encode_error.EncodeErrorKind.TheVariants.{AlphabetConstraintNotSatisfied}
+use Rattle.per_core.specs.declared.encode_error.EncodeErrorKind.TheVariants.{IntegerTypeConversionFailed}
+use Rattle.per_core.specs.declared.encode_error.EncodeErrorKind.TheVariants.{VariantNotInChoice, RealNotSupported}
+use Rattle.per_core.specs.declared.encode_error.EncodeErrorKind.TheVariants.{TooManyAdditions, Below, AlreadyFailed}
+use Rattle.per_core.specs.declared.encode_error.EncodeErrorKind.TheVariants.{OutOfMemory, OutOfTurn, WrongKind}
+use Rattle.per_core.specs.WritingFaults.{in_set}
+use Rattle.per_write.specs.Faults.{RefusesValue, Stands}
 use Rattle.per_enc.specs.Rules.{encoding_rules, noting}
 use Rattle.per_write.specs.State.{Presents, State, StateAppends}
 

@@ -3,25 +3,26 @@ use Rattle.std.specs.Prelude.{◌≡◌, ℕ, Bool, true, false, ◌&&◌, not, 
 use Rattle.std.proofs.Common.{◌∙◌, ap, ap₂, sym, subst}
 use Rattle.rasn_types.specs.Values.{Value, Slots, absent, fields, no_slots, same, slots, there}
 use Rattle.rasn_types.proofs.Values.{slots-as_slots}
-use Rattle.rasn_schema.specs.Absent.{no_value}
+use Rattle.rasn_schema.specs.Structures.{no_value, all_may_be, may_be}
 use Rattle.rasn_schema.specs.Lawful.{is_group_schema}
 use Rattle.rasn_schema.specs.Normal.{are_idle, is_idle, is_vacant}
 use Rattle.rasn_schema.specs.Schemas.{Schema, Parts, no_parts, part, Presence, required, optional, group, default}
 use Rattle.rasn_schema.specs.Schemas.{by_tag, listed}
-use Rattle.rasn_traits.specs.Counted.{all_may_be, may_be}
 use Rattle.per_core.specs.Canon.{shown}
-use Rattle.rasn_constraints.specs.ToldBounds.{value_of, lower_of, upper_of}
-use Rattle.per_write.specs.declared.error.EncodeErrorKind.{EncodeErrorKind}
-use Rattle.per_write.specs.declared.error.EncodeErrorKind.TheVariants.{SizeConstraintNotSatisfied}
-use Rattle.per_write.specs.declared.error.EncodeErrorKind.TheVariants.{ValueConstraintNotSatisfied}
-use Rattle.per_write.specs.declared.error.EncodeErrorKind.TheVariants.{AlphabetConstraintNotSatisfied}
-use Rattle.per_write.specs.declared.error.EncodeErrorKind.TheVariants.{IntegerTypeConversionFailed, VariantNotInChoice}
-use Rattle.per_write.specs.declared.error.EncodeErrorKind.TheVariants.{RealNotSupported, TooManyAdditions, Below}
-use Rattle.per_write.specs.declared.error.EncodeErrorKind.TheVariants.{AlreadyFailed, OutOfMemory, OutOfTurn, WrongKind}
-use Rattle.per_write.specs.Faults.{HasPart, part_here, part_behind, StandsIn, at_once, in_part, in_addition, in_element}
-use Rattle.per_write.specs.Faults.{in_member, in_alternative, in_contents, in_set, IsAbsent, IsForeign}
-use Rattle.per_write.specs.Faults.{IsOther, IsOutOfBounds, IsOutOfSize}
-use Rattle.per_write.specs.Faults.{IsPastBounds, IsReal, IsUnlawful, Stands}
+use Rattle.rasn_constraints.specs.Bounds.{value_of, lower_of, upper_of}
+use Rattle.per_core.specs.declared.encode_error.EncodeErrorKind.{EncodeErrorKind}
+use Rattle.per_core.specs.declared.encode_error.EncodeErrorKind.TheVariants.{SizeConstraintNotSatisfied}
+use Rattle.per_core.specs.declared.encode_error.EncodeErrorKind.TheVariants.{ValueConstraintNotSatisfied}
+use Rattle.per_core.specs.declared.encode_error.EncodeErrorKind.TheVariants.{AlphabetConstraintNotSatisfied}
+use Rattle.per_core.specs.declared.encode_error.EncodeErrorKind.TheVariants.{IntegerTypeConversionFailed}
+use Rattle.per_core.specs.declared.encode_error.EncodeErrorKind.TheVariants.{VariantNotInChoice, RealNotSupported}
+use Rattle.per_core.specs.declared.encode_error.EncodeErrorKind.TheVariants.{TooManyAdditions, Below, AlreadyFailed}
+use Rattle.per_core.specs.declared.encode_error.EncodeErrorKind.TheVariants.{OutOfMemory, OutOfTurn, WrongKind}
+use Rattle.per_core.specs.WritingFaults.{HasPart, part_here, part_behind, StandsIn, at_once, in_part, in_addition}
+use Rattle.per_core.specs.WritingFaults.{in_element, in_member, in_alternative, in_contents, in_set, IsAbsent}
+use Rattle.per_core.specs.WritingFaults.{IsForeign, IsOther, IsOutOfBounds, IsOutOfSize, IsPastBounds, IsReal}
+use Rattle.per_core.specs.WritingFaults.{IsUnlawful}
+use Rattle.per_write.specs.Faults.{Stands}
 use Rattle.per_write.specs.State.{State}
 
 -- a part that is written isn't idle

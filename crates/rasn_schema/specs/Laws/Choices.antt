@@ -1,7 +1,8 @@
 -- What holds of a choice's variants: they are those of its alternatives.
 use Rattle.std.specs.Prelude.{◌≡◌, suc, List, length, map, Some, refl}
 use Rattle.std.proofs.Common.{ap, ◌∙◌}
-use Rattle.rasn_schema.specs.Choices.{VariantShape, tags_of, tree_with, trees_in, variants_of}
+use Rattle.rasn_schema.specs.Choices.{VariantShape, tree_with, trees_in, variants_of}
+use Rattle.rasn_schema.specs.Structures.{tags_of}
 use Rattle.rasn_schema.specs.Fields.{and_tree, choice_tree, trees_of}
 use Rattle.rasn_schema.specs.Schemas.{Parts, no_parts, part}
 

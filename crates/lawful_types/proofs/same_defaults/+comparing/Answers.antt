@@ -1,5 +1,5 @@
 use Rattle.std.proofs.Common.{◌∙◌, refl, ap, ◌<◌, map, length, arith}
-use Rattle.rasn_schema.specs.Lists.{list_value}
+use Rattle.rasn_schema.specs.Structures.{list_value}
 use Rattle.rasn_dynamic.proofs.DefaultTrees.{elements_stated}
 use Rattle.rasn_types.specs.Values.{same}
 use Rattle.rasn_dynamic.specs.Defaults.{same_slot}

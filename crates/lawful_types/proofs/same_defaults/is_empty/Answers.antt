@@ -1,5 +1,5 @@
 use Rattle.std.proofs.Common.{[], sym}
-use Rattle.rasn_schema.specs.Lists.{list_value}
+use Rattle.rasn_schema.specs.Structures.{list_value}
 use Rattle.rasn_dynamic.proofs.SameDefaults.{same_self}
 use Rattle.lawful_types.proofs.SameTrees.{other_list}
 use Rattle.lawful_types.proofs.same_defaults.is_empty.Goals as goal

@@ -1,5 +1,5 @@
 use Rattle.std.proofs.Common.{◌≡◌, ◌+◌, sym, ap, ◌∙◌, true, false, not, take}
-use Rattle.rasn_schema.specs.Fields.{tag_of}
+use Rattle.rasn_schema.specs.Structures.{tag_of}
 use Rattle.rasn_schema.specs.Lawful.{same_tag}
 use Rattle.lawful_types.proofs.Passing.{all_differ, fails_at, passes_more}
 use Rattle.lawful_types.proofs.tags.is_new.Goals as goal

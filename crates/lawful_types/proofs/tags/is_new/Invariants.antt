@@ -1,5 +1,5 @@
 use Rattle.std.proofs.Common.{◌≡◌, true, take}
-use Rattle.rasn_schema.specs.Fields.{tag_of}
+use Rattle.rasn_schema.specs.Structures.{tag_of}
 use Rattle.rasn_schema.specs.Lawful.{is_new}
 use Rattle.lawful_types.specs.Keeps.{tags_of}
 use Rattle.lawful_types.proofs.tags.is_new.Given as goal

@@ -2,7 +2,7 @@ use Rattle.std.proofs.Common.{◌≡◌, ℕ, refl, suc, rules, ap, sym, ◌∙�
 use Rattle.std.proofs.lemmas.Result.{err_from_is_err_and}
 use Rattle.rasn_schema.specs.Records.{record_at}
 use Rattle.rasn_schema.specs.Schemas.{listed}
-use Rattle.rasn_traits.specs.Additions.{extended}
+use Rattle.rasn_schema.specs.Structures.{extended}
 use Rattle.per_de.proofs.AtPlaces.{how_many, marked}
 use Rattle.per_de.proofs.Calls.{too_deep}
 use Rattle.per_de.proofs.Opening.{opens_record, no_bit, no_front}

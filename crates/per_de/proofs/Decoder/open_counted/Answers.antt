@@ -2,7 +2,7 @@ use Rattle.std.proofs.Common.{◌≡◌, ℕ, ap, length, refl, sym, ◌∙◌}
 use Rattle.std.specs.Prelude.{count_by}
 use Rattle.std.proofs.lemmas.Result.{err_from_is_err_and}
 use Rattle.rasn_schema.specs.Fields.{may_be_absent}
-use Rattle.rasn_schema.specs.Lawful.{presence_bits}
+use Rattle.rasn_schema.specs.Structures.{presence_bits}
 use Rattle.rasn_schema.specs.Schemas.{count}
 use Rattle.rasn_traits.proofs.Optionals.{bits_counted}
 use Rattle.per_de.proofs.Additions.{shapes_counted}

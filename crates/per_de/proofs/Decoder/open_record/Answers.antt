@@ -2,11 +2,10 @@ use Rattle.std.proofs.Common.{◌≡◌, ℕ, refl, suc, rules, ap, sym, ◌∙�
 use Rattle.std.specs.Prelude.{count_by}
 use Rattle.std.proofs.lemmas.Result.{err_from_is_err_and}
 use Rattle.rasn_schema.specs.Fields.{may_be_absent}
-use Rattle.rasn_schema.specs.Lawful.{presence_bits}
+use Rattle.rasn_schema.specs.Structures.{presence_bits, extended}
 use Rattle.rasn_schema.specs.Records.{record_at}
 use Rattle.rasn_schema.specs.Schemas.{listed, count as part_count}
 use Rattle.rasn_traits.proofs.Optionals.{bits_counted}
-use Rattle.rasn_traits.specs.Additions.{extended}
 use Rattle.per_de.proofs.Additions.{shapes_counted}
 use Rattle.per_de.proofs.Calls.{too_deep}
 use Rattle.per_de.proofs.Opening.{opens_record, no_bit, no_front}

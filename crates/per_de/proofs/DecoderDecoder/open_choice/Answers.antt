@@ -1,6 +1,6 @@
 use Rattle.std.proofs.lemmas.Result.{err_from_is_err_and}
 use Rattle.rasn_schema.specs.Choices.{choices_of}
-use Rattle.rasn_schema.specs.Fields.{tag_of}
+use Rattle.rasn_schema.specs.Structures.{tag_of}
 use Rattle.rasn_traits.proofs.Places.{placed_to_read, stands_place}
 use Rattle.per_decoding.specs.Rules.{decoder_rules}
 use Rattle.per_de.specs.InTurn.{is_choice_in_turn}

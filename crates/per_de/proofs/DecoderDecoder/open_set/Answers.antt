@@ -1,4 +1,4 @@
-use Rattle.rasn_schema.specs.Canonised.{canonised_at}
+use Rattle.rasn_schema.specs.Orders.{canonised_at}
 use Rattle.rasn_schema.proofs.Canonised.{bits_ordered, count_ordered}
 use Rattle.per_de.proofs.DecoderDecoder.open_set.Goals as goal
 

@@ -1,6 +1,5 @@
 use Rattle.std.proofs.Common.{◌≡◌, ℕ, subst, inr, arith}
-use Rattle.per_core.specs.Spellings.{Field}
-use Rattle.per_core.specs.Took.{Took}
+use Rattle.per_core.specs.Spellings.{Field, Took}
 use Rattle.per_read.specs.State.{settings_of}
 use Rattle.per_read.proofs.Calls.{passes_on, takes_last}
 use Rattle.per_read.proofs.Fields.{field_below}

@@ -1,6 +1,6 @@
 use Rattle.std.proofs.Common.{◌≡◌, ◌<◌, inr, arith, sym, ap, ◌∙◌, length}
 use Rattle.std.proofs.lemmas.Bool.Decides.{nat_tests}
-use Rattle.rasn_types.specs.Octets.{signed}
+use Rattle.rasn_types.specs.Bits.{signed}
 use Rattle.rasn_constraints.specs.Bounds.{holds}
 use Rattle.per_read.proofs.Calls.{answers, refuses, passes_on}
 use Rattle.per_read.proofs.OneByOne.{no_more}

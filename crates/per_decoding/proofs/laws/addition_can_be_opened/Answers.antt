@@ -1,7 +1,8 @@
 use Rattle.std.proofs.Common.{refl, [], length}
 use Rattle.rasn_types.specs.Bits.{unpack}
 use Rattle.per_decoding.specs.Additions.{OutsideAddition}
-use Rattle.per_decoding.specs.State.{State, shown}
+use Rattle.per_decoding.specs.State.{State}
+use Rattle.per_core.specs.AdditionFaults.{shown}
 use Rattle.per_decoding.proofs.laws.addition_can_be_opened.Goals as goal
 
 pub returns : goal.returns

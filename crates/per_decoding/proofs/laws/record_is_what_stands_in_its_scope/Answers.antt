@@ -1,6 +1,5 @@
 use Rattle.std.proofs.Common.{sym, subst}
-use Rattle.rasn_schema.specs.Records.{record_value}
-use Rattle.rasn_traits.specs.Additions.{extended}
+use Rattle.rasn_schema.specs.Structures.{record_value, extended}
 use Rattle.per_decoding.specs.Laws.Relations.{reads_well}
 use Rattle.per_decoding.specs.Laws.Scopes.{back_of, read_of}
 use Rattle.per_decoding.specs.State.{Spells}

@@ -1,4 +1,4 @@
-use Rattle.rasn_types.specs.Codecs.{variant_of}
+use Rattle.rasn_types.specs.Variants.{variant_of}
 use Rattle.std.proofs.Common.{sym}
 use Rattle.rasn_dynamic.specs.Types.{schema_at}
 use Rattle.rasn_dynamic.specs.Values.{levels_of, value_of}

@@ -1,8 +1,8 @@
 use Rattle.per_laws.proofs.Readers.{known_is_read}
-use Rattle.rasn_types.specs.Codecs.{variant_of}
+use Rattle.rasn_types.specs.Variants.{variant_of}
 use Rattle.rasn_dynamic.specs.Types.{schema_at}
 use Rattle.rasn_dynamic.specs.Values.{value_of}
-use Rattle.rasn_per.specs.Complete.{reading}
+use Rattle.rasn_per.specs.Calls.{reading}
 use Rattle.per_versions.proofs.Laws
 use Rattle.per_dynamic.proofs.Tables.{levels}
 use Rattle.per_dynamic.proofs.versions.newer_table_widens_what_the_older_reads.Goals as goal

@@ -1,7 +1,7 @@
-use Rattle.rasn_types.specs.Codecs.{variant_of}
+use Rattle.rasn_types.specs.Variants.{variant_of}
 use Rattle.rasn_dynamic.specs.Types.{schema_at}
 use Rattle.rasn_dynamic.specs.Values.{value_of}
-use Rattle.rasn_per.specs.Complete.{reading}
+use Rattle.rasn_per.specs.Calls.{reading}
 use Rattle.per_versions.proofs.Laws
 use Rattle.per_dynamic.proofs.Tables.{levels}
 use Rattle.per_dynamic.proofs.versions.older_table_projects_what_the_newer_reads.Goals as goal

@@ -1,7 +1,7 @@
 use Rattle.std.proofs.Common.{◌≡◌, ap, ◌∙◌, subst, Some}
 use Rattle.std.proofs.lemmas.Result.{err_from_is_err_and}
 use Rattle.rasn_schema.specs.Schemas.{Schema}
-use Rattle.rasn_types.specs.Codecs.{variant_of}
+use Rattle.rasn_types.specs.Variants.{variant_of}
 use Rattle.per_core.specs.Counts.{open_bits}
 use Rattle.per_pieces.specs.Pieces.{Pieces, placed_bits}
 use Rattle.per_pieces.specs.Turns.{awaits, is_complete}

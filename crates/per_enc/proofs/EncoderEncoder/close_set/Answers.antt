@@ -1,7 +1,7 @@
 use Rattle.std.proofs.Common.{refl, ap, ◌∙◌}
 use Rattle.std.proofs.lemmas.Result.{err_from_is_err_and}
 use Rattle.rasn_schema.specs.Schemas.{count}
-use Rattle.rasn_schema.specs.Canonised.{canonised}
+use Rattle.rasn_schema.specs.Orders.{canonised}
 use Rattle.per_write.specs.Components.{Encoding}
 use Rattle.per_pieces.specs.Turns.{awaits, is_complete}
 use Rattle.per_enc.specs.Rules.{noting}

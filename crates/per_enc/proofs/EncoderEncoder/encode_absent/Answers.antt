@@ -1,6 +1,6 @@
 use Rattle.std.proofs.Common.{refl}
 use Rattle.std.proofs.lemmas.Result.{err_from_is_err_and}
-use Rattle.rasn_schema.specs.Absent.{no_value}
+use Rattle.rasn_schema.specs.Structures.{no_value}
 use Rattle.per_enc.proofs.Presenting.{refuses_again}
 use Rattle.per_enc.proofs.EncoderEncoder.encode_absent.Goals as goal
 

@@ -1,7 +1,7 @@
 use Rattle.std.proofs.Common.{ap, inl, inr, sym, ◌∙◌, subst, length, ℕ, Ok}
 use Rattle.std.specs.Prelude.{count_by}
 use Rattle.std.proofs.lemmas.Result.{err_from_is_err_and}
-use Rattle.rasn_schema.specs.Canonised.{canonised, canonised_at}
+use Rattle.rasn_schema.specs.Orders.{canonised, canonised_at}
 use Rattle.rasn_schema.specs.Fields.{may_be_absent}
 use Rattle.rasn_schema.specs.Schemas.{count, listed}
 use Rattle.rasn_schema.proofs.Canonised.{bits_ordered, count_ordered}

@@ -1,5 +1,5 @@
 use Rattle.std.proofs.Common.{false, [], ◌∷◌, subst}
-use Rattle.rasn_types.specs.Codecs.{variant_of}
+use Rattle.rasn_types.specs.Variants.{variant_of}
 use Rattle.rasn_types.specs.declared.types.Codec.{Codec}
 use Rattle.per_core.specs.Writers.{just, ◌▹◌}
 use Rattle.per_pieces.specs.Pieces.{writer_of}

@@ -1,6 +1,6 @@
 use Rattle.std.proofs.Common.{◌≡◌, ◌∙◌, sym, ap, ap₂, subst, IsTrue, ℤ, ◌<ℤ◌, pos, not, Bool, false, rules, Option}
 use Rattle.std.proofs.lemmas.Iterator.Adapters.{option_map_id}
-use Rattle.rasn_types.specs.Octets.{signed}
+use Rattle.rasn_types.specs.Bits.{signed}
 use Rattle.rasn_types.proofs.Octets.{signed-signed_octets}
 use Rattle.rasn_constraints.specs.Bounds.{fits_i128, holds}
 use Rattle.rasn_constraints.specs.Constraints.{bounds_of}

@@ -1,6 +1,6 @@
 use Rattle.std.proofs.Common.{refl, inl, rules}
 use Rattle.std.proofs.lemmas.Result.{on_ok_weaker}
-use Rattle.rasn_types.specs.Codecs.{variant_of}
+use Rattle.rasn_types.specs.Variants.{variant_of}
 use Rattle.per_write.proofs.Unbounded.{under_none, whole_written}
 use Rattle.per_write.proofs.Writing.{wrote_same}
 use Rattle.per_enc.proofs.integers.put_within.Goals as goal

@@ -1,6 +1,6 @@
 use Rattle.std.proofs.Common.{ap}
 use Rattle.std.proofs.lemmas.Result.{on_ok_weaker}
-use Rattle.rasn_types.specs.Codecs.{variant_of}
+use Rattle.rasn_types.specs.Variants.{variant_of}
 use Rattle.per_pieces.proofs.Fragments.{appends_nothing, appends_padding}
 use Rattle.per_pieces.proofs.lengths.push_padding.Goals as goal
 

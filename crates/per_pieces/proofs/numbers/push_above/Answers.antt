@@ -1,7 +1,7 @@
 use Rattle.std.proofs.Common.{to_z-of_z, FitsSigned, rules}
 use Rattle.std.specs.Int.{w128}
 use Rattle.std.proofs.lemmas.Result.{on_ok_weaker}
-use Rattle.rasn_types.specs.Codecs.{variant_of}
+use Rattle.rasn_types.specs.Variants.{variant_of}
 use Rattle.per_pieces.proofs.Distances.{appends_between, appends_from}
 use Rattle.per_pieces.proofs.numbers.push_above.Goals as goal
 

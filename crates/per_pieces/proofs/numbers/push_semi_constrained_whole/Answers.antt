@@ -1,5 +1,5 @@
 use Rattle.std.proofs.lemmas.Result.{on_ok_weaker}
-use Rattle.rasn_types.specs.Codecs.{variant_of}
+use Rattle.rasn_types.specs.Variants.{variant_of}
 use Rattle.per_pieces.proofs.Bounded.{appends_natural}
 use Rattle.per_pieces.proofs.numbers.push_semi_constrained_whole.Goals as goal
 

@@ -1,7 +1,7 @@
 use Rattle.std.proofs.Common.{FitsSigned, to_z-of_z}
 use Rattle.std.proofs.lemmas.Result.{on_ok_weaker}
 use Rattle.std.specs.Int.{w128}
-use Rattle.rasn_types.specs.Codecs.{variant_of}
+use Rattle.rasn_types.specs.Variants.{variant_of}
 use Rattle.per_pieces.proofs.Wholes.{appends_whole}
 use Rattle.per_pieces.proofs.numbers.push_unconstrained_whole.Goals as goal
 

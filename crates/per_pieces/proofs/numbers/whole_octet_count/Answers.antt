@@ -1,6 +1,6 @@
 use Rattle.std.proofs.Common.{◌∙◌, ◌≡◌, ◌≤◌, ◌/◌, ◌+◌, ℕ, sym, subst, FitsSigned, to_z-of_z}
 use Rattle.std.specs.Int.{w128}
-use Rattle.rasn_types.specs.Octets.{octets_of_whole}
+use Rattle.rasn_types.specs.Bits.{octets_of_whole}
 use Rattle.rasn_types.proofs.Integers.{octets_of_i128}
 use Rattle.per_pieces.proofs.Wholes.{octets_from_zero, octets_from_minus_one}
 use Rattle.per_pieces.proofs.numbers.whole_octet_count.Goals as goal

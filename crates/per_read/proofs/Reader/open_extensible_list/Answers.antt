@@ -2,7 +2,7 @@ use Rattle.std.proofs.Common.{inl}
 use Rattle.std.proofs.lemmas.Bool.{not-true, not-false}
 use Rattle.rasn_constraints.specs.Constraints.{size_between}
 use Rattle.per_core.specs.Basic.{basic}
-use Rattle.per_read.specs.InLists.{IsOfListCount, IsOfNone}
+use Rattle.per_core.specs.SizeFaults.{IsOfListCount, IsOfNone}
 use Rattle.per_read.specs.State.{settings_of}
 use Rattle.per_read.proofs.Calls.{begins, ended, errs}
 use Rattle.per_read.proofs.OfFields.{in_marked, past_marked}

@@ -1,6 +1,6 @@
 use Rattle.std.proofs.Common.{◌∙◌, ap, sym, arith, length}
 use Rattle.per_read.specs.State.{State, settings_of}
-use Rattle.per_read.specs.declared.lengths.Length.TheVariants.{Last}
+use Rattle.per_core.specs.declared.lengths.Length.TheVariants.{Last}
 use Rattle.per_read.proofs.Calls.{answers}
 use Rattle.per_read.proofs.Parts.{small_length}
 use Rattle.per_read.proofs.ShortOctets.{counted, fragment_no_octets, last_octets, no_length_no_octets, short_no_octets, skips}

@@ -4,7 +4,7 @@ use Rattle.rasn_types.proofs.Packing.{viewed}
 use Rattle.rasn_schema.specs.Forms.{size_of, is_size_marked}
 use Rattle.per_core.specs.Basic.{Counted, bit}
 use Rattle.per_core.specs.Counts.{bit_items}
-use Rattle.per_core.specs.Took.{Took}
+use Rattle.per_core.specs.Spellings.{Took}
 use Rattle.per_read.specs.Items.{bit_code}
 use Rattle.per_read.specs.State.{settings_of}
 use Rattle.per_read.proofs.Calls.{answers, passes_on}

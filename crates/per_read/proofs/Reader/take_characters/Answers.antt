@@ -1,13 +1,12 @@
 use Rattle.std.proofs.Common.{◌≡◌, ◌∙◌, inr, ap, map, refl, subst, Some}
-use Rattle.rasn_types.specs.Codecs.{variant_of}
+use Rattle.rasn_types.specs.Variants.{variant_of}
 use Rattle.rasn_schema.specs.Forms.{alphabet_of, size_of, is_size_marked}
-use Rattle.per_core.specs.Took.{Took}
+use Rattle.per_core.specs.Spellings.{Took, NoneIn}
 use Rattle.rasn_types.specs.Alphabets.{char_code, char_width}
-use Rattle.per_read.specs.Items.{counted_items}
-use Rattle.per_read.specs.Kinds.{Faulty, NoneIn}
-use Rattle.per_read.specs.Sizes.{IsOfItems}
+use Rattle.per_core.specs.Lengths.{counted_items}
+use Rattle.per_read.specs.Kinds.{Faulty}
+use Rattle.per_core.specs.SizeFaults.{IsOfItems, HasUnknown}
 use Rattle.per_read.specs.State.{State, settings_of}
-use Rattle.per_read.specs.Strings.{HasUnknown}
 use Rattle.per_core.specs.declared.items.Item.TheVariants.{Character}
 use Rattle.per_read.proofs.Refusals.{faulty_map}
 use Rattle.per_read.proofs.CharacterCodes.{same_alphabet, characters_took, none_of_characters, string_kind, unpermitted, read_known, read_unknown}

@@ -1,15 +1,13 @@
 use Rattle.std.proofs.Common.{◌∙◌, ◌≡◌, ◌&&◌, Bool, ltb, inl, inr, subst, ap}
-use Rattle.per_core.specs.Counts.{is_aligned}
-use Rattle.per_core.specs.Items.{bits_of, counted_of}
-use Rattle.per_core.specs.Spellings.{Settings}
+use Rattle.per_core.specs.Counts.{is_aligned, bits_of, counted_of}
+use Rattle.per_core.specs.Spellings.{Settings, Took}
 use Rattle.rasn_types.specs.Bits.{Bits}
-use Rattle.per_read.specs.Items.{coded}
-use Rattle.per_read.specs.Sizes.{IsOfPaddingIf}
+use Rattle.per_core.specs.Lengths.{coded}
+use Rattle.per_core.specs.SizeFaults.{IsOfPaddingIf}
 use Rattle.per_read.specs.State.{settings_of}
-use Rattle.per_read.specs.declared.error.DecodeErrorKind.{DecodeErrorKind}
+use Rattle.per_core.specs.declared.decode_error.DecodeErrorKind.{DecodeErrorKind}
 use Rattle.per_read.proofs.Calls.{answers_items, passes_on_items}
 use Rattle.per_core.specs.Basic.{PaddingIf}
-use Rattle.per_core.specs.Took.{Took}
 use Rattle.per_read.proofs.Refusals.{faulty_map}
 use Rattle.per_read.proofs.SizeForms.{between_took, short_between, no_count_between, no_padding_between}
 use Rattle.per_read.proofs.Reader.take_constrained_items.Goals as goal

@@ -1,12 +1,12 @@
 use Rattle.std.proofs.Common.{◌∙◌, ◌+◌, ℕ, refl, sym, ap}
-use Rattle.rasn_types.specs.Codecs.{variant_of}
+use Rattle.rasn_types.specs.Variants.{variant_of}
 use Rattle.rasn_types.specs.declared.types.Codec.{Codec}
 use Rattle.per_core.specs.Basic.{constrained_by}
 use Rattle.per_read.specs.State.{State, settings_of}
 use Rattle.per_read.proofs.Calls.{takes_last, too_short}
 use Rattle.per_read.proofs.Forms.{as_form, as_wide, no_form, no_field}
 use Rattle.per_read.proofs.OfFields.{as_lacking, says_as}
-use Rattle.per_read.specs.Numbers.{IsOfConstrainedBy}
+use Rattle.per_core.specs.NumberFaults.{IsOfConstrainedBy}
 use Rattle.per_read.proofs.Reader.take_constrained_whole.Goals as goal
 
 pub returns-in-Aper : goal.returns-in-Aper

@@ -1,7 +1,7 @@
 use Rattle.std.proofs.Common.{◌≡◌, ◌∙◌, ◌+◌, ◌/◌, ℕ, ap, refl, arith}
 use Rattle.std.proofs.lemmas.Result.{IfOk-weaker}
 use Rattle.rasn_types.specs.Bits.{width}
-use Rattle.per_read.specs.Numbers.{count_width}
+use Rattle.per_core.specs.NumberFaults.{count_width}
 use Rattle.per_read.proofs.Calls.{takes_last, no_field_in, too_short}
 use Rattle.per_read.proofs.Forms.{few_octets, as_wide}
 use Rattle.per_read.proofs.OfFields.{as_lacking}

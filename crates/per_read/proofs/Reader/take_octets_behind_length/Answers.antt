@@ -1,9 +1,9 @@
 use Rattle.std.proofs.Common.{◌∙◌, subst, arith}
-use Rattle.per_core.specs.Took.{Took}
-use Rattle.per_read.specs.Fields.{in_items, in_length}
-use Rattle.per_read.specs.Lengths.{LengthOf}
+use Rattle.per_core.specs.Spellings.{Took}
+use Rattle.per_core.specs.FieldFaults.{in_items, in_length}
+use Rattle.per_core.specs.Lengths.{LengthOf}
 use Rattle.per_read.specs.State.{settings_of}
-use Rattle.per_read.specs.declared.lengths.Length.TheVariants.{Last}
+use Rattle.per_core.specs.declared.lengths.Length.TheVariants.{Last}
 use Rattle.per_read.proofs.Calls.{too_short}
 use Rattle.per_read.proofs.ReadAsField.{few_no_length, few_refused, few_short, few_took}
 use Rattle.per_read.proofs.Reader.take_octets_behind_length.Goals as goal

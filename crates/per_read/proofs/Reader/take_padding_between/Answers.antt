@@ -1,8 +1,7 @@
 use Rattle.std.proofs.Common.{◌≡◌, ◌∙◌, ◌&&◌, ltb, lt-ltb, true, sym, ap₂, subst, arith}
 use Rattle.per_core.specs.Basic.{PaddingIf}
-use Rattle.per_core.specs.Counts.{is_aligned}
-use Rattle.per_core.specs.Items.{counted_of}
-use Rattle.per_read.specs.Sizes.{IsOfPaddingIf}
+use Rattle.per_core.specs.Counts.{is_aligned, counted_of}
+use Rattle.per_core.specs.SizeFaults.{IsOfPaddingIf}
 use Rattle.per_read.specs.Takes.{Takes, alone, itself, telling}
 use Rattle.per_read.proofs.Reader.take_padding_between.Goals as goal
 

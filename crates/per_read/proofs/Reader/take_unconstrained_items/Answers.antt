@@ -1,8 +1,8 @@
 use Rattle.std.proofs.Common.{◌≡◌, ◌∙◌, ◌+◌, ◌*◌, ◌<◌, inr, refl, ap, arith, length, length-append, subst, ℕ}
 use Rattle.per_core.specs.Basic.{OneByOne}
-use Rattle.per_core.specs.Items.{bits_of, counted_of}
+use Rattle.per_core.specs.Counts.{bits_of, counted_of}
 use Rattle.per_core.specs.Spellings.{Field}
-use Rattle.per_read.specs.Fields.{in_items, in_length, too_many}
+use Rattle.per_core.specs.FieldFaults.{in_items, in_length, too_many}
 use Rattle.per_read.specs.Items.{TookItems}
 use Rattle.per_read.proofs.Calls.{answers_items, passes_on_items}
 use Rattle.per_read.proofs.OfFields.{as_lacking}

@@ -1,6 +1,6 @@
 use Rattle.std.proofs.Common.{inl, inr}
 use Rattle.per_core.proofs.Took.{took_then}
-use Rattle.per_read.specs.Lengths.{CountOf}
+use Rattle.per_core.specs.Lengths.{CountOf}
 use Rattle.per_read.proofs.Calls.{passes_on, takes_last}
 use Rattle.per_read.proofs.Counts.{no_length}
 use Rattle.per_read.proofs.Padding.{no_padding}

@@ -3,7 +3,7 @@ use Rattle.std.specs.String.{string_bytes}
 use Rattle.rasn_types.specs.Contents.{utf8}
 use Rattle.rasn_types.proofs.Texts.{is_text-string_bytes, is_text-false}
 use Rattle.per_core.specs.Basic.{Octets}
-use Rattle.per_core.specs.Took.{Took}
+use Rattle.per_core.specs.Spellings.{Took}
 use Rattle.per_read.specs.State.{settings_of}
 use Rattle.per_read.proofs.Calls.{answers, refuses, passes_on}
 use Rattle.per_read.proofs.Refusals.{faulty_map}

@@ -1,7 +1,7 @@
 use Rattle.std.proofs.Common.{◌∷◌, sym, subst}
 use Rattle.per_core.specs.Basic.{Additions, rules}
-use Rattle.per_core.specs.Took.{Took}
-use Rattle.per_read.specs.Additions.{rule_of}
+use Rattle.per_core.specs.Spellings.{Took}
+use Rattle.per_core.specs.AdditionFaults.{rule_of}
 use Rattle.per_read.proofs.Additions.{additions_took, took_additions}
 use Rattle.per_read.proofs.addition_laws.additions_are_read_in_turn.Goals as goal
 

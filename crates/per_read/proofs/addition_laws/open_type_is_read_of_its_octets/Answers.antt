@@ -1,6 +1,6 @@
 use Rattle.std.proofs.Common.{subst}
 use Rattle.per_core.specs.Basic.{OpenOf, basic}
-use Rattle.per_core.specs.Took.{Took}
+use Rattle.per_core.specs.Spellings.{Took}
 use Rattle.per_read.proofs.Opened.{open_took, took_open}
 use Rattle.per_read.proofs.addition_laws.open_type_is_read_of_its_octets.Goals as goal
 

@@ -1,6 +1,6 @@
 use Rattle.std.proofs.Common.{sym, subst, []}
 use Rattle.per_core.specs.Basic.{Additions}
-use Rattle.per_core.specs.Took.{Took}
+use Rattle.per_core.specs.Spellings.{Took}
 use Rattle.per_read.proofs.Additions.{took_unknown, unknown_took}
 use Rattle.per_read.proofs.addition_laws.unknown_additions_stand_last.Goals as goal
 

@@ -1,7 +1,7 @@
 use Rattle.std.proofs.Common.{true, false, inl, inr}
 use Rattle.per_read.proofs.Calls.{begins, ended, passes_on, takes_last}
 use Rattle.per_read.proofs.OfFields.{in_marked}
-use Rattle.per_read.specs.Bitmaps.{IsOfLargeBitmap, IsOfSmallBitmap}
+use Rattle.per_core.specs.AdditionFaults.{IsOfLargeBitmap, IsOfSmallBitmap}
 use Rattle.per_read.specs.State.{settings_of}
 use Rattle.per_read.proofs.Maps.{flags_behind, large_gathers, large_took, no_bitmap, no_large, no_small, small_took}
 use Rattle.per_read.proofs.bitmaps.take_bitmap.Goals as goal

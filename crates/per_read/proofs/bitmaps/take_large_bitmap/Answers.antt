@@ -1,10 +1,10 @@
 use Rattle.std.proofs.Common.{◌≡◌, ◌∙◌, ◌*◌, inl, inr, refl, ap, subst, arith}
-use Rattle.per_core.specs.Took.{Took}
-use Rattle.per_read.specs.Bitmaps.{IsOfLargeBitmap}
-use Rattle.per_read.specs.Fields.{in_items, in_length}
-use Rattle.per_read.specs.Lengths.{LengthOf}
+use Rattle.per_core.specs.Spellings.{Took}
+use Rattle.per_core.specs.AdditionFaults.{IsOfLargeBitmap}
+use Rattle.per_core.specs.FieldFaults.{in_items, in_length}
+use Rattle.per_core.specs.Lengths.{LengthOf}
 use Rattle.per_read.specs.State.{settings_of}
-use Rattle.per_read.specs.declared.lengths.Length.TheVariants.{Last}
+use Rattle.per_core.specs.declared.lengths.Length.TheVariants.{Last}
 use Rattle.per_read.proofs.Calls.{answers, passes_on, refuses}
 use Rattle.per_read.proofs.OfFields.{as_lacking}
 use Rattle.per_read.proofs.Refusals.{faulty_map}

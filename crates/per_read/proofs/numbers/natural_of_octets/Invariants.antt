@@ -1,5 +1,5 @@
 use Rattle.std.proofs.Common.{◌≡◌, take}
-use Rattle.rasn_types.specs.Octets.{unsigned}
+use Rattle.rasn_types.specs.Bits.{unsigned}
 use Rattle.per_read.proofs.numbers.natural_of_octets.Given as goal
 
 -- the number so far is that of the octets so far

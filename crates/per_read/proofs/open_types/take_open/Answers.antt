@@ -1,9 +1,9 @@
 use Rattle.std.proofs.Common.{◌∙◌, ◌*◌, inr, refl, ap, subst, arith}
 use Rattle.rasn_types.specs.Bits.{pack}
-use Rattle.per_core.specs.Took.{Took}
-use Rattle.per_read.specs.Fields.{in_items, in_length}
-use Rattle.per_read.specs.declared.lengths.Length.TheVariants.{Last}
-use Rattle.per_read.specs.Lengths.{LengthOf, count_of}
+use Rattle.per_core.specs.Spellings.{Took}
+use Rattle.per_core.specs.FieldFaults.{in_items, in_length}
+use Rattle.per_core.specs.declared.lengths.Length.TheVariants.{Last}
+use Rattle.per_core.specs.Lengths.{LengthOf, count_of}
 use Rattle.per_read.specs.State.{settings_of}
 use Rattle.per_read.proofs.Calls.{answers, passes_on}
 use Rattle.per_read.proofs.Parts.{small_length}

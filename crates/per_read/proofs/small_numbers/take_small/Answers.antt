@@ -1,7 +1,7 @@
 use Rattle.std.proofs.Common.{◌∙◌, arith, inl}
 use Rattle.per_core.specs.Basic.{IsSemiConstrainedWhole}
 use Rattle.per_core.specs.Spellings.{Field}
-use Rattle.per_read.specs.Fields.{IsOfField, IsOfUnconstrained}
+use Rattle.per_core.specs.FieldFaults.{IsOfField, IsOfUnconstrained}
 use Rattle.per_read.specs.State.{settings_of}
 use Rattle.per_read.proofs.Calls.{answers, passes_on, takes_last, begins, ended}
 use Rattle.per_read.proofs.SmallForms.{field_small, octets_small}

@@ -1,5 +1,5 @@
 use Rattle.std.proofs.Common.{◌≡◌, refl, sym, ap, ◌∙◌, lit<, ℕ, ◌^◌, ◌-◌, List, [], ◌∷◌, ◌++◌, replicate, true, pos, negsuc, ℤ, arith, leb-true}
-use Rattle.rasn_types.specs.Octets.{unsigned}
+use Rattle.rasn_types.specs.Bits.{unsigned}
 use Rattle.rasn_types.specs.Values.{Value}
 use Rattle.rasn_constraints.specs.Bounds.{above, fits_i128}
 use Rattle.per_core.specs.Basic.{basic, basic_in, Octets}

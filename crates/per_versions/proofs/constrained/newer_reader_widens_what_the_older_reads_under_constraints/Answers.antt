@@ -1,8 +1,8 @@
 use Rattle.per_laws.proofs.Readers.{known_is_read}
 use Rattle.per_versions.proofs.Laws
 use Rattle.per_versions.proofs.constrained.newer_reader_widens_what_the_older_reads_under_constraints.Goals as goal
-use Rattle.rasn_per.specs.Complete.{reading}
-use Rattle.rasn_types.specs.Codecs.{variant_of}
+use Rattle.rasn_per.specs.Calls.{reading}
+use Rattle.rasn_types.specs.Variants.{variant_of}
 
 pub returns-clause-answers : goal.returns-clause-answers
 returns-clause-answers g c = λ q r k strict codec octets x answer h d. Laws.answered strict codec (g.New.AsnType.schema q) g.New.AsnType.value octets answer _ d

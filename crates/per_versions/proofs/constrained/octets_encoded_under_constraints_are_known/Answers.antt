@@ -1,7 +1,7 @@
 use Rattle.per_versions.proofs.Laws
 use Rattle.per_versions.proofs.constrained.octets_encoded_under_constraints_are_known.Goals as goal
-use Rattle.rasn_per.specs.Complete.{reading}
-use Rattle.rasn_types.specs.Codecs.{variant_of}
+use Rattle.rasn_per.specs.Calls.{reading}
+use Rattle.rasn_types.specs.Variants.{variant_of}
 
 pub returns : goal.returns
 returns g c = λ q strict codec x y octets h d.

@@ -1,7 +1,7 @@
 use Rattle.per_versions.proofs.Laws
 use Rattle.per_versions.proofs.constrained.oldest_reader_answers_the_same_under_constraints.Goals as goal
-use Rattle.rasn_per.specs.Complete.{reading}
-use Rattle.rasn_types.specs.Codecs.{variant_of}
+use Rattle.rasn_per.specs.Calls.{reading}
+use Rattle.rasn_types.specs.Variants.{variant_of}
 
 pub returns : goal.returns
 returns g c = λ q m r k l strict codec octets x y answer d e f. (

@@ -1,8 +1,8 @@
 use Rattle.per_versions.proofs.Fronts
 use Rattle.per_versions.proofs.Laws
 use Rattle.per_versions.proofs.messages.older_reader_answers_the_same_where_it_sees_the_same.Goals as goal
-use Rattle.rasn_per.specs.Complete.{reading}
-use Rattle.rasn_types.specs.Codecs.{variant_of}
+use Rattle.rasn_per.specs.Calls.{reading}
+use Rattle.rasn_types.specs.Variants.{variant_of}
 
 pub returns : goal.returns
 returns g c = λ k strict codec x y z octets others answer d e i f h.

@@ -2,8 +2,8 @@ use Rattle.per_laws.proofs.Sound.{read_the_same}
 use Rattle.per_versions.proofs.Fronts
 use Rattle.per_versions.proofs.Laws
 use Rattle.per_versions.proofs.messages.reader_answers_the_same_whatever_is_unknown.Goals as goal
-use Rattle.rasn_per.specs.Complete.{reading}
-use Rattle.rasn_types.specs.Codecs.{variant_of}
+use Rattle.rasn_per.specs.Calls.{reading}
+use Rattle.rasn_types.specs.Variants.{variant_of}
 
 pub returns : goal.returns
 returns g c = λ strict codec x octets others answer k d e.

@@ -1,8 +1,8 @@
 use Rattle.per_laws.proofs.Sound.{read_the_same}
 use Rattle.per_versions.proofs.Fronts
 use Rattle.per_versions.proofs.messages.reader_in_front_answers_the_same_whatever_is_unknown.Goals as goal
-use Rattle.rasn_per.specs.Complete.{basically}
-use Rattle.rasn_types.specs.Codecs.{variant_of}
+use Rattle.rasn_per.specs.Calls.{basically}
+use Rattle.rasn_types.specs.Variants.{variant_of}
 use Rattle.std.proofs.Common.{refl}
 
 pub returns : goal.returns

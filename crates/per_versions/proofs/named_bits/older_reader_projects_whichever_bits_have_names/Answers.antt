@@ -1,8 +1,8 @@
 use Rattle.per_versions.proofs.ButForNames
 use Rattle.per_versions.proofs.Laws
 use Rattle.per_versions.proofs.named_bits.older_reader_projects_whichever_bits_have_names.Goals as goal
-use Rattle.rasn_per.specs.Complete.{reading}
-use Rattle.rasn_types.specs.Codecs.{variant_of}
+use Rattle.rasn_per.specs.Calls.{reading}
+use Rattle.rasn_types.specs.Variants.{variant_of}
 
 pub returns : goal.returns
 returns g c = λ k strict codec octets x answer e d. Laws.answered strict codec (g.Old.AsnType.schema g.Old.AsnType.CONSTRAINTS) g.Old.AsnType.value octets answer _ d

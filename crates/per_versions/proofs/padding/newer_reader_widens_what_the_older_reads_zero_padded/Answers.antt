@@ -1,8 +1,8 @@
 use Rattle.per_versions.proofs.Laws
 use Rattle.per_versions.proofs.Relayed
 use Rattle.per_versions.proofs.padding.newer_reader_widens_what_the_older_reads_zero_padded.Goals as goal
-use Rattle.rasn_per.specs.Complete.{basically, reading}
-use Rattle.rasn_types.specs.Codecs.{variant_of}
+use Rattle.rasn_per.specs.Calls.{basically, reading}
+use Rattle.rasn_types.specs.Variants.{variant_of}
 use Rattle.std.proofs.Common.{true, false}
 
 pub returns : goal.returns

@@ -3,8 +3,8 @@ use Rattle.per_versions.proofs.Fronts
 use Rattle.per_versions.proofs.Laws
 use Rattle.per_versions.proofs.Relayed
 use Rattle.per_versions.proofs.padding.what_is_decoded_zero_padded_is_decoded.Goals as goal
-use Rattle.rasn_per.specs.Complete.{basically, reading}
-use Rattle.rasn_types.specs.Codecs.{variant_of}
+use Rattle.rasn_per.specs.Calls.{basically, reading}
+use Rattle.rasn_types.specs.Variants.{variant_of}
 use Rattle.std.proofs.Common.{true, false}
 
 pub returns-clause-answers : goal.returns-clause-answers

@@ -1,8 +1,8 @@
 use Rattle.per_versions.proofs.Laws
 use Rattle.per_versions.proofs.Relayed
 use Rattle.per_versions.proofs.relays.older_reader_projects_what_is_passed_on.Goals as goal
-use Rattle.rasn_per.specs.Complete.{reading}
-use Rattle.rasn_types.specs.Codecs.{variant_of}
+use Rattle.rasn_per.specs.Calls.{reading}
+use Rattle.rasn_types.specs.Variants.{variant_of}
 
 pub returns : goal.returns
 returns g c = λ l k strict again codec other x octets others answer d h e.

@@ -1,8 +1,8 @@
 use Rattle.per_versions.proofs.Laws
 use Rattle.per_versions.proofs.Relayed
 use Rattle.per_versions.proofs.relays.relay_changes_nothing_that_the_older_sees.Goals as goal
-use Rattle.rasn_per.specs.Complete.{reading}
-use Rattle.rasn_types.specs.Codecs.{variant_of}
+use Rattle.rasn_per.specs.Calls.{reading}
+use Rattle.rasn_types.specs.Variants.{variant_of}
 
 pub returns-clause-answers : goal.returns-clause-answers
 returns-clause-answers g c = λ l m k strict again codec other x y octets others answer d e h f.

@@ -2,8 +2,8 @@ use Rattle.per_versions.proofs.Faulted
 use Rattle.per_versions.proofs.Laws
 use Rattle.per_versions.proofs.Relayed
 use Rattle.per_versions.proofs.relays.relay_to_an_older_reader.Goals as goal
-use Rattle.rasn_per.specs.Complete.{reading}
-use Rattle.rasn_types.specs.Codecs.{variant_of}
+use Rattle.rasn_per.specs.Calls.{reading}
+use Rattle.rasn_types.specs.Variants.{variant_of}
 
 pub returns : goal.returns
 returns g c = λ l i k strict again codec other x octets written answer d e.

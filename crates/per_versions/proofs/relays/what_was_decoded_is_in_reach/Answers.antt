@@ -1,7 +1,7 @@
 use Rattle.per_versions.proofs.Relayed
 use Rattle.per_versions.proofs.relays.what_was_decoded_is_in_reach.Goals as goal
-use Rattle.rasn_per.specs.Complete.{reading}
-use Rattle.rasn_types.specs.Codecs.{variant_of}
+use Rattle.rasn_per.specs.Calls.{reading}
+use Rattle.rasn_types.specs.Variants.{variant_of}
 
 pub returns-clause-of_older : goal.returns-clause-of_older
 returns-clause-of_older g c = λ l k strict codec x octets d.

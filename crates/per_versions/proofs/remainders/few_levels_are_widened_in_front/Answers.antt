@@ -1,8 +1,8 @@
 use Rattle.per_versions.proofs.Fronts
 use Rattle.per_versions.proofs.Laws
 use Rattle.per_versions.proofs.remainders.few_levels_are_widened_in_front.Goals as goal
-use Rattle.rasn_per.specs.Complete.{basically}
-use Rattle.rasn_types.specs.Codecs.{variant_of}
+use Rattle.rasn_per.specs.Calls.{basically}
+use Rattle.rasn_types.specs.Variants.{variant_of}
 use Rattle.std.proofs.Common.{refl}
 
 pub returns : goal.returns

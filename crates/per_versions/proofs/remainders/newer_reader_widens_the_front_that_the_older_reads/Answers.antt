@@ -3,8 +3,8 @@ use Rattle.per_laws.proofs.Readers.{known_is_read}
 use Rattle.per_versions.proofs.Fronts
 use Rattle.per_versions.proofs.Laws
 use Rattle.per_versions.proofs.remainders.newer_reader_widens_the_front_that_the_older_reads.Goals as goal
-use Rattle.rasn_per.specs.Complete.{basically}
-use Rattle.rasn_types.specs.Codecs.{variant_of}
+use Rattle.rasn_per.specs.Calls.{basically}
+use Rattle.rasn_types.specs.Variants.{variant_of}
 use Rattle.std.proofs.Common.{subst}
 
 pub returns-clause-answers : goal.returns-clause-answers

@@ -2,8 +2,8 @@ use Rattle.per_core.specs.Basic.{front}
 use Rattle.per_versions.proofs.Fronts
 use Rattle.per_versions.proofs.Laws
 use Rattle.per_versions.proofs.remainders.what_is_decoded_in_front_is_decoded.Goals as goal
-use Rattle.rasn_per.specs.Complete.{basically}
-use Rattle.rasn_types.specs.Codecs.{variant_of}
+use Rattle.rasn_per.specs.Calls.{basically}
+use Rattle.rasn_types.specs.Variants.{variant_of}
 use Rattle.std.proofs.Common.{subst, false}
 use Rattle.std.specs.Prelude.{◌++◌}
 

@@ -1,7 +1,7 @@
 use Rattle.per_versions.proofs.Fronts
 use Rattle.per_versions.proofs.remainders.what_is_decoded_is_decoded_in_front.Goals as goal
-use Rattle.rasn_per.specs.Complete.{basically}
-use Rattle.rasn_types.specs.Codecs.{variant_of}
+use Rattle.rasn_per.specs.Calls.{basically}
+use Rattle.rasn_types.specs.Variants.{variant_of}
 use Rattle.std.proofs.Common.{refl}
 
 pub returns : goal.returns

@@ -1,7 +1,7 @@
 use Rattle.per_versions.proofs.Laws
 use Rattle.per_versions.proofs.round_trips.what_was_decoded_is_decoded_again.Goals as goal
-use Rattle.rasn_per.specs.Complete.{reading}
-use Rattle.rasn_types.specs.Codecs.{variant_of}
+use Rattle.rasn_per.specs.Calls.{reading}
+use Rattle.rasn_types.specs.Variants.{variant_of}
 
 pub returns : goal.returns
 returns g c = λ l strict again codec other x octets others answer d h e. Laws.answered again other (g.T.AsnType.schema g.T.AsnType.CONSTRAINTS) g.T.AsnType.value others answer _ e

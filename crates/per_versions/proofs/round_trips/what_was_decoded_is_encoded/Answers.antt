@@ -1,7 +1,7 @@
 use Rattle.per_versions.proofs.Faulted
 use Rattle.per_versions.proofs.round_trips.what_was_decoded_is_encoded.Goals as goal
-use Rattle.rasn_per.specs.Complete.{reading}
-use Rattle.rasn_types.specs.Codecs.{variant_of}
+use Rattle.rasn_per.specs.Calls.{reading}
+use Rattle.rasn_types.specs.Variants.{variant_of}
 
 pub returns-clause-one_fault : goal.returns-clause-one_fault
 returns-clause-one_fault g c = λ l strict codec other x octets answer d e.

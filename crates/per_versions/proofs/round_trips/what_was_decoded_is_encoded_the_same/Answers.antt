@@ -1,7 +1,7 @@
 use Rattle.per_versions.proofs.Laws
 use Rattle.per_versions.proofs.round_trips.what_was_decoded_is_encoded_the_same.Goals as goal
-use Rattle.rasn_per.specs.Complete.{reading}
-use Rattle.rasn_types.specs.Codecs.{variant_of}
+use Rattle.rasn_per.specs.Calls.{reading}
+use Rattle.rasn_types.specs.Variants.{variant_of}
 
 pub returns-clause-same : goal.returns-clause-same
 returns-clause-same g c = λ strict codec x y octets others h d i.

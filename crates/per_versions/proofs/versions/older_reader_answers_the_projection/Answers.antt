@@ -1,7 +1,7 @@
 use Rattle.per_versions.proofs.Laws
 use Rattle.per_versions.proofs.versions.older_reader_answers_the_projection.Goals as goal
-use Rattle.rasn_per.specs.Complete.{reading}
-use Rattle.rasn_types.specs.Codecs.{variant_of}
+use Rattle.rasn_per.specs.Calls.{reading}
+use Rattle.rasn_types.specs.Variants.{variant_of}
 
 pub returns : goal.returns
 returns g c = λ k strict codec x octets answer h d. Laws.answered strict codec (g.Old.AsnType.schema g.Old.AsnType.CONSTRAINTS) g.Old.AsnType.value octets answer _ d

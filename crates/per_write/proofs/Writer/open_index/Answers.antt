@@ -1,5 +1,5 @@
 use Rattle.std.proofs.Common.{ap, ◌∙◌, false, replicate, rules}
-use Rattle.rasn_types.specs.Codecs.{variant_of}
+use Rattle.rasn_types.specs.Variants.{variant_of}
 use Rattle.per_pieces.specs.Pieces.{bit_count, with_bits}
 use Rattle.per_write.specs.Choices.{index_width}
 use Rattle.per_write.specs.State.{State}

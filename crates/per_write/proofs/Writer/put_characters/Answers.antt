@@ -1,5 +1,5 @@
 use Rattle.std.proofs.Common.{◌∙◌, ap, rules}
-use Rattle.rasn_types.specs.Codecs.{variant_of}
+use Rattle.rasn_types.specs.Variants.{variant_of}
 use Rattle.per_write.specs.State.{State}
 use Rattle.per_write.proofs.Refusing.{char_string_law}
 use Rattle.per_write.proofs.Writer.put_characters.Goals as goal

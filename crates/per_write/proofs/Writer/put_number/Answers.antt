@@ -1,7 +1,7 @@
 use Rattle.std.proofs.Common.{to_z-of_z, FitsSigned, inr, rules}
 use Rattle.std.specs.Int.{w128}
 use Rattle.std.proofs.lemmas.Result.{on_ok_weaker}
-use Rattle.rasn_types.specs.Codecs.{variant_of}
+use Rattle.rasn_types.specs.Variants.{variant_of}
 use Rattle.rasn_constraints.specs.Ranges.{i128_range}
 use Rattle.per_write.proofs.Unbounded.{under_none, whole_written}
 use Rattle.per_write.proofs.Writing.{wrote_same}

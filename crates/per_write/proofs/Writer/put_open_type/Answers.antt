@@ -1,5 +1,5 @@
 use Rattle.std.proofs.Common.{◌≡◌, ◌∙◌, ap, sym, subst, Some, refl, true, false}
-use Rattle.rasn_types.specs.Codecs.{variant_of}
+use Rattle.rasn_types.specs.Variants.{variant_of}
 use Rattle.per_core.specs.Counts.{open_bits, unconstrained_octets}
 use Rattle.per_core.specs.Writers.{Writer}
 use Rattle.per_write.specs.Faults.{IsMemory}

@@ -1,7 +1,6 @@
 use Rattle.std.proofs.Common.{◌≡◌, ◌∙◌, ◌&&◌, sym, ap, ltb, rules}
 use Rattle.std.proofs.lemmas.Result.{on_ok_weaker}
-use Rattle.rasn_types.specs.Codecs.{variant_of}
-use Rattle.rasn_types.specs.Variants.{Variant}
+use Rattle.rasn_types.specs.Variants.{variant_of, Variant}
 use Rattle.rasn_types.specs.declared.types.Codec.TheVariants.{Uper}
 use Rattle.per_core.specs.Counts.{ItemKind, is_aligned}
 use Rattle.per_core.proofs.ConstrainedLengths.{constrained_is, free_is}

@@ -1,7 +1,6 @@
 use Rattle.std.proofs.Common.{◌≡◌, ◌+◌, ◌-◌, ◌*◌, ◌/◌, arith, rules}
 use Rattle.std.proofs.lemmas.Result.{on_ok_weaker}
-use Rattle.rasn_types.specs.Codecs.{variant_of}
-use Rattle.rasn_types.specs.Variants.{Variant}
+use Rattle.rasn_types.specs.Variants.{variant_of, Variant}
 use Rattle.per_pieces.proofs.Fragments.{first_fragment}
 use Rattle.per_write.proofs.Counting.{fragment_written, last_written}
 use Rattle.per_write.proofs.Writing.{remains_all}

@@ -1,5 +1,5 @@
 use Rattle.std.proofs.Common.{◌-◌, ◌≤◌, length, drop}
-use Rattle.rasn_types.specs.Codecs.{variant_of}
+use Rattle.rasn_types.specs.Variants.{variant_of}
 use Rattle.per_core.specs.Counts.{in_fragments, fragment_sizes}
 use Rattle.per_write.specs.Remains.{Remains}
 use Rattle.per_write.proofs.Writer.put_unconstrained_items.Given as goal

@@ -1,8 +1,8 @@
 use Rattle.std.specs.Prelude.{OnOk}
 use Rattle.std.proofs.Common.{◌≡◌, ◌∙◌, rules}
 use Rattle.std.proofs.lemmas.Result.{IfOk-at_ok}
-use Rattle.rasn_types.specs.Codecs.{variant_of}
-use Rattle.rasn_types.specs.Octets.{whole_bits}
+use Rattle.rasn_types.specs.Variants.{variant_of}
+use Rattle.rasn_types.specs.Bits.{whole_bits}
 use Rattle.per_core.specs.Counts.{counted_octets}
 use Rattle.per_write.specs.State.{StateAppends}
 use Rattle.per_write.proofs.Unbounded.{wrote_whole, wrote_number}

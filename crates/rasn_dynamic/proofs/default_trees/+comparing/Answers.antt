@@ -2,9 +2,9 @@ use Rattle.std.proofs.Common.{◌≡◌, ◌∙◌, refl, sym, ap, ap₂, suc, m
 use Rattle.std.specs.Prelude.{not, option_map, slice_get}
 use Rattle.std.proofs.lemmas.Grind.{common_steps}
 use Rattle.rasn_types.specs.Values.{same}
-use Rattle.rasn_schema.specs.Lists.{deepest, list_value}
+use Rattle.rasn_schema.specs.Lists.{deepest}
+use Rattle.rasn_schema.specs.Structures.{list_value, record_value}
 use Rattle.rasn_schema.specs.Normal.{is_idle, normal}
-use Rattle.rasn_schema.specs.Records.{record_value}
 use Rattle.rasn_traits.specs.Counted.{index_in, side_of}
 use Rattle.rasn_dynamic.specs.declared.values.Value.TheVariants.{rolls-Alternative, rolls-Elements, rolls-Fields}
 use Rattle.rasn_dynamic.specs.Defaults.{groups, same_slot, settled}

@@ -1,7 +1,7 @@
 use Rattle.std.proofs.Common.{◌≡◌, drop, length}
 use Rattle.std.specs.Bool.{beq}
 use Rattle.std.specs.Cmp.Lexicographic.{pointwise}
-use Rattle.rasn_types.specs.Trimmed.{filled_up, trimmed}
+use Rattle.rasn_types.specs.Bits.{filled_up, trimmed}
 use Rattle.rasn_dynamic.proofs.defaults.are_filled_up.Given as goal
 
 -- the bits that are left are the same exactly where all are

@@ -1,5 +1,5 @@
 use Rattle.std.proofs.Common.{◌∙◌}
-use Rattle.rasn_types.specs.Trimmed.{filled_up, trimmed}
+use Rattle.rasn_types.specs.Bits.{filled_up, trimmed}
 use Rattle.rasn_dynamic.proofs.NamedBits.{no_told}
 use Rattle.rasn_dynamic.proofs.SameDefaults.{same_bits}
 use Rattle.rasn_dynamic.proofs.defaults.are_told.Goals as goal

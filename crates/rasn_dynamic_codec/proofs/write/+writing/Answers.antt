@@ -4,8 +4,8 @@ use Rattle.std.specs.Prelude.{count_by, is_some, not, option_map}
 use Rattle.std.proofs.lemmas.Grind.{common_steps}
 use Rattle.std.proofs.lemmas.Result.{err_from_is_err_and}
 use Rattle.rasn_schema.specs.Forms.{always, is_size_marked, size_of}
-use Rattle.rasn_schema.specs.Lists.{deepest, list_at, list_value}
-use Rattle.rasn_schema.specs.Records.{record_value}
+use Rattle.rasn_schema.specs.Lists.{deepest, list_at}
+use Rattle.rasn_schema.specs.Structures.{list_value, record_value}
 use Rattle.rasn_schema.specs.Normal.{normals}
 use Rattle.rasn_schema.specs.Schemas
 use Rattle.rasn_traits.specs.Scopes.{presents_fields}

@@ -1,5 +1,5 @@
 use Rattle.std.proofs.Common.{◌∙◌, sym, ap, false, map}
-use Rattle.rasn_schema.specs.Records.{record_value}
+use Rattle.rasn_schema.specs.Structures.{record_value}
 use Rattle.rasn_dynamic.specs.Types.{record_schema}
 use Rattle.rasn_dynamic.specs.Values.{slot_of}
 use Rattle.rasn_dynamic.proofs.Places.{nothing_written, other_refused_within}

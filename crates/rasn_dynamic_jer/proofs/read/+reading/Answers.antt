@@ -2,8 +2,7 @@ use Rattle.std.proofs.Common.{◌≡◌, suc, ◌∙◌, sym, ap, subst, inl, in
 use Rattle.std.proofs.lemmas.Result.{err_from_is_err_and}
 use Rattle.rasn_types.specs.AllOf.{all_of}
 use Rattle.rasn_types.specs.Values.{Value, alternative, bag_of, octets}
-use Rattle.rasn_schema.specs.Lists.{list_value}
-use Rattle.rasn_schema.specs.Records.{record_value}
+use Rattle.rasn_schema.specs.Structures.{list_value, record_value}
 use Rattle.rasn_traits.specs.Counted.{index_in, side_of}
 use Rattle.rasn_dynamic.specs.Values.{slot_of, value_of}
 use Rattle.rasn_dynamic.proofs.Trees.{absent_slot, alternative_slot, bag_slot, elements_slot, fields_slot}

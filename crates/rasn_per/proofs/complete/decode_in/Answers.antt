@@ -1,7 +1,6 @@
 use Rattle.std.proofs.Common.{◌≡◌, refl, subst, true, false, Result, Ok, Err}
 use Rattle.std.specs.Result.{is_err}
-use Rattle.per_core.specs.Ends.{Ends}
-use Rattle.per_bits.specs.Surpluses.{IsWhy}
+use Rattle.per_core.specs.Ends.{Ends, IsWhy}
 use Rattle.rasn_types.proofs.Reading.{are_octets}
 use Rattle.rasn_per.proofs.Answered.{read, unread, surplus}
 use Rattle.rasn_per.proofs.Few.{few}

@@ -1,6 +1,6 @@
 use Rattle.std.proofs.Common.{◌≡◌, ◌∙◌, subst, sym, ℕ, ◌+◌, ◌-◌, ◌≤◌, ◌/◌, FitsSigned, to_z-of_z}
 use Rattle.std.specs.Int.{w128}
-use Rattle.rasn_types.specs.Octets.{octets_of_whole}
+use Rattle.rasn_types.specs.Bits.{octets_of_whole}
 use Rattle.rasn_types.proofs.Integers.{count_of_natural, count_of_negative, octets_of_i128}
 use Rattle.rasn_types.proofs.integer.octet_count.Goals as goal
 use Rattle.rasn_types.proofs.integer.octet_count.Goals.{then-value-lt0, else-value-lt0}

@@ -2,7 +2,7 @@ use Rattle.std.proofs.Common.{◌≡◌, sym, subst, IfOk, FitsSigned, to_z-of_z
 use Rattle.std.proofs.lemmas.Result.{IfOk-weaker}
 use Rattle.std.specs.Int.{w128}
 use Rattle.rasn_types.specs.Integers.{AreFewest}
-use Rattle.rasn_types.specs.Octets.{signed_octets}
+use Rattle.rasn_types.specs.Bits.{signed_octets}
 use Rattle.rasn_types.proofs.Integers.{kept_octets}
 use Rattle.rasn_types.proofs.Octets.{fewest-signed_octets}
 use Rattle.rasn_types.proofs.integer.signed_octets_of.Goals as goal

@@ -1,5 +1,5 @@
 use Rattle.std.proofs.Common.{◌≡◌, drop}
-use Rattle.rasn_types.specs.Octets.{signed}
+use Rattle.rasn_types.specs.Bits.{signed}
 use Rattle.rasn_types.proofs.Reading.{read_on}
 use Rattle.rasn_types.proofs.integer.whole_of_octets.Given as goal
 

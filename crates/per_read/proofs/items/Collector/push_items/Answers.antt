@@ -1,7 +1,7 @@
 use Rattle.std.proofs.Common.{◌≡◌, ◌∙◌, ◌*◌, [], length, arith, ap, refl, sym, subst, ℕ}
 use Rattle.std.proofs.lemmas.List.{append-nil}
 use Rattle.per_bits.proofs.Readers.{ok_unless}
-use Rattle.per_core.specs.Items.{bits_of}
+use Rattle.per_core.specs.Counts.{bits_of}
 use Rattle.per_core.specs.Basic.{OneByOne}
 use Rattle.per_core.specs.Spellings.{Field}
 use Rattle.per_read.specs.Items.{TookItems}

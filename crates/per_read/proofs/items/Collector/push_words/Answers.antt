@@ -3,7 +3,7 @@ use Rattle.std.proofs.Math.Nat.{mul-le-mul_left}
 use Rattle.std.proofs.lemmas.List.{append-nil}
 use Rattle.rasn_types.specs.Bits.{to_bits}
 use Rattle.rasn_types.proofs.Bits.{length-to_bits}
-use Rattle.per_core.specs.Items.{bits_of}
+use Rattle.per_core.specs.Counts.{bits_of}
 use Rattle.per_core.specs.Basic.{OneByOne}
 use Rattle.per_core.specs.Spellings.{Field}
 use Rattle.per_read.specs.Items.{TookItems}

@@ -1,7 +1,8 @@
 use Rattle.std.proofs.Common.{rules, sym}
 use Rattle.std.specs.Prelude.{map}
 use Rattle.std.proofs.lemmas.Result.{err_from_is_err_and}
-use Rattle.rasn_schema.specs.Fields.{shape_of, tag_of}
+use Rattle.rasn_schema.specs.Fields.{shape_of}
+use Rattle.rasn_schema.specs.Structures.{tag_of}
 use Rattle.rasn_traits.specs.AdditionsRead.{reads_further}
 use Rattle.rasn_traits.proofs.Reading.{addition_reads_well, fails_addition, fails_further}
 use Rattle.rasn_record.proofs.Behind.{behind-map}

@@ -1,7 +1,7 @@
 use Rattle.std.proofs.Common.{subst, Some}
 use Rattle.rasn_schema.specs.Choices.{StandsAt, choices_of}
 use Rattle.rasn_schema.specs.Components.{added_parts, chosen_value, root_parts}
-use Rattle.rasn_schema.specs.Fields.{tag_of}
+use Rattle.rasn_schema.specs.Structures.{tag_of}
 use Rattle.rasn_traits.specs.Choices.{IsPlaceOf}
 use Rattle.rasn_codec.proofs.FirstPlace.{stands_within, taken_at}
 use Rattle.rasn_codec.proofs.alternatives.AnyFromTag.from_tag.Goals as goal

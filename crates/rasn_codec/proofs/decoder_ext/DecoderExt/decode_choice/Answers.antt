@@ -1,6 +1,6 @@
 use Rattle.std.proofs.Common.{rules}
 use Rattle.std.proofs.lemmas.Result.{err_from_is_err_and}
-use Rattle.rasn_schema.specs.Fields.{tag_of}
+use Rattle.rasn_schema.specs.Structures.{tag_of}
 use Rattle.rasn_traits.proofs.Alternatives.{alternative_left, alternative_taken, choice_ended, choice_endless, choice_failed}
 use Rattle.rasn_codec.proofs.Decoded.{answered, refused}
 use Rattle.rasn_codec.proofs.decoder_ext.DecoderExt.decode_choice.Goals as goal

@@ -1,11 +1,10 @@
 use Rattle.std.proofs.Common.{◌≡◌, refl, rules, ℕ, suc, List, Option, Some, None, Result, Err, inl, inr, IsErrAnd}
 use Rattle.rasn_types.specs.Values.{Value, alternative, Side, root, added}
-use Rattle.rasn_schema.specs.Choices.{VariantShape, alternative_in, choices_of, one_level_in, place_of, variants_behind, variants_on}
-use Rattle.rasn_schema.specs.Fields.{tag_of}
+use Rattle.rasn_schema.specs.Choices.{VariantShape, choices_of, one_level_in, place_of, variants_behind, variants_on}
+use Rattle.rasn_schema.specs.Structures.{alternative_in, tag_of}
 use Rattle.rasn_schema.specs.Schemas
 use Rattle.rasn_schema.specs.Schemas.{Schema}
-use Rattle.rasn_schema.specs.Normal.{normal}
-use Rattle.rasn_schema.specs.AtDepths.{AtDepths}
+use Rattle.rasn_schema.specs.Normal.{normal, AtDepths}
 use Rattle.rasn_traits.specs.Calls.{Behaves, EncoderRules, Encodes, Written}
 use Rattle.rasn_traits.specs.Choices.{EncodesAlternative, EncodesAt, PassesChoice, RefusesUnknown, unknown_tag, unknown_unopened, unknown_value}
 use Rattle.std.proofs.lemmas.Result.{err_from_is_err_and}

@@ -1,5 +1,6 @@
 use Rattle.std.proofs.Common.{ℕ, Result, Ok, Err, inr, sym, subst}
-use Rattle.rasn_schema.specs.Absent.{no_value, normal_none}
+use Rattle.rasn_schema.specs.Structures.{no_value}
+use Rattle.rasn_schema.specs.Absent.{normal_none}
 use Rattle.rasn_schema.specs.Schemas.{Schema}
 use Rattle.rasn_traits.specs.Absent.{WritesAbsent}
 use Rattle.rasn_traits.specs.Calls.{EncoderRules, Encodes}

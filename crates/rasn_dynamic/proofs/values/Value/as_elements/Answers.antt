@@ -1,5 +1,5 @@
 use Rattle.std.proofs.Common.{◌≡◌, ◌∙◌, ap, map, sym}
-use Rattle.rasn_schema.specs.Lists.{list_value}
+use Rattle.rasn_schema.specs.Structures.{list_value}
 use Rattle.rasn_dynamic.specs.declared.values.Value.TheVariants.{rolls-Elements}
 use Rattle.rasn_dynamic.specs.Values.{value_of}
 use Rattle.rasn_dynamic.proofs.Trees.{elements_value, not_elements}

@@ -1,5 +1,5 @@
 use Rattle.std.proofs.Common.{◌≡◌, ◌∙◌, ap₂, map, sym}
-use Rattle.rasn_schema.specs.Records.{record_value}
+use Rattle.rasn_schema.specs.Structures.{record_value}
 use Rattle.rasn_dynamic.specs.declared.values.Value.TheVariants.{rolls-Fields}
 use Rattle.rasn_dynamic.specs.Values.{slot_of}
 use Rattle.rasn_dynamic.proofs.Trees.{fields_value, not_fields}

@@ -1,6 +1,6 @@
 use Rattle.rasn_jer.proofs.Writing.{record_closed}
 use Rattle.rasn_schema.specs.Schemas.{listed}
-use Rattle.rasn_schema.specs.Canonised.{canonised_at}
+use Rattle.rasn_schema.specs.Orders.{canonised_at}
 use Rattle.rasn_jer.proofs.Turns.{record_untimely}
 use Rattle.rasn_jer.proofs.encoder.EncoderEncoder.close_set.Goals as goal
 

@@ -1,7 +1,7 @@
 use Rattle.rasn_jer.proofs.Writing.{refused_behaves, refused_why}
 use Rattle.rasn_jer.specs.Shown.{at_once, is_absent}
 use Rattle.std.proofs.Common.{refl}
-use Rattle.rasn_schema.specs.Absent.{no_value}
+use Rattle.rasn_schema.specs.Structures.{no_value}
 use Rattle.rasn_jer.specs.declared.error.EncodeError.TheVariants.{NoJson}
 use Rattle.rasn_jer.proofs.encoder.EncoderEncoder.encode_absent.Goals as goal
 

@@ -3,7 +3,7 @@ use Rattle.rasn_jer.proofs.Writing.{fields_counted, record_opened}
 use Rattle.rasn_schema.proofs.Canonised.{count_ordered, length-by_tags}
 use Rattle.rasn_schema.specs.Fields.{Shape}
 use Rattle.rasn_schema.specs.Schemas.{listed}
-use Rattle.rasn_schema.specs.Canonised.{canonised_at}
+use Rattle.rasn_schema.specs.Orders.{canonised_at}
 use Rattle.std.specs.Prelude.{count_by}
 use Rattle.rasn_schema.specs.Fields.{may_be_absent}
 use Rattle.rasn_traits.proofs.Optionals.{bits_counted}

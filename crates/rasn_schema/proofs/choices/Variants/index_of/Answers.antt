@@ -1,6 +1,6 @@
 use Rattle.std.proofs.Common.{sym, ap, ◌∙◌, map}
 use Rattle.rasn_schema.specs.Choices.{place_of, variant_shape}
-use Rattle.rasn_schema.specs.Fields.{tag_of}
+use Rattle.rasn_schema.specs.Structures.{tag_of}
 use Rattle.rasn_schema.specs.Lawful.{same_tag}
 use Rattle.rasn_schema.proofs.Places.{position_from-map}
 use Rattle.rasn_schema.proofs.choices.Variants.index_of.Goals as goal

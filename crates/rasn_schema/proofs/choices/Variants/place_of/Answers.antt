@@ -1,6 +1,6 @@
 use Rattle.std.proofs.Common.{◌∙◌, sym}
 use Rattle.rasn_schema.specs.Choices.{go_by, variants_behind}
-use Rattle.rasn_schema.specs.Fields.{tag_of}
+use Rattle.rasn_schema.specs.Structures.{tag_of}
 use Rattle.rasn_schema.proofs.Both.{not_behind}
 use Rattle.rasn_schema.proofs.choices.Variants.place_of.Goals as goal
 

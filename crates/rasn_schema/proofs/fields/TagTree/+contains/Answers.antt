@@ -1,6 +1,6 @@
 use Rattle.std.proofs.Common.{rules, arith, ◌≡◌, ◌∙◌, ◌+◌, ◌||◌, ap, sym, drop, map, false, true, []}
 use Rattle.std.proofs.lemmas.List.{drop_all}
-use Rattle.rasn_schema.specs.Fields.{tag_of}
+use Rattle.rasn_schema.specs.Structures.{tag_of}
 use Rattle.rasn_schema.specs.TreeTags.{has_tag, leaves_in, one_after_another}
 use Rattle.rasn_schema.specs.declared.fields.TagTree.TheFolds.{fold-roll-TagTree, fold_out-TagTree}
 use Rattle.rasn_schema.specs.declared.fields.TagTree.TheViews.{the_lemmas}

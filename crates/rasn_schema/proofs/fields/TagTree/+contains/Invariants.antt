@@ -1,5 +1,5 @@
 use Rattle.std.proofs.Common.{◌≡◌, drop, map}
-use Rattle.rasn_schema.specs.Fields.{tag_of}
+use Rattle.rasn_schema.specs.Structures.{tag_of}
 use Rattle.rasn_schema.specs.TreeTags.{has_tag, leaves_in, one_after_another}
 use Rattle.rasn_schema.proofs.fields.TagTree.+contains.Given as goal
 

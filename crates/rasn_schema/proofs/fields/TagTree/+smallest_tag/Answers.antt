@@ -1,6 +1,6 @@
 use Rattle.std.proofs.Common.{rules, arith, ◌≡◌, ◌∙◌, ◌+◌, ap, sym, Some, None, option_map, drop, map, []}
 use Rattle.std.proofs.lemmas.List.{drop_all}
-use Rattle.rasn_schema.specs.Fields.{tag_of}
+use Rattle.rasn_schema.specs.Structures.{tag_of}
 use Rattle.rasn_schema.specs.TreeTags.{least, leaves_in, lesser_there, one_after_another}
 use Rattle.rasn_schema.specs.declared.fields.TagTree.TheFolds.{fold-roll-TagTree, fold_out-TagTree}
 use Rattle.rasn_schema.specs.declared.fields.TagTree.TheViews.{the_lemmas}

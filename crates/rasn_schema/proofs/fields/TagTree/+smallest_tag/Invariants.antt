@@ -1,5 +1,5 @@
 use Rattle.std.proofs.Common.{◌≡◌, drop, map, option_map}
-use Rattle.rasn_schema.specs.Fields.{tag_of}
+use Rattle.rasn_schema.specs.Structures.{tag_of}
 use Rattle.rasn_schema.specs.TreeTags.{least, leaves_in, lesser_there, one_after_another}
 use Rattle.rasn_schema.proofs.fields.TagTree.+smallest_tag.Given as goal
 

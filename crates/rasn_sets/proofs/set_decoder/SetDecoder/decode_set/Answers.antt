@@ -1,6 +1,6 @@
 use Rattle.std.proofs.Common.{refl, rules, ◌∙◌}
 use Rattle.std.proofs.lemmas.Result.{err_from_is_err_and}
-use Rattle.rasn_schema.specs.Canonised.{canonised_at}
+use Rattle.rasn_schema.specs.Orders.{canonised_at}
 use Rattle.rasn_traits.proofs.Reading.{inside_left, record_ended, record_failed, record_endless}
 use Rattle.rasn_traits.proofs.SetsRead.{set_ended, set_refused}
 use Rattle.rasn_sets.proofs.Ends.{unfailed}

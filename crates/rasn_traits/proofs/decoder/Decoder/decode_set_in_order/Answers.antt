@@ -1,7 +1,7 @@
 use Rattle.std.proofs.Common.{refl, sym, ◌∙◌, rules}
 use Rattle.std.specs.Fn.{FnOnceReturnsAtMut}
 use Rattle.std.proofs.lemmas.Result.{err_from_is_err_and}
-use Rattle.rasn_schema.specs.Canonised.{canonised_at}
+use Rattle.rasn_schema.specs.Orders.{canonised_at}
 use Rattle.rasn_traits.specs.Scopes.{ends_before, ends_refused, ends_left}
 use Rattle.rasn_traits.proofs.Reading.{inside_left, record_ended, record_failed, record_endless}
 use Rattle.rasn_traits.proofs.SetsRead.{set_ended, set_refused}

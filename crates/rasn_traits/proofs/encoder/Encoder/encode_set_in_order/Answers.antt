@@ -1,7 +1,7 @@
 use Rattle.std.proofs.Common.{refl, ◌∙◌, Err, rules}
 use Rattle.std.specs.Fn.{FnOnceReturnsAtMut}
 use Rattle.std.proofs.lemmas.Result.{err_from_is_err_and}
-use Rattle.rasn_schema.specs.Canonised.{canonised_at}
+use Rattle.rasn_schema.specs.Orders.{canonised_at}
 use Rattle.rasn_schema.specs.Schemas.{listed}
 use Rattle.rasn_traits.specs.Scopes.{ends_before, ends_refused, ends_left}
 use Rattle.rasn_traits.proofs.SetsWritten.{set_unopened, set_written}

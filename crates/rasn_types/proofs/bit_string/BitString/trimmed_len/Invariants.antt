@@ -1,5 +1,5 @@
 use Rattle.std.proofs.Common.{◌≡◌, ◌≤◌, length, take}
-use Rattle.rasn_types.specs.Trimmed.{trimmed}
+use Rattle.rasn_types.specs.Bits.{trimmed}
 use Rattle.rasn_types.proofs.bit_string.BitString.trimmed_len.Given as goal
 
 -- the bits that are left are trimmed to the same ones

@@ -1,5 +1,5 @@
 use Rattle.std.proofs.Common.{◌^◌, ◌-◌, ◌<◌, ◌≤◌, arith, length}
-use Rattle.rasn_types.specs.Trimmed.{trimmed}
+use Rattle.rasn_types.specs.Bits.{trimmed}
 use Rattle.rasn_types.proofs.Trimming.{packed_enough, filled_first, filled_few, filled_next, filled_last}
 use Rattle.rasn_types.proofs.bit_string.BitString.trimmed_to.Goals as goal
 

@@ -1,5 +1,5 @@
 use Rattle.std.proofs.Common.{◌≡◌, ◌≤◌, ◌++◌, ◌-◌, false, length, max, replicate}
-use Rattle.rasn_types.specs.Trimmed.{trimmed}
+use Rattle.rasn_types.specs.Bits.{trimmed}
 use Rattle.rasn_types.proofs.bit_string.BitString.trimmed_to.Given as goal
 
 -- so many zero bits stand behind the trimmed ones

@@ -1,17 +1,41 @@
--- DATE as it is read (ITU-T X.691, 32): why a year, a month and a day are refused.
-use Rattle.std.specs.Prelude.{◌≡◌, ◌⊎◌, ℕ, zero, suc, false, [], Option, ℤ, pos}
+-- What a refusal says of an identifier, a time or a DATE (ITU-T X.691, 24, 30 and 32).
+use Rattle.std.specs.Prelude.{◌≡◌, ℕ, false, List, ◌⊎◌, zero, suc, [], Option, ℤ, pos}
+use Rattle.rasn_types.specs.Alphabets.{visible}
 use Rattle.rasn_types.specs.Bits.{Bits}
-use Rattle.rasn_types.specs.Contents.{is_date}
-use Rattle.rasn_constraints.specs.Bounds.{between}
-use Rattle.per_core.specs.Basic.{IsConstrainedWhole, Octets, Year}
-use Rattle.per_core.specs.Spellings.{Settings, Spelling, Field, Then}
-use Rattle.per_core.specs.Took.{Took}
-use Rattle.rasn_constraints.specs.ToldBounds.{lower_of, upper_of, value_of}
-use Rattle.per_read.specs.Fields.{Behind, IsOfField, IsOfUnconstrained, Says}
-use Rattle.per_read.specs.Numbers.{IsOfConstrained, IsOutside}
-use Rattle.per_read.specs.declared.error.DecodeErrorKind.{DecodeErrorKind}
-use Rattle.per_read.specs.declared.error.DecodeErrorKind.TheVariants.{InvalidDate}
-use Rattle.per_read.specs.declared.error.DecodeErrorKind.TheVariants.{UnexpectedEmptyInput, ValueConstraintNotSatisfied}
+use Rattle.rasn_types.specs.Contents.{TimeKind, is_identifier, is_time, is_date}
+use Rattle.rasn_constraints.specs.Bounds.{any_size, between, lower_of, upper_of, value_of}
+use Rattle.per_core.specs.Basic.{Octets, String, IsConstrainedWhole, Year}
+use Rattle.per_core.specs.Spellings.{Settings, Took, Spelling, Field, Then}
+use Rattle.per_core.specs.FieldFaults.{IsOfUnconstrained, Behind, IsOfField, Says}
+use Rattle.per_core.specs.SizeFaults.{IsOfString}
+use Rattle.per_core.specs.NumberFaults.{IsOfConstrained, IsOutside}
+use Rattle.per_core.specs.declared.decode_error.DecodeErrorKind.{DecodeErrorKind}
+use Rattle.per_core.specs.declared.decode_error.DecodeErrorKind.TheVariants.{Below, InvalidDate, UnexpectedEmptyInput}
+use Rattle.per_core.specs.declared.decode_error.DecodeErrorKind.TheVariants.{ValueConstraintNotSatisfied}
+
+-- X.691 24: octets behind an unconstrained length that are not the contents of an object
+pub record IsNoObject (a : Settings) (s : Bits) : Type 0 where
+  pub octets : List ℕ
+  pub rest : Bits
+  pub took : Took (Octets a octets) s rest
+  pub no_object : is_identifier octets ≡ false
+
+-- what a kind says of an OBJECT IDENTIFIER
+abbrev pub IsOfIdentifier : Settings → Bits → DecodeErrorKind → Type 0
+IsOfIdentifier a s Below = IsNoObject a s
+IsOfIdentifier a s k = IsOfUnconstrained a 8 s k
+
+-- X.680 46, 47: characters of a VisibleString that are not the text of a time
+pub record IsNoTime (a : Settings) (kind : TimeKind) (s : Bits) : Type 0 where
+  pub text : List ℕ
+  pub rest : Bits
+  pub took : Took (String a visible any_size false text) s rest
+  pub no_time : is_time kind text ≡ false
+
+-- what a kind says of a time
+abbrev pub IsOfTime : Settings → TimeKind → Bits → DecodeErrorKind → Type 0
+IsOfTime a kind s Below = IsNoTime a kind s
+IsOfTime a kind s k = IsOfString a visible any_size false s k
 
 -- X.691 32: a year, a month and a day, whether they are a day of the calendar or not; month and day are counted from 0
 abbrev pub numbers_form : Settings → ℤ → ℕ → ℕ → Spelling

@@ -1,12 +1,59 @@
--- What stands in front of an item of a list, or of a length in it, behind the items before it (X.691 11.9, 20).
-use Rattle.std.specs.Prelude.{◌≡◌, ◌<◌, ℕ, zero, suc, nat_lt, Bool, cond, List, [], length, Option, Some, None}
+-- Lengths, items behind their counts, and what stands in front of an item of a list, or of a length in it, behind the
+-- items before it (ITU-T X.691, 11.9 and 20).
+use Rattle.std.specs.Prelude.{ℕ, Bool, true, false, List, ◌≤◌, ◌+◌, ◌-◌, ◌&&◌, nat_lt, cond, length, Option, Some, None}
+use Rattle.std.specs.Prelude.{◌≡◌, ◌<◌, zero, suc, []}
 use Rattle.rasn_types.specs.Bits.{Bits}
-use Rattle.rasn_constraints.specs.Bounds.{Size}
-use Rattle.per_core.specs.Basic.{Fragmented, Marked, OneByOne}
-use Rattle.per_core.specs.Spellings.{Settings, Spelling, Then, When, exactly, never}
-use Rattle.per_read.specs.Lengths.{LengthOf, count_of}
-use Rattle.per_read.specs.Sizes.{CountFrom}
-use Rattle.per_read.specs.declared.lengths.Length.{Length}
+use Rattle.rasn_constraints.specs.Bounds.{Size, any_size}
+use Rattle.per_core.specs.Spellings.{Settings, Spelling, Then, AnyPadding, Field, When, exactly, never}
+use Rattle.per_core.specs.Basic
+use Rattle.per_core.specs.Basic.{LastCount, Counted, OneByOne, Sized, PaddingIf, constrained_form, Fragmented, Marked}
+use Rattle.per_core.specs.Counts.{counted_of, bits_of, ItemKind, is_aligned}
+use Rattle.per_core.specs.declared.lengths.Length.{Length}
+use Rattle.per_core.specs.declared.lengths.Length.TheVariants.{Last, Fragment}
+use Rattle.per_core.specs.declared.items.Item.{Item}
+
+-- how many items follow a length
+abbrev pub count_of : Length → ℕ
+count_of (Last n) = n
+count_of (Fragment n) = n
+
+-- whether a further length stands behind them
+abbrev pub is_followed : Length → Bool
+is_followed (Last n) = false
+is_followed (Fragment n) = true
+
+-- the count of a length
+abbrev pub CountOf : Length → Spelling
+CountOf (Last n) = LastCount n
+CountOf (Fragment n) = Basic.Fragment n
+
+-- padding and a length
+abbrev pub LengthOf : Settings → Length → Spelling
+LengthOf a l = Then (AnyPadding a) (CountOf l)
+
+-- an item, by its code
+abbrev pub coded : Item → ℕ → Spelling
+coded i = Field (bits_of i)
+
+-- X.691 16, 17, 30.5: items under a size constraint
+abbrev pub counted_items : Settings → Size → Bool → Item → List ℕ → Spelling
+counted_items a size mark i = Counted a size mark (counted_of i) (coded i)
+
+-- X.691 11.9.3.3: a count from lb on, as a constrained whole number of lb to ub; it may be past ub
+abbrev pub CountFrom : Settings → ℕ → ℕ → ℕ → Spelling
+CountFrom a lb ub n = When (lb ≤ n) (constrained_form a (ub - lb + 1) (n - lb))
+
+-- X.691 11.9.3.3: items behind such a count
+abbrev pub Between : {X : Type 0} → Settings → ℕ → ℕ → ItemKind → (X → Spelling) → List X → Spelling
+Between a lb ub kind item xs = Then (CountFrom a lb ub (length xs))
+    (Then (PaddingIf (nat_lt 0 (length xs) && is_aligned kind lb ub) a) (OneByOne item xs))
+
+-- X.691 11.9.3.3, 11.9.4.1: items behind their count, as a size has it written, whether it allows the count or not
+abbrev pub under_size : {X : Type 0} → Settings → Option ℕ → Option ℕ → ItemKind → (X → Spelling) → List X → Spelling
+under_size a None most kind item xs = Sized a any_size kind item xs
+under_size a (Some lb) None kind item xs = Sized a any_size kind item xs
+under_size a (Some lb) (Some ub) kind item xs = cond (nat_lt ub 65536) (Between a lb ub kind item xs)
+    (Sized a any_size kind item xs)
 
 -- X.691 11.9.3.5 to 11.9.3.8: a length, and items, fewer than it counts
 pub record UpToCounted {X : Type 0} (a : Settings) (item : X → Spelling) (xs : List X) (p : ℕ)

@@ -1,18 +1,17 @@
 -- Of which field a refusal is: the bits end within one, and it says how many are missing, or they are nothing that may
--- stand there (X.691 11).
+-- stand there (ITU-T X.691, 11).
 use Rattle.std.specs.Prelude.{◌≡◌, ◌⊎◌, ◌+◌, ◌-◌, ◌*◌, ◌^◌, ◌<◌, ◌≤◌, ℕ, Bool, true, false, [], ◌∷◌, ◌++◌, length}
 use Rattle.rasn_types.specs.Bits.{Bits}
-use Rattle.rasn_constraints.specs.Counts.{count_of}
-use Rattle.per_core.specs.Spellings.{AnyPadding, Field, Settings, Spelling, ZeroIf, exactly}
-use Rattle.per_core.specs.Took.{Took, place}
+use Rattle.rasn_constraints.specs.Bounds.{count_of}
+use Rattle.per_core.specs.Spellings.{AnyPadding, Field, Settings, Spelling, ZeroIf, exactly, Took, place}
 use Rattle.per_core.specs.Writers.{pad}
-use Rattle.per_read.specs.Lengths.{LengthOf}
-use Rattle.per_read.specs.Lengths as lengths
-use Rattle.per_read.specs.declared.error.DecodeErrorKind.{DecodeErrorKind}
-use Rattle.per_read.specs.declared.error.DecodeErrorKind.TheVariants.{ExceedsMaxLength, Incomplete, ParserFail}
-use Rattle.per_read.specs.declared.error.ParserFailCause.TheVariants.{FragmentCode, NonzeroPadding}
-use Rattle.per_read.specs.declared.lengths.Length.{Length}
-use Rattle.per_read.specs.declared.lengths.Length.TheVariants.{Fragment}
+use Rattle.per_core.specs.Lengths.{LengthOf}
+use Rattle.per_core.specs.Lengths as lengths
+use Rattle.per_core.specs.declared.decode_error.DecodeErrorKind.{DecodeErrorKind}
+use Rattle.per_core.specs.declared.decode_error.DecodeErrorKind.TheVariants.{ExceedsMaxLength, Incomplete, ParserFail}
+use Rattle.per_core.specs.declared.decode_error.ParserFailCause.TheVariants.{FragmentCode, NonzeroPadding}
+use Rattle.per_core.specs.declared.lengths.Length.{Length}
+use Rattle.per_core.specs.declared.lengths.Length.TheVariants.{Fragment}
 
 -- what a kind says of the first of bits
 abbrev pub Says : Type 1
