@@ -23,9 +23,9 @@ use Rattle.per_decoding.specs.Rules.{plain_rules}
 use Rattle.per_decoding.specs.Scopes.{Closes, OutsideRecord, with_outside_record}
 use Rattle.per_decoding.specs.State.{State, settings_of, with_bits}
 use Rattle.per_decoding.specs.Laws.Tails.{asks_agree, shown_agree, tested_new}
-use Rattle.per_de.specs.Sources.{flags_in}
+use Rattle.per_decoding.specs.Sources.{flags_in}
 use Rattle.per_de.specs.Steps.{IsOfBitmap, IsOfOctets, IsUnskipped, RefusedAs, SkipsRest, SkipsUnknown, TakesFlags, Unasked}
-use Rattle.per_de.specs.declared.source.Flags.{Flags}
+use Rattle.per_decoding.specs.declared.source.Flags.{Flags}
 
 -- how many parts there are
 pub shapes_counted : (i : ℕ) (ps : Parts) → length (shapes_from i ps) ≡ count ps

@@ -37,7 +37,7 @@ use Rattle.per_decoding.specs.Faults.{Answered, Fault, IsOf, refusal}
 use Rattle.per_core.specs.ReadingFaults.{IsAt, IsOfHead, at_once}
 use Rattle.per_decoding.specs.Rules.{plain_rules}
 use Rattle.per_de.specs.Steps.{TakesBit}
-use Rattle.per_de.proofs.Spans.{bit_lacking, none_left, with_rest}
+use Rattle.per_decoding.proofs.Spans.{bit_lacking, none_left, with_rest}
 
 -- no more bits are left behind what was taken than before
 pub no_more_left : {f : Spelling} {s t : Bits} → Took f s t → length t ≤ length s

@@ -2,10 +2,6 @@
 -- (X.691 11.9, 17).
 use Rattle.std.proofs.Common.{◌≡◌, ◌<◌, ◌≤◌, ◌⊎◌, inl, inr, refl, sym, ◌∙◌, ap, ap₂, subst, ℕ, zero, suc, ◌+◌, ◌-◌, ◌*◌, ◌/◌, ◌%◌, ◌^◌, take, drop, take_at, drop_at, Bool, true, false, cond, nat_lt, List, [], ◌∷◌, ◌++◌, length, Option, Some, None, Global, arith, length-append, length-take, length-drop, take-append-drop, append_assoc}
 use Rattle.std.specs.Prelude.{◌↔◌, Result, Ok, Err, IfOk}
-use Rattle.std.proofs.lemmas.List.{take_all}
-use Rattle.rasn_types.specs.Packed.{packed}
-use Rattle.rasn_types.proofs.Octets.{length-pack}
-use Rattle.rasn_types.proofs.Packing.{unpack-packed}
 use Rattle.std.specs.Cow.{cow_slice_items, IsBorrowedSlice, IsOwnedSlice}
 use Rattle.std.specs.List.{between}
 use Rattle.std.specs.declared.borrow.CowSlice.{CowSlice}
@@ -35,16 +31,16 @@ use Rattle.per_decoding.specs.Rules.{plain_rules}
 use Rattle.per_decoding.specs.State.{State, reader_of, refused, settings_of, with_last}
 use Rattle.std.specs.Prelude.{Vec}
 use Rattle.per_de.specs.Lending.{in_front, AreTaken, IsInFront, TakenAs, TakesOctets}
-use Rattle.per_de.specs.Sources.{place_left}
+use Rattle.per_decoding.specs.Sources.{place_left}
 use Rattle.per_de.specs.declared.taken_octets.TakenOctets.{TakenOctets}
 use Rattle.per_de.specs.declared.taken_octets.TakenOctets.TheVariants.{InFront, Copied}
 use Rattle.per_de.proofs.Calls.{reads_ok}
 use Rattle.per_de.specs.Lending.{AreLent, AreRead, CanBeLent, ComeAlone, is_counted_once, is_extended}
-use Rattle.per_de.specs.Sources.{bits_of, place_of, span_of, up_to, AreInInput, AreOctetsIn, AreOctetsOf, IsWithin}
-use Rattle.per_de.specs.declared.source.Source.{Source}
-use Rattle.per_de.specs.declared.source.Span.{Span}
+use Rattle.per_decoding.specs.Sources.{bits_of, place_of, span_of, up_to, AreInInput, AreOctetsIn, AreOctetsOf, IsWithin}
+use Rattle.per_decoding.specs.declared.source.Source.{Source}
+use Rattle.per_decoding.specs.declared.source.Span.{Span}
 use Rattle.per_de.proofs.Calls.{reads}
-use Rattle.per_de.proofs.Spans.{in_front_of}
+use Rattle.per_decoding.proofs.Spans.{in_front_of}
 use Rattle.per_de.proofs.StringCalls.{faulty_octets, reads_octets}
 
 -- octets are the last of some bits
@@ -139,16 +135,6 @@ part_inside span source bits left n part h e l p =
 pub if_ok : {X E : Type 0} (r : Result X E) (P Q : X → Type 0) → ((v : X) → P v → Q v) → IfOk r P → IfOk r Q
 if_ok (Err e) P Q f h = tt
 if_ok (Ok v) P Q f h = f v h
-
--- whole octets that are copied are the bits that they were
-pub copy_same : (bits : Bits) (os : List ℕ) (n : ℕ) → length bits ≡ 8 * n → os ≡ packed bits → unpack os ≡ bits
-copy_same bits os n l e =
-    let many : length os ≡ n = ap length e ∙ length-pack ((length bits + 7) / 8) bits ∙ omega (arith, l) in
-    let whole : length bits ≡ length (unpack os) = omega (arith, l, many, length-unpack os) in
-    sym (take_all (length bits) (unpack os) (omega (arith, whole))) ∙ ap (λ z. take (length bits) (unpack z)) e ∙ unpack-packed bits
-
-pub octets_copied : (bits : Bits) (os : List ℕ) → length bits % 8 ≡ 0 → AreOctets os → os ≡ packed bits → AreOctetsIn bits os
-octets_copied bits os whole h e = record { are = h; same = copy_same bits os (length bits / 8) (omega (arith, whole)) e }
 
 -- octets can be lent exactly where octets of the input stand in front of the last bits
 pub lent_where : {A : Type 0} (s : State) (source : Source) (span : Span) (left n : ℕ) → up_to span source ≡ s.source → IsWithin span (bits_of source) → left ≤ span.end

@@ -31,7 +31,7 @@ use Rattle.per_de.specs.declared.ListScope.{ListScope}
 use Rattle.per_de.proofs.Calls.{refuses}
 use Rattle.per_de.proofs.FewBefore.{one_more_few, took_up_to_few}
 use Rattle.per_de.proofs.Opening.{answered_ok, answered_err}
-use Rattle.per_de.proofs.Spans.{with_rest}
+use Rattle.per_decoding.proofs.Spans.{with_rest}
 
 module _ (a : Settings) (e : Schema) (size : Size) (mark : Bool) where
   list_took : (vs : List Value) {s t : Bits} → Took (list_form (list_rule a size mark e) vs) s t → Took (basic a (Schemas.list e size mark) (list_value vs)) s t

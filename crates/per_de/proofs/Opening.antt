@@ -19,9 +19,9 @@ use Rattle.per_decoding.specs.Laws.Scopes.{bit_agree, took_record}
 use Rattle.per_decoding.specs.Scopes.{Enters, Opens, OutsideRecord, is_extensible, outside_record, with_outside_record}
 use Rattle.per_decoding.specs.State.{State, Spells, settings_of, with_bits, with_last}
 use Rattle.per_core.specs.AdditionFaults.{extension_of}
-use Rattle.per_de.specs.Sources.{span_of}
+use Rattle.per_decoding.specs.Sources.{span_of}
 use Rattle.per_de.specs.Steps.{TakesExtensionBit, TakesPresences}
-use Rattle.per_de.specs.declared.source.Span.{Span}
+use Rattle.per_decoding.specs.declared.source.Span.{Span}
 use Rattle.per_de.proofs.Calls.{refuses}
 
 pub answered_ok : {T : Type 0} (taken : Result T DecodeErrorKind) (left : ℕ) (s : State) (v : T) (t : State) → Answered taken left s (Ok v) t → (taken ≡ Ok v) × (t ≡ with_last s left)

@@ -34,12 +34,12 @@ use Rattle.per_decoding.specs.Faults.{Answered, IsOfNext, at_bitmap, refusal}
 use Rattle.per_decoding.specs.State.{State, reader_of, refused, settings_of, with_bits}
 use Rattle.per_decoding.specs.Laws.Tails.{tested_new}
 use Rattle.per_read.proofs.OfBitmaps.{bitmap_tested}
-use Rattle.per_de.specs.Sources.{flags_in, span_of, IsWithin}
+use Rattle.per_decoding.specs.Sources.{flags_in, span_of, IsWithin}
 use Rattle.per_de.specs.Steps.{AsksNext, IsOfBitmap, IsOfOctets, RefusedAs, SkipsUnknown, TakesBit, TakesBitmap, TakesExtensionBit, TakesFlags, TakesIndex, Unasked}
-use Rattle.per_de.specs.declared.source.Flags.{Flags}
-use Rattle.per_de.specs.declared.source.Span.{Span}
+use Rattle.per_decoding.specs.declared.source.Flags.{Flags}
+use Rattle.per_decoding.specs.declared.source.Span.{Span}
 use Rattle.per_de.proofs.Opening.{answered_ok, answered_err}
-use Rattle.per_de.proofs.Spans.{in_front_of, bit_lacking, none_left, span_length, with_rest}
+use Rattle.per_decoding.proofs.Spans.{in_front_of, bit_lacking, none_left, span_length, with_rest}
 
 answered_failed : {T : Type 0} (taken : Result T DecodeErrorKind) (left : ℕ) (s : State) (e : DecodeError) (t : State) → Answered taken left s (Err e) t → t ≡ refused s
 answered_failed (Ok w) left s e t a = let i = a.0 in absurd cc

@@ -12,7 +12,7 @@ use Rattle.per_core.specs.Spellings.{Took}
 use Rattle.per_core.specs.declared.decode_error.DecodeError.{DecodeError}
 use Rattle.per_decoding.specs.Rules.{plain_rules}
 use Rattle.per_decoding.specs.State.{State, settings_of}
-use Rattle.per_de.specs.Sources.{place_left, AreOctetsOf}
+use Rattle.per_decoding.specs.Sources.{place_left, AreOctetsOf}
 use Rattle.per_de.specs.declared.taken_octets.TakenOctets.{TakenOctets}
 use Rattle.per_de.specs.declared.taken_octets.TakenOctets.TheVariants.{InFront, Copied}
 

@@ -4,12 +4,12 @@ use Rattle.per_decoding.specs.Additions.{OutsideAddition}
 use Rattle.per_decoding.specs.Choices.{OutsideChoice}
 use Rattle.per_decoding.specs.Scopes.{OutsideRecord}
 use Rattle.per_decoding.specs.State
-use Rattle.per_de.specs.Sources.{extension_in, span_of, up_to}
+use Rattle.per_decoding.specs.Sources.{extension_in, span_of, up_to}
 use Rattle.per_de.specs.declared.Addition.{Addition}
 use Rattle.per_de.specs.declared.Alternative.{Alternative}
 use Rattle.per_de.specs.declared.Scope.{Scope}
-use Rattle.per_de.specs.declared.source.Source.{Source}
-use Rattle.per_de.specs.declared.source.Span.{Span}
+use Rattle.per_decoding.specs.declared.source.Source.{Source}
+use Rattle.per_decoding.specs.declared.source.Span.{Span}
 
 -- what waits outside a scope
 abbrev pub outside_record_of : State.Source → Scope → OutsideRecord

@@ -26,10 +26,10 @@ use Rattle.per_decoding.specs.Choices.{StandsFrom}
 use Rattle.per_decoding.specs.Faults.{IsOfNext, refusal}
 use Rattle.per_decoding.specs.State.{State, refused, settings_of, with_bits}
 use Rattle.per_de.specs.Outsides.{outside_contents_of, outside_addition_of}
-use Rattle.per_de.specs.Sources.{flags_in, span_of}
+use Rattle.per_decoding.specs.Sources.{flags_in, span_of}
 use Rattle.per_de.specs.declared.Addition.{Addition}
-use Rattle.per_de.specs.declared.source.Flags.{Flags}
-use Rattle.per_de.specs.declared.source.Span.{Span}
+use Rattle.per_decoding.specs.declared.source.Flags.{Flags}
+use Rattle.per_decoding.specs.declared.source.Span.{Span}
 
 -- A refusal of some kind, for a reason, after which the decoder has failed.
 pub record RefusedAs (why : DecodeErrorKind → Type 0) (s : State) (e : DecodeError) (t : State) : Type 0 where

@@ -7,11 +7,11 @@ ghost use Rattle.per_decoding.specs.Rules.{decoder_rules, plain_rules};
 ghost use Rattle.per_de.specs.InTurn.{EntersPlaced, EntersRecord, is_choice_in_turn};
 ghost use Rattle.per_de.specs.Steps.{TakesIndex};
 
-use crate::source::Extension;
 use crate::turns::{Around, Turn};
 use crate::{Alternative, Decoder, Scope};
 use per_decoding::choices::{take_choice_index, take_root_index};
 use per_decoding::items::{take_item, take_short_item};
+use per_decoding::source::Extension;
 use per_read::error::DecodeError;
 use rasn_schema::items::{ItemCounts, Place};
 use rasn_traits::counted::CountedDecoder;

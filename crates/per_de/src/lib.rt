@@ -1,25 +1,17 @@
 //! The decoder of the packed encoding rules: it reads every basic encoding.
 #![tactic(auto)]
 
-ghost use Rattle.std.specs.Prelude.{◌≡◌, ◌<◌, ◌≤◌, ◌+◌, ◌-◌, ◌*◌, ◌%◌, true, false, length, slice_get, Some};
-ghost use Rattle.std.specs.Prelude.{MatchOption};
-ghost use Rattle.std.specs.Prelude.{◌↔◌, IfOk, IfSome, IsSome, OnOk, OnErr, IfErr};
-ghost use Rattle.std.specs.Cow.{cow_slice_items, IsBorrowedSlice, IsOwnedSlice};
+ghost use Rattle.std.specs.Prelude.{◌≡◌, ◌<◌, ◌≤◌, ◌-◌, true, false, length, Some};
+ghost use Rattle.std.specs.Prelude.{OnOk, OnErr, IfErr};
 ghost use Rattle.rasn_types.specs.Bits.{unpack};
 ghost use Rattle.rasn_types.specs.Values.{octets, whole};
 ghost use Rattle.rasn_types.specs.declared.types.Codec.TheVariants.{Aper, Uper};
-ghost use Rattle.rasn_schema.specs.Choices.{go_by, variants_on};
-ghost use Rattle.rasn_schema.specs.Extensions.{fields_behind};
-ghost use Rattle.rasn_schema.specs.Structures.{tag_of};
-ghost use Rattle.rasn_schema.specs.Forms.{number_schema, octet_schema, size_of, is_size_marked};
+ghost use Rattle.rasn_schema.specs.Forms.{number_schema};
 ghost use Rattle.rasn_schema.specs.Schemas.{Schema};
 ghost use Rattle.rasn_traits.specs.Calls.{Reads, freely_read};
-ghost use Rattle.rasn_traits.specs.Choices.{IsPlaceOf, index_in, side_of};
 ghost use Rattle.per_core.specs.declared.decode_error.DecodeErrorKind.TheVariants.{AlreadyFailed};
-ghost use Rattle.per_decoding.specs.ChoiceIndexes.{index_of};
 ghost use Rattle.per_read.specs.Lists.{most};
-ghost use Rattle.per_decoding.specs.Additions.{ClosesAddition, EntersContents};
-ghost use Rattle.per_decoding.specs.Additions.{with_outside_addition};
+ghost use Rattle.per_decoding.specs.Additions.{ClosesAddition};
 ghost use Rattle.per_decoding.specs.Choices.{ClosesChoice, UnendedChoice};
 ghost use Rattle.per_decoding.specs.Faults.{refusal, Answered, Unended, UnendedAddition};
 ghost use Rattle.per_decoding.specs.Rules.{AwaitsValues, decoder_rules, plain_rules};
@@ -28,33 +20,26 @@ ghost use Rattle.per_decoding.specs.Laws.InTurn.{additions_well, bags_well, choi
 ghost use Rattle.per_decoding.specs.Laws.InTurn.{errors_well, scopes_well, sets_well};
 ghost use Rattle.per_decoding.specs.Scopes.{Closes, Enters, LevelInside, no_record, with_outside_record};
 ghost use Rattle.per_decoding.specs.State.{State, Options, fresh, fresh_of, from_octet, reader_of, refused, with_last};
-ghost use Rattle.per_core.specs.AdditionFaults.{shown};
 ghost use Rattle.per_de.specs.Lists.{IsCountedList, IsListInTurn};
 ghost use Rattle.per_de.specs.Laws.{elements_well, lists_well};
-ghost use Rattle.per_de.specs.Openings.{OpensRecord};
 ghost use Rattle.per_de.specs.Outsides.{outside_choice_of, outside_record_of, outside_addition_of};
-ghost use Rattle.per_de.specs.Lending.{AreCountedOnce, AreLent, CanBeLent, ComeAlone, SkipsOctets};
-ghost use Rattle.per_de.specs.Sources.{bits_of, extension_in, place_left, span_of, up_to, unread_of};
-ghost use Rattle.per_de.specs.Sources.{AreOctetsOf, IsWithin};
-ghost use Rattle.per_de.specs.Steps.{AsksNext, EndsContents, EntersOpen, HasTwoLevels, IsRootRead};
-ghost use Rattle.per_de.specs.Steps.{ClosesContents, EntersAlternative};
+ghost use Rattle.per_de.specs.Lending.{AreLent};
+ghost use Rattle.per_decoding.specs.Sources.{bits_of, extension_in, place_left, span_of, up_to, unread_of};
+ghost use Rattle.per_decoding.specs.Sources.{IsWithin};
+ghost use Rattle.per_de.specs.Steps.{HasTwoLevels};
 ghost use Rattle.per_de.specs.Turns.{is_failed, turn_in, turn_of};
-ghost use Rattle.per_de.specs.Steps.{TakesBit, TakesBitmap, TakesExtensionBit, TakesFlags, TakesPresences};
 
 use per_bits::{BitList, BitReader};
-use per_core::lengths::FRAGMENT;
 use per_decoding::dates::take_date;
 use per_decoding::enumerated::{take_enumerated, take_root_item};
 use per_decoding::identifiers::take_object_identifier;
 use per_decoding::integers::{take_integer, take_short_integer};
 use per_decoding::times::{take_generalized_time, take_utc_time};
-use per_read::bitmaps::{PresenceBits, take_bitmap};
 pub use per_read::error;
 pub use per_read::error::{DecodeError, DecodeErrorKind, ParserFailCause};
 use per_read::lists::UnreadElements;
-use per_read::open_types::{Contents, end_of_open, take_open};
+use per_read::open_types::Contents;
 use per_read::{Reader, ReaderOptions};
-use rasn_constraints::count::Count;
 use rasn_schema::choices::Choice;
 use rasn_schema::constraints::Constraints;
 use rasn_schema::enumerated::Enumerated;
@@ -68,20 +53,25 @@ use rasn_traits::decoder;
 use rasn_types::bit_string::BitString;
 use rasn_types::octet_strings::{Any, GeneralString, GraphicString, TeletexString, Utf8String};
 use rasn_types::types::{Codec, Tag};
-use std::alloc::{AllocError, Allocator, Global};
+use std::alloc::{Allocator, Global};
 use std::borrow::CowSlice;
 use std::marker::Model;
 use std::mem;
 
+mod choices;
 pub mod counted;
 pub mod elements;
+mod octets;
 pub mod open_lists;
+mod open_types;
+mod records;
 mod scopes;
-mod source;
 pub mod taken_octets;
 pub mod turns;
 
-use source::{Extension, Flags, Source, Span};
+use choices::tag_at;
+use open_types::WholeOctets;
+use per_decoding::source::{Extension, Source, Span};
 use turns::{Around, Mode, Turn};
 
 /// What a decoder is told: the variant of the rules, how deep values may stand inside one another, and whether padding
@@ -153,44 +143,6 @@ impl DecoderOptions {
             codec: self.codec,
             zero_padding: self.zero_padding,
         }
-    }
-}
-
-/// Whole octets, counted in bits.
-#[derive(Clone, Copy, Debug)]
-struct WholeOctets {
-    bits: u128,
-}
-
-impl Model for WholeOctets {
-    ghost use Rattle.std.specs.Prelude.{◌≡◌, ◌%◌, ℕ};
-
-    ghost Value = { ℕ };
-
-    ghost view = { λ o. o.bits };
-
-    ghost inverse = { λ v. record { bits = v } };
-
-    ghost invariant = { λ o. o.bits % 8 ≡ 0 };
-}
-
-impl WholeOctets {
-    /// So many bits.
-    #[inline(always)]
-    fn new(bits: u128) -> Self
-        requires { bits % 8 ≡ 0 }
-        ensures { result ≡ bits }
-    {
-        WholeOctets { bits }
-    }
-
-    /// How many bits they have.
-    #[inline(always)]
-    fn bits(self) -> u128
-        ensures is { result ≡ self }
-        ensures octets { result % 8 ≡ 0 }
-    {
-        self.bits
     }
 }
 
@@ -300,99 +252,6 @@ impl<'input> Decoder<'input> {
         self.options.codec
     }
 
-    /// Reads an OCTET STRING under constraints (X.691 17), as the call of the trait does. The octets are `Borrowed`
-    /// exactly where they are octets of the input, at least one, and come with one count alone or with none; they may
-    /// be kept as long as the input. Those of an open type in fragments are `Owned`.
-    pub fn decode_octet_string(
-        &mut self,
-        _tag: Tag,
-        constraints: &Constraints,
-    ) -> Result<CowSlice<'input, u8>, DecodeError>
-        ensures read { Reads decoder_rules (octet_schema constraints.now) (λ x. octets (cow_slice_items x))
-            self.old result self.new }
-        ensures lent { let size = size_of constraints.now in let mark = is_size_marked constraints.now in
-            let left = length self.new.bits in
-            IfOk result (λ x. IsBorrowedSlice x ↔ AreLent size mark self.old left (length (cow_slice_items x))) }
-    {
-        self.begin_value()?;
-        self.read_octet_string(constraints)
-    }
-
-    /// What `decode_octet_string` answers, behind what it notes.
-    #[inline(always)]
-    fn read_octet_string(
-        &mut self,
-        constraints: &Constraints,
-    ) -> Result<CowSlice<'input, u8>, DecodeError>
-        ensures read { Reads plain_rules (octet_schema constraints.now) (λ x. octets (cow_slice_items x))
-            self.old result self.new }
-        ensures lent { let size = size_of constraints.now in let mark = is_size_marked constraints.now in
-            let left = length self.new.bits in
-            IfOk result (λ x. IsBorrowedSlice x ↔ AreLent size mark self.old left (length (cow_slice_items x))) }
-    {
-        self.check_unfailed()?;
-        let (count, left) = self.skip_octets(constraints)?;
-        if !self.come_alone(constraints, count) {
-            return self.gathered(constraints);
-        }
-        let octets = match self.octets_before(left, count) {
-            Ok(octets) => octets,
-            Err(_) => return Err(self.refuse(DecodeErrorKind::OutOfMemory)),
-        };
-        self.advance(left);
-        Ok(octets)
-    }
-
-    /// How many octets an OCTET STRING has, and how many bits are left behind it. They are still left here.
-    #[inline(always)]
-    fn skip_octets(&mut self, constraints: &Constraints) -> Result<(usize, u128), DecodeError>
-        requires { self.old.failed ≡ false }
-        ensures { SkipsOctets (size_of constraints.now) (is_size_marked constraints.now) self.old result self.new }
-    {
-        let mut reader = self.reader();
-        let skipped = reader.skip_short_octet_string(constraints);
-        let left = reader.bits().len();
-        match skipped {
-            Some(count) => Ok((count, left)),
-            None => self.skip_any_octets(constraints),
-        }
-    }
-
-    /// What `skip_octets` answers, of an OCTET STRING in whichever form it is written.
-    #[inline(never)]
-    fn skip_any_octets(&mut self, constraints: &Constraints) -> Result<(usize, u128), DecodeError>
-        requires { self.old.failed ≡ false }
-        ensures { SkipsOctets (size_of constraints.now) (is_size_marked constraints.now) self.old result self.new }
-    {
-        let mut reader = self.reader();
-        let skipped = reader.skip_octet_string(constraints);
-        let left = reader.bits().len();
-        match skipped {
-            Ok(count) => Ok((count, left)),
-            Err(kind) => Err(self.refuse(kind)),
-        }
-    }
-
-    /// Whether so many octets under a size, which stand at the front of the bits that are left, come with one count
-    /// alone or with none (X.691 11.9.3.3 to 11.9.3.8).
-    #[inline(always)]
-    fn come_alone(&self, constraints: &Constraints, count: usize) -> bool
-        ensures { let size = size_of constraints.now in let mark = is_size_marked constraints.now in
-            (result ≡ true) ↔ ComeAlone size mark self.now.bits count }
-    {
-        count < FRAGMENT || are_counted_once(constraints, &self.input())
-    }
-
-    /// Reads an OCTET STRING under constraints, and answers a copy of its octets, which may come in fragments.
-    fn gathered(&mut self, constraints: &Constraints) -> Result<CowSlice<'static, u8>, DecodeError>
-        ensures read { Reads plain_rules (octet_schema constraints.now) (λ x. octets (cow_slice_items x))
-            self.old result self.new }
-        ensures owned { IfOk result (λ x. IsOwnedSlice x) }
-    {
-        let octets = self.copy_octets(constraints)?;
-        Ok(CowSlice::Owned(octets))
-    }
-
     /// Reads an ENUMERATED in whichever form it is written (X.691 14).
     #[inline(never)]
     fn read_enumerated<E: Enumerated>(&mut self) -> Result<E, DecodeError>
@@ -419,33 +278,12 @@ impl<'input> Decoder<'input> {
         self.answer(taken, left)
     }
 
-    /// The `count` octets in front of the last `left` bits: those of the input, at least one, are lent, and others are
-    /// copied. The only error is want of memory.
-    #[inline(always)]
-    fn octets_before(&self, left: u128, count: usize) -> Result<CowSlice<'input, u8>, AllocError>
-        requires { 8 * count + left ≤ length self.now.bits }
-        ensures octets { let bits = self.now.bits in
-            IfOk result (λ x. AreOctetsOf bits (length bits - left) count (cow_slice_items x)) }
-        ensures lent { IfOk result (λ x. IsBorrowedSlice x ↔ CanBeLent self.now left count) }
-    {
-        let place = self.bits.end - left;
-        self.source.octets_before(self.alloc, place, count)
-    }
-
     /// A reader of the bits that are left.
     #[inline(always)]
     fn reader(&self) -> Reader<'_>
         ensures { result ≡ reader_of self.now }
     {
         Reader::new(self.alloc, self.input(), self.options)
-    }
-
-    /// The next presence bit of the open SEQUENCE's root components, where one is left.
-    #[inline(always)]
-    fn first_presence(&self) -> Option<bool>
-        ensures { result ≡ slice_get self.now.presences 0 }
-    {
-        self.presences.first_of(&self.source.bits())
     }
 
     /// An error of a kind, with the variant in use.
@@ -516,22 +354,6 @@ impl<'input> Decoder<'input> {
         self.bits.begin = self.bits.end - left;
     }
 
-    /// Takes so many presence bits off the bits left, and answers where they stand. Where fewer are left it refuses.
-    fn take_presences(&mut self, count: u128) -> Result<Span, DecodeError>
-        ensures { TakesPresences count self.old result self.new }
-    {
-        let left = self.bits.len();
-        if left < count {
-            return Err(self.refuse(DecodeErrorKind::Incomplete(Count::new(count - left))));
-        }
-        let begin = self.bits.begin;
-        self.bits = self.bits.behind(count);
-        Ok(Span {
-            begin,
-            end: self.bits.begin,
-        })
-    }
-
     /// How many levels may be entered one level deeper. At no level left it refuses.
     #[inline(always)]
     fn level_inside(&mut self) -> Result<u32, DecodeError>
@@ -577,250 +399,6 @@ impl<'input> Decoder<'input> {
         self.extension = outside.extension;
         self.expected = outside.expected;
         self.levels = outside.levels;
-    }
-
-    /// Takes the next bit off the bits left. Where none is left it refuses.
-    #[inline(always)]
-    fn take_bit(&mut self) -> Result<bool, DecodeError>
-        ensures { TakesBit self.old result self.new }
-    {
-        let bits = self.input();
-        if bits.is_empty() {
-            return Err(self.refuse(DecodeErrorKind::Incomplete(Count::new(1))));
-        }
-        let bit = bits.first_bit() == 1;
-        self.bits = self.bits.behind(1);
-        Ok(bit)
-    }
-
-    /// Takes the extension bit of a SEQUENCE (X.691 19.1), where its type has an extension marker.
-    #[inline(always)]
-    fn take_extension_bit(&mut self, marker: bool) -> Result<bool, DecodeError>
-        ensures { TakesExtensionBit marker self.old result self.new }
-    {
-        if !marker {
-            return Ok(false);
-        }
-        self.take_bit()
-    }
-
-    /// Opens a record, which takes a level: its extension bit and its presence bits are taken, and its root components
-    /// follow, in whichever order. At no level left it refuses.
-    #[inline(always)]
-    fn open_record<C: Constructed>(&mut self) -> Result<Scope, DecodeError>
-        ensures { OpensRecord C.parts C.IS_EXTENSIBLE C.additions self.old result self.new }
-    {
-        self.check_unfailed()?;
-        let levels = self.level_inside()?;
-        let extends = self.take_extension_bit(C::IS_EXTENSIBLE)?;
-        let count = C::FIELDS.number_of_optional_and_default_fields();
-        let presences = self.take_presences(count as u128)?;
-        Ok(self.enter(Scope {
-            presences,
-            extension: Extension::of_bit(extends),
-            expected: addition_count::<C>(),
-            levels,
-        }))
-    }
-
-    /// Takes a bitmap (X.691 19.7, 19.8), and answers its presence bits. Only one in fragments takes memory.
-    fn take_flags(&mut self) -> Result<Flags, DecodeError>
-        ensures { TakesBitmap self.old result self.new }
-    {
-        let outer = self.bits;
-        let mut reader = self.reader();
-        let taken = take_bitmap(&mut reader);
-        let left = reader.bits().len();
-        match self.answer(taken, left)? {
-            PresenceBits::InPlace(count) => Ok(Flags::InPlace(outer.in_front(left, count))),
-            PresenceBits::Gathered(bits) => Ok(Flags::Gathered(bits, 0)),
-        }
-    }
-
-    /// Takes out the presence bits of the open SEQUENCE's additions that are still to be read, where they are ahead off
-    /// the bits left.
-    #[inline(always)]
-    fn take_extension(&mut self) -> Result<Flags, DecodeError>
-        ensures { TakesFlags self.old result self.new }
-    {
-        match mem::replace(&mut self.extension, Extension::of_bit(false)) {
-            Extension::Ahead => self.take_flags(),
-            Extension::InPlace(span) => Ok(Flags::InPlace(span)),
-            Extension::Gathered(bits, read) => Ok(Flags::Gathered(bits, read)),
-        }
-    }
-
-    /// Refuses where a presence bit of the open SEQUENCE's root components wasn't read.
-    #[inline(always)]
-    fn check_root_read(&mut self) -> Result<(), DecodeError>
-        ensures { IsRootRead self.old result self.new }
-    {
-        if self.presences.is_empty() || self.first_presence().is_none() {
-            return Ok(());
-        }
-        Err(self.refuse(DecodeErrorKind::MissingTag))
-    }
-
-    /// Asks for the next addition of the open SEQUENCE (X.691 19.7, 19.8): its presence bit, or none past the end of
-    /// the bitmap.
-    #[inline(always)]
-    fn next_addition(&mut self) -> Result<Option<bool>, DecodeError>
-        requires { self.old.failed ≡ false }
-        ensures { AsksNext self.old result self.new }
-    {
-        self.check_root_read()?;
-        let Some(expected) = self.expected.checked_sub(1) else {
-            return Err(self.refuse(DecodeErrorKind::TypeNotExtensible));
-        };
-        let mut flags = self.take_extension()?;
-        let flag = flags.next(self.source.bits());
-        self.extension = Extension::of_flags(flags);
-        self.expected = expected;
-        Ok(flag)
-    }
-
-    /// Enters contents that stand in the source, and answers what waits outside.
-    #[inline(always)]
-    fn enter_contents(&mut self, contents: Span, total: WholeOctets) -> Addition<'input>
-        requires within { IsWithin contents self.old.source.bits }
-        requires whole { total ≡ length (span_of contents self.old.source.bits) }
-        ensures { EntersContents (span_of contents self.old.source.bits) self.old
-            (outside_addition_of self.new.source result) self.new }
-    {
-        Addition {
-            bits: mem::replace(&mut self.bits, contents),
-            source: None,
-            presences: mem::replace(&mut self.presences, Span::empty()),
-            extension: mem::replace(&mut self.extension, Extension::of_bit(false)),
-            expected: mem::replace(&mut self.expected, 0),
-            total,
-        }
-    }
-
-    /// Enters contents that were gathered, and answers what waits outside.
-    fn enter_gathered(&mut self, octets: Vec<u8>) -> Addition<'input>
-        ensures { EntersContents (unpack octets.items) self.old (outside_addition_of self.new.source result) self.new }
-    {
-        let end = 8 * octets.len() as u128;
-        Addition {
-            source: Some(mem::replace(&mut self.source, Source::Gathered(octets))),
-            bits: mem::replace(&mut self.bits, Span { begin: 0, end }),
-            presences: mem::replace(&mut self.presences, Span::empty()),
-            extension: mem::replace(&mut self.extension, Extension::of_bit(false)),
-            expected: mem::replace(&mut self.expected, 0),
-            total: WholeOctets::new(end),
-        }
-    }
-
-    /// Takes the length of an open type (X.691 11.2), enters its contents, and answers what waits outside. Only those
-    /// in fragments take memory.
-    #[inline(always)]
-    fn enter_open_type(&mut self) -> Result<Addition<'input>, DecodeError>
-        ensures { EntersOpen self.old result self.new }
-    {
-        let outer = self.bits;
-        let mut reader = self.reader();
-        let taken = take_open(&mut reader);
-        let left = reader.bits().len();
-        match self.answer(taken, left)? {
-            Contents::InPlace(count) => {
-                let contents = outer.in_front(left, count);
-                Ok(self.enter_contents(contents, WholeOctets::new(count)))
-            }
-            Contents::Gathered(octets) => Ok(self.enter_gathered(octets)),
-        }
-    }
-
-    /// Whether what is left of contents ends them (X.691 11.1).
-    #[inline(always)]
-    fn end_of_contents(&self, total: WholeOctets) -> Result<(), DecodeErrorKind>
-        ensures { EndsContents self.now total result }
-    {
-        let reader = self.reader();
-        let left = reader.bits().len();
-        if left > total.bits() {
-            return Err(DecodeErrorKind::UnexpectedExtraData(Count::new(left - total.bits())));
-        }
-        end_of_open(&reader, total.bits())
-    }
-
-    /// Leaves an open type: what waited outside is back.
-    #[inline(always)]
-    fn leave_contents(&mut self, outside: Addition<'input>)
-        ensures { self.new ≡ with_outside_addition self.old (outside_addition_of self.old.source outside.entry) }
-    {
-        let source = outside.source;
-        if let Some(source) = source {
-            self.source = source;
-        }
-        self.bits = outside.bits.within(&self.source.bits());
-        self.presences = outside.presences;
-        self.extension = outside.extension;
-        self.expected = outside.expected;
-    }
-
-    /// Leaves an open type where what is left of its contents ends them (X.691 11.1), and else refuses.
-    #[inline(always)]
-    fn close_open_type(&mut self, outside: Addition<'input>) -> Result<(), DecodeError>
-        ensures { ClosesContents (outside_addition_of self.old.source outside.entry) self.old result self.new }
-    {
-        match self.end_of_contents(outside.total) {
-            Ok(()) => {
-                self.leave_contents(outside);
-                Ok(())
-            }
-            Err(kind) => Err(self.refuse(kind)),
-        }
-    }
-
-    /// Enters the open type of an alternative that stands behind the extension marker (X.691 23.8), and answers what
-    /// waits outside it. One of the root has none.
-    #[inline(always)]
-    fn open_alternative(&mut self, place: Place) -> Result<Option<Addition<'input>>, DecodeError>
-        ensures { EntersAlternative (index_of place).0 self.old result self.new }
-    {
-        match place {
-            Place::Root(_) => Ok(None),
-            Place::Added(_) => Ok(Some(self.enter_open_type()?)),
-        }
-    }
-}
-
-/// Whether octets under a size, which stand at the front of bits, come with one count or with none, however many they
-/// are (X.691 11.9.3.3, 11.9.4.1, 17.3).
-fn are_counted_once(constraints: &Constraints, bits: &BitReader<'_>) -> bool
-    ensures { let size = size_of constraints.now in let mark = is_size_marked constraints.now in
-        (result ≡ true) ↔ AreCountedOnce size mark bits.now.bits }
-{
-    let Some(size) = constraints.size() else {
-        return false;
-    };
-    let (Some(_), Some(upper)) = size.constraint.start_and_end() else {
-        return false;
-    };
-    upper < 65536 && !(size.extensible && !bits.is_empty() && bits.first_bit() == 1)
-}
-
-/// How many additions a type has.
-#[inline(always)]
-fn addition_count<C: Constructed>() -> usize
-    ensures { result ≡ length (fields_behind C.EXTENDED_FIELDS) }
-{
-    match C::EXTENDED_FIELDS {
-        Some(fields) => fields.len(),
-        None => 0,
-    }
-}
-
-/// The tag by which the alternative at a place goes.
-fn tag_at<C: Choice>(place: Place) -> Tag
-    requires { IsPlaceOf C.VARIANTS C.EXTENDED_VARIANTS place }
-    ensures { slice_get (go_by (variants_on (side_of place) C.VARIANTS C.EXTENDED_VARIANTS)) (index_in place)
-        ≡ Some (tag_of result) }
-{
-    match place {
-        Place::Root(index) => C::VARIANTS.tag_at(index),
-        Place::Added(index) => C::EXTENDED_VARIANTS.unwrap().tag_at(index),
     }
 }
 

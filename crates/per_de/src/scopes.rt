@@ -13,13 +13,13 @@ ghost use Rattle.per_decoding.specs.State.{with_turn};
 ghost use Rattle.per_de.specs.InTurn.{GoesOn, LeavesChoice, LeavesOpen, LeavesRecord, OpensCounted, Owes, are_open};
 ghost use Rattle.per_de.specs.InTurn.{closes_in_turn, is_addition_open, unended_in_turn};
 ghost use Rattle.per_de.specs.Lists.{IsOpenList, outer_of};
-ghost use Rattle.per_de.specs.Sources.{flags_in};
+ghost use Rattle.per_decoding.specs.Sources.{flags_in};
 ghost use Rattle.per_de.specs.Steps.{SkipsRest, SkipsUnknown};
 ghost use Rattle.per_de.specs.Turns.{turn_of};
 
-use crate::source::Flags;
 use crate::turns::{Around, Turn};
 use crate::{Addition, Alternative, Decoder, ListScope, OpenedList, Scope};
+use per_decoding::source::Flags;
 use per_read::bitmaps::skip_unknown;
 use per_read::error::{DecodeError, DecodeErrorKind};
 use rasn_schema::constraints::Constraints;

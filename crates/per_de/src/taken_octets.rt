@@ -7,7 +7,7 @@ ghost use Rattle.rasn_types.specs.Values.{octets};
 ghost use Rattle.per_decoding.specs.Rules.{decoder_rules, plain_rules};
 ghost use Rattle.per_decoding.specs.State.{with_last};
 ghost use Rattle.per_de.specs.Lending.{in_front, StandInFront, TakesOctets};
-ghost use Rattle.per_de.specs.Sources.{place_left, AreOctetsOf};
+ghost use Rattle.per_decoding.specs.Sources.{place_left, AreOctetsOf};
 
 use crate::Decoder;
 use per_read::error::DecodeError;

@@ -14,4 +14,5 @@ pub mod integers;
 pub mod item_counts;
 pub mod items;
 pub mod laws;
+pub mod source;
 pub mod times;

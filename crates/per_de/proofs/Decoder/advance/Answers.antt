@@ -1,7 +1,7 @@
 use Rattle.std.proofs.Common.{◌≡◌, ◌≤◌, arith, ◌∙◌, ◌+◌, ◌-◌, ap, drop, length, refl}
-use Rattle.per_de.specs.Sources.{bits_of, span_of}
+use Rattle.per_decoding.specs.Sources.{bits_of, span_of}
 use Rattle.per_decoding.specs.State.{State, with_bits}
-use Rattle.per_de.proofs.Spans.{advanced, span_length}
+use Rattle.per_decoding.proofs.Spans.{advanced, span_length}
 use Rattle.per_de.proofs.Decoder.advance.Goals as goal
 
 pub returns : goal.returns

@@ -1,7 +1,7 @@
 use Rattle.std.proofs.Common.{◌≡◌, ◌*◌, arith, length, rules}
 use Rattle.rasn_types.specs.Bits.{unpack}
 use Rattle.rasn_types.proofs.Bits.{length-unpack}
-use Rattle.per_de.proofs.Spans.{span_whole}
+use Rattle.per_decoding.proofs.Spans.{span_whole}
 use Rattle.per_de.proofs.Decoder.enter_gathered.Goals as goal
 
 pub invariant_of-self : goal.invariant_of-self

@@ -1,7 +1,7 @@
 use Rattle.std.proofs.Common.{◌≡◌, ◌∙◌, refl, ap, length}
 use Rattle.std.proofs.lemmas.Result.{err_from_is_err_and}
 use Rattle.rasn_types.specs.Bits.{unpack}
-use Rattle.per_de.specs.Sources.{bits_of, span_of}
+use Rattle.per_decoding.specs.Sources.{bits_of, span_of}
 use Rattle.per_de.proofs.Steps.{contents_in_place, gathered_contents, no_open_taken, opened, whole_octets}
 use Rattle.per_de.proofs.Decoder.enter_open_type.Goals as goal
 

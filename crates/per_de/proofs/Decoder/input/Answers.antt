@@ -1,6 +1,6 @@
 use Rattle.std.proofs.Common.{◌≡◌, ◌∙◌, ap, ◌+◌, ◌-◌, ◌%◌, ℕ, length, arith}
-use Rattle.per_de.specs.Sources.{bits_of, place_of}
-use Rattle.per_de.proofs.Spans.{span_length}
+use Rattle.per_decoding.specs.Sources.{bits_of, place_of}
+use Rattle.per_decoding.proofs.Spans.{span_length}
 use Rattle.per_de.proofs.Decoder.input.Goals as goal
 
 pub returns-clause-place : goal.returns-clause-place

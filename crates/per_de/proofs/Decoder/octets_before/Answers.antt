@@ -1,8 +1,8 @@
 use Rattle.std.proofs.Common.{◌≤◌, ap, arith, length}
 use Rattle.std.specs.Cow.{cow_slice_items}
-use Rattle.per_de.specs.Sources.{bits_of}
+use Rattle.per_decoding.specs.Sources.{bits_of}
 use Rattle.per_de.proofs.Lending.{if_ok, lent_where, part_inside}
-use Rattle.per_de.proofs.Spans.{span_length}
+use Rattle.per_decoding.proofs.Spans.{span_length}
 use Rattle.per_de.proofs.Decoder.octets_before.Goals as goal
 
 pub returns-clause-octets : goal.returns-clause-octets

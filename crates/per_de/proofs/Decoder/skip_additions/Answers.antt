@@ -1,5 +1,5 @@
 use Rattle.std.proofs.Common.{ap, ◌∙◌, length}
-use Rattle.per_de.specs.Sources.{flags_in}
+use Rattle.per_decoding.specs.Sources.{flags_in}
 use Rattle.per_de.proofs.Steps.{unknown_skipped}
 use Rattle.per_de.proofs.Decoder.skip_additions.Goals as goal
 

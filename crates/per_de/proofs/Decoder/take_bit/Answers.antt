@@ -1,6 +1,6 @@
 use Rattle.std.proofs.Common.{◌∙◌, refl, sym, ap, rules}
-use Rattle.per_de.specs.Sources.{bits_of}
-use Rattle.per_de.proofs.Spans.{next_of, some_left}
+use Rattle.per_decoding.specs.Sources.{bits_of}
+use Rattle.per_decoding.proofs.Spans.{next_of, some_left}
 use Rattle.per_de.proofs.Decoder.take_bit.Goals as goal
 
 pub behind-self-inside-requires : goal.behind-self-inside-requires

@@ -1,6 +1,6 @@
 use Rattle.std.proofs.Common.{ap, ◌∙◌, length}
 use Rattle.std.proofs.lemmas.Result.{err_from_is_err_and}
-use Rattle.per_de.specs.Sources.{bits_of}
+use Rattle.per_decoding.specs.Sources.{bits_of}
 use Rattle.per_de.proofs.Steps.{flags_gathered, flags_in_place, no_bitmap_taken}
 use Rattle.per_de.proofs.Decoder.take_flags.Goals as goal
 

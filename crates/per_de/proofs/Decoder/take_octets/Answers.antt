@@ -7,10 +7,10 @@ use Rattle.rasn_traits.specs.Calls.{Reads}
 use Rattle.per_decoding.specs.Rules.{plain_rules}
 use Rattle.per_decoding.specs.State.{State, with_last}
 use Rattle.per_de.specs.Lending.{ComeAlone}
-use Rattle.per_de.specs.Sources.{bits_of, place_left}
+use Rattle.per_decoding.specs.Sources.{bits_of, place_left}
 use Rattle.per_de.proofs.Calls.{no_more_left}
 use Rattle.per_de.proofs.Lending.{enough, taken_copy, taken_in_front}
-use Rattle.per_de.proofs.Spans.{span_length}
+use Rattle.per_decoding.proofs.Spans.{span_length}
 use Rattle.per_de.proofs.Decoder.take_octets.Goals as goal
 use Rattle.per_de.proofs.Decoder.take_octets.Goals.{else-ends_octet-via-then-ends_octet+else-come_alone, else-ends_octet-via-else-ends_octet}
 

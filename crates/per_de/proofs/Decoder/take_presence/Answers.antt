@@ -1,7 +1,7 @@
 use Rattle.std.proofs.Common.{◌≡◌, ◌∷◌, ◌+◌, ap, sym, ◌∙◌, rules, slice_get, Some}
-use Rattle.per_de.specs.Sources.{bits_of, span_of}
+use Rattle.per_decoding.specs.Sources.{bits_of, span_of}
 use Rattle.per_decoding.specs.State.{State}
-use Rattle.per_de.proofs.Spans.{behind, first_bit, one_more}
+use Rattle.per_decoding.proofs.Spans.{behind, first_bit, one_more}
 use Rattle.per_de.proofs.Decoder.take_presence.Goals as goal
 
 pub returns-in-Some : goal.returns-in-Some

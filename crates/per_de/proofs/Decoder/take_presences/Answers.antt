@@ -1,6 +1,6 @@
 use Rattle.std.proofs.Common.{arith, refl, ◌≤◌, ◌-◌}
-use Rattle.per_de.specs.Sources.{bits_of}
-use Rattle.per_de.proofs.Spans.{first_of, row_length}
+use Rattle.per_decoding.specs.Sources.{bits_of}
+use Rattle.per_decoding.proofs.Spans.{first_of, row_length}
 use Rattle.per_de.proofs.Decoder.take_presences.Goals as goal
 
 pub returns : goal.returns

@@ -6,8 +6,8 @@ ghost use Rattle.std.specs.Cow.{cow_slice_items, IsBorrowedSlice};
 ghost use Rattle.rasn_types.specs.Bits.{Bits};
 ghost use Rattle.per_bits.specs.Octets.{AreWholeOctets};
 ghost use Rattle.per_core.specs.AdditionFaults.{NextFlag, extension_of, shown};
-ghost use Rattle.per_de.specs.Sources.{bits_of, extension_in, flags_in, place_of, span_of};
-ghost use Rattle.per_de.specs.Sources.{AreInInput, AreOctetsIn, AreOctetsOf, IsWithin};
+ghost use Rattle.per_decoding.specs.Sources.{bits_of, extension_in, flags_in, place_of, span_of};
+ghost use Rattle.per_decoding.specs.Sources.{AreInInput, AreOctetsIn, AreOctetsOf, IsWithin};
 
 use per_bits::BitReader;
 use per_read::bitmaps::{Bitmap, next_flag};
@@ -17,7 +17,7 @@ use std::borrow::CowSlice;
 
 /// Where the bits come from that a decoder reads.
 #[derive(Drop)]
-pub(crate) enum Source<'input> {
+pub enum Source<'input> {
     /// The input's own, of which octets can be lent.
     Input(BitReader<'input>),
     /// Octets that were gathered from fragments (X.691 11.9.3.8), which the decoder owns.
@@ -26,7 +26,7 @@ pub(crate) enum Source<'input> {
 
 impl<'input> Source<'input> {
     /// All its bits.
-    pub(crate) fn bits(&self) -> BitReader<'_>
+    pub fn bits(&self) -> BitReader<'_>
         ensures bits { result.bits ≡ bits_of self.now }
         ensures place { result.place ≡ place_of self.now }
     {
@@ -39,7 +39,7 @@ impl<'input> Source<'input> {
 
     /// The last `count` octets in front of a place: those of the input, at least one, are lent, and others are copied.
     /// The only error is want of memory.
-    pub(crate) fn octets_before(
+    pub fn octets_before(
         &self,
         alloc: Global,
         place: u128,
@@ -93,28 +93,30 @@ fn copy_of(alloc: Global, bits: &BitReader<'_>) -> Result<Vec<u8>, AllocError>
 
 /// Bits of a source: those from a place on, in front of another.
 #[derive(Clone, Copy, Debug)]
-pub(crate) struct Span {
-    pub(crate) begin: u128,
-    pub(crate) end: u128,
+pub struct Span {
+    /// The place of its first bit.
+    pub begin: u128,
+    /// The place after its last bit.
+    pub end: u128,
 }
 
 impl Span {
     /// How many bits it has in a source that is long enough.
-    pub(crate) fn len(self) -> u128
+    pub fn len(self) -> u128
         ensures { result ≡ self.end - self.begin }
     {
         self.end.saturating_sub(self.begin)
     }
 
     /// Whether it has none, whichever the source.
-    pub(crate) fn is_empty(self) -> bool
+    pub fn is_empty(self) -> bool
         ensures { IsTrue result → (source : Bits) → span_of self source ≡ [] }
     {
         self.end <= self.begin
     }
 
     /// The bits behind the first `count` of them.
-    pub(crate) fn behind(self, count: u128) -> Span
+    pub fn behind(self, count: u128) -> Span
         requires { count ≤ self.end - self.begin }
         ensures { result ≡ record self { begin = self.begin + count } }
     {
@@ -124,15 +126,15 @@ impl Span {
         }
     }
 
-    /// None.
-    pub(crate) fn empty() -> Span
+    /// A span of no bits.
+    pub fn empty() -> Span
         ensures { result ≡ record { begin = 0; end = 0 } }
     {
         Span { begin: 0, end: 0 }
     }
 
     /// Of those in front of the last `left` of them, the last `count`.
-    pub(crate) fn in_front(self, left: u128, count: u128) -> Span
+    pub fn in_front(self, left: u128, count: u128) -> Span
         requires { left + count ≤ self.end - self.begin }
         ensures { result ≡ record { begin = self.end - left - count; end = self.end - left } }
     {
@@ -144,7 +146,7 @@ impl Span {
     }
 
     /// A span of these bits of a source that lies within the source, whether this one does or not.
-    pub(crate) fn within(self, source: &BitReader<'_>) -> Span
+    pub fn within(self, source: &BitReader<'_>) -> Span
         ensures same { span_of result source.now.bits ≡ span_of self source.now.bits }
         ensures there { IsWithin result source.now.bits }
         ensures behind { length source.now.bits - result.end ≡ length source.now.bits - self.end }
@@ -157,7 +159,7 @@ impl Span {
     }
 
     /// The next of these bits of a source, which is then no longer one of them.
-    pub(crate) fn next_bit(&mut self, source: BitReader<'_>) -> Option<bool>
+    pub fn next_bit(&mut self, source: BitReader<'_>) -> Option<bool>
         ensures { NextFlag (span_of self.old source.entry.bits) result (span_of self.new source.entry.bits) }
     {
         let bit = self.first_of(&source)?;
@@ -166,7 +168,7 @@ impl Span {
     }
 
     /// The first of these bits of a source, where one is there.
-    pub(crate) fn first_of(self, source: &BitReader<'_>) -> Option<bool>
+    pub fn first_of(self, source: &BitReader<'_>) -> Option<bool>
         ensures { result ≡ slice_get (span_of self source.now.bits) 0 }
     {
         if self.end.min(source.len()) <= self.begin {
@@ -176,7 +178,7 @@ impl Span {
     }
 
     /// These bits of a source, as far as they are there.
-    pub(crate) fn part_of<'source>(self, source: BitReader<'source>) -> BitReader<'source>
+    pub fn part_of<'source>(self, source: BitReader<'source>) -> BitReader<'source>
         ensures { result.bits ≡ span_of self source.entry.bits }
     {
         let begin = self.begin.min(source.len());
@@ -185,7 +187,7 @@ impl Span {
     }
 
     /// These bits of a source, which has all of them.
-    pub(crate) fn all_of<'source>(self, source: BitReader<'source>) -> BitReader<'source>
+    pub fn all_of<'source>(self, source: BitReader<'source>) -> BitReader<'source>
         requires { IsWithin self source.bits }
         ensures bits { result.bits ≡ span_of self source.entry.bits }
         ensures place { result.place ≡ (source.entry.place + self.begin) % 8 }
@@ -196,7 +198,7 @@ impl Span {
 
 /// Presence bits of additions that are still to be read (X.691 19.7), where they stand.
 #[derive(Drop)]
-pub(crate) enum Flags {
+pub enum Flags {
     /// In the source.
     InPlace(Span),
     /// Those of a bitmap in fragments, one after another, and how many of them were read.
@@ -205,7 +207,7 @@ pub(crate) enum Flags {
 
 impl Flags {
     /// The next of them, where they stand in a source, which is then no longer one of them.
-    pub(crate) fn next(&mut self, source: BitReader<'_>) -> Option<bool>
+    pub fn next(&mut self, source: BitReader<'_>) -> Option<bool>
         ensures { NextFlag (flags_in source.entry.bits self.old) result (flags_in source.entry.bits self.new) }
     {
         match self {
@@ -214,8 +216,8 @@ impl Flags {
         }
     }
 
-    /// They in turn, where they stand in a source.
-    pub(crate) fn into_bitmap<'source>(self, source: BitReader<'source>) -> Bitmap<'source>
+    /// All of them that are left, in their order, where they stand in a source.
+    pub fn into_bitmap<'source>(self, source: BitReader<'source>) -> Bitmap<'source>
         ensures { result ≡ flags_in source.entry.bits self }
     {
         match self {
@@ -228,7 +230,7 @@ impl Flags {
 /// What is still to be read of the bitmap of the open SEQUENCE's additions (X.691 19.7). The presence bits that are
 /// left are no `Flags` here, which would make it larger.
 #[derive(Drop)]
-pub(crate) enum Extension {
+pub enum Extension {
     /// All of it: it stands behind the root components.
     Ahead,
     /// The presence bits that are left, in the source.
@@ -239,7 +241,7 @@ pub(crate) enum Extension {
 
 impl Extension {
     /// What an extension bit says of it (X.691 19.1).
-    pub(crate) fn of_bit(extends: bool) -> Self
+    pub fn of_bit(extends: bool) -> Self
         ensures { (source : Bits) → extension_in source result ≡ extension_of extends }
     {
         if extends {
@@ -249,7 +251,7 @@ impl Extension {
     }
 
     /// These presence bits are left of it.
-    pub(crate) fn of_flags(flags: Flags) -> Self
+    pub fn of_flags(flags: Flags) -> Self
         ensures { (source : Bits) → extension_in source result ≡ shown (flags_in source flags) }
     {
         match flags {
@@ -259,7 +261,7 @@ impl Extension {
     }
 
     /// Whether surely nothing of it is left, whichever the source.
-    pub(crate) fn is_over(&self) -> bool
+    pub fn is_over(&self) -> bool
         ensures { IsTrue result → (source : Bits) → extension_in source self.now ≡ shown [] }
     {
         match self {

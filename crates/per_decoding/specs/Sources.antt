@@ -5,13 +5,13 @@ use Rattle.rasn_types.specs.Bits.{AreOctets, Bits, unpack}
 use Rattle.per_decoding.specs.State
 use Rattle.per_core.specs.AdditionFaults
 use Rattle.per_core.specs.AdditionFaults.{ahead, shown}
-use Rattle.per_de.specs.declared.source.Source.{Source}
-use Rattle.per_de.specs.declared.source.Source.TheVariants.{Input, Gathered}
-use Rattle.per_de.specs.declared.source.Span.{Span}
-use Rattle.per_de.specs.declared.source.Flags.{Flags}
-use Rattle.per_de.specs.declared.source.Flags.TheVariants as Kept
-use Rattle.per_de.specs.declared.source.Extension.{Extension}
-use Rattle.per_de.specs.declared.source.Extension.TheVariants as Left
+use Rattle.per_decoding.specs.declared.source.Source.{Source}
+use Rattle.per_decoding.specs.declared.source.Source.TheVariants.{Input, Gathered}
+use Rattle.per_decoding.specs.declared.source.Span.{Span}
+use Rattle.per_decoding.specs.declared.source.Flags.{Flags}
+use Rattle.per_decoding.specs.declared.source.Flags.TheVariants as Kept
+use Rattle.per_decoding.specs.declared.source.Extension.{Extension}
+use Rattle.per_decoding.specs.declared.source.Extension.TheVariants as Left
 
 -- all bits of a source
 abbrev pub bits_of : Source → Bits

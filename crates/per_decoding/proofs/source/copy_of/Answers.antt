@@ -1,8 +1,8 @@
 use Rattle.std.proofs.Common.{◌∙◌, ◌++◌, ap, subst}
 use Rattle.rasn_types.specs.Bits.{AreOctets}
 use Rattle.rasn_types.specs.Packed.{packed}
-use Rattle.per_de.proofs.Lending.{octets_copied}
-use Rattle.per_de.proofs.source.copy_of.Goals as goal
+use Rattle.per_decoding.proofs.Copies.{octets_copied}
+use Rattle.per_decoding.proofs.source.copy_of.Goals as goal
 
 pub returns : goal.returns
 returns c =

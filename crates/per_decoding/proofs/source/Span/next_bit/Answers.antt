@@ -1,8 +1,8 @@
 use Rattle.std.proofs.Common.{◌≡◌, ◌∙◌, ◌∷◌, ap, sym, slice_get, Some}
-use Rattle.per_de.specs.Sources.{span_of}
-use Rattle.per_de.specs.declared.source.Span.{Span}
-use Rattle.per_de.proofs.Spans.{behind, first_bit, one_more}
-use Rattle.per_de.proofs.source.Span.next_bit.Goals as goal
+use Rattle.per_decoding.specs.Sources.{span_of}
+use Rattle.per_decoding.specs.declared.source.Span.{Span}
+use Rattle.per_decoding.proofs.Spans.{behind, first_bit, one_more}
+use Rattle.per_decoding.proofs.source.Span.next_bit.Goals as goal
 
 pub returns : goal.returns
 returns c =

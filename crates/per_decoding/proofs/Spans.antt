@@ -9,9 +9,9 @@ use Rattle.per_core.specs.FieldFaults.{IsOfField}
 use Rattle.per_core.specs.Spellings.{NoneIn}
 use Rattle.per_core.specs.declared.decode_error.DecodeErrorKind.TheVariants.{Incomplete}
 use Rattle.per_read.proofs.Turns.{one_bit}
-use Rattle.per_de.specs.Sources.{span_of, IsWithin}
+use Rattle.per_decoding.specs.Sources.{span_of, IsWithin}
 use Rattle.per_decoding.specs.State.{State, with_bits, with_last}
-use Rattle.per_de.specs.declared.source.Span.{Span}
+use Rattle.per_decoding.specs.declared.source.Span.{Span}
 
 -- as many of its bits as a source has
 pub part : (span : Span) (source : Bits) (begin count : ℕ) → begin ≡ min span.begin (length source) → count ≡ min (span.end - span.begin) (length source - begin) → take count (drop begin source) ≡ span_of span source
