@@ -7,7 +7,6 @@ pub mod FewBefore
 pub mod Listing
 pub mod Opening
 pub mod StringCalls
-pub mod Spans
 pub mod Steps
 pub mod MomentCalls
 pub mod Lending

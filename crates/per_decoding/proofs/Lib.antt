@@ -1,3 +1,4 @@
+mod Copies
 mod FewParts
 pub mod Enumerations
 pub mod Fits
@@ -7,3 +8,4 @@ pub mod Moments
 pub mod Within
 pub mod DatesRead
 pub mod Short
+pub mod Spans

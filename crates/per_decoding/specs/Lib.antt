@@ -3,6 +3,7 @@ pub mod Choices
 pub mod Faults
 pub mod Rules
 pub mod Scopes
+pub mod Sources
 pub mod State
 pub mod Turns
 pub mod InTurn
