@@ -177,7 +177,12 @@ macro_rules! recursive_alternative {
         let value = $crate::read::alternative::<$type, $of, H, D, F>($decoder, $by, $held)?;
         Ok(Self::$variant(value))
     }};
-    ($decoder:ident $by:ident $held:ident $of:ident $place:literal $variant:ident $([$type:ty] $bounds:tt)?) => {
-        rasn_below::alternative_to_read!($decoder $by BOUNDS read $place $variant $($type)?)
-    };
+    ($decoder:ident $by:ident $held:ident $of:ident $place:literal $variant:ident) => {{
+        rasn_below::by_place::read::<(), _>($decoder, $by, BOUNDS, $place)?;
+        Ok(Self::$variant)
+    }};
+    ($decoder:ident $by:ident $held:ident $of:ident $place:literal $variant:ident [$type:ty] $bounds:tt) => {{
+        let value = rasn_below::by_place::read::<$type, _>($decoder, $by, BOUNDS, $place)?;
+        Ok(Self::$variant(value))
+    }};
 }
