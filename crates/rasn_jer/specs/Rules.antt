@@ -1,6 +1,6 @@
 -- The rules of an encoder that writes JSON.
 use Rattle.std.specs.Prelude.{ℕ, suc, ◌<◌, ◌≡◌, ◌≢◌, ◌⊎◌, Bool, true, false, List, ◌++◌, length, Result, Ok, Err}
-use Rattle.std.specs.Prelude.{IfErr, IsErrAnd, OnOk}
+use Rattle.std.specs.Prelude.{IfErr, IfOk, IsErrAnd, OnOk}
 use Rattle.rasn_types.specs.Values.{Value}
 use Rattle.rasn_types.specs.declared.types.Codec.TheVariants.{Uper}
 use Rattle.rasn_schema.specs.Lawful.{is_group_schema}

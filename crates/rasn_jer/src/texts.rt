@@ -451,7 +451,7 @@ pub fn named_member<A: Allocator + Copy>(
     tag: Tag,
     text: &[u8],
 ) -> Result<Vec<u8, A>, AllocError>
-    ensures { IfOk result (λ whole. (name : List ℕ) × IsNameBy (option_map (λ s. s.now) identifier) name
+    ensures { IfOk result (λ whole. (name : List ℕ) × IsNameBy (option_map (λ s. s.now) identifier.entry) name
         × (whole.items ≡ enclosed_text 123 (member_text name text.now) 125)) }
 {
     match identifier {
