@@ -1,5 +1,7 @@
 //! A table of types behind a pointer that C has.
+ghost use Rattle.std.specs.Coded.{coded_option};
 ghost use Rattle.std.specs.Prelude.{◌≡◌, Some, None, Option};
+ghost use Rattle.per_c.specs.contracts.handle.Table.{the_row as table_row};
 ghost use Rattle.per_c.specs.Handles.{IsHeld, may_own};
 ghost use Rattle.per_c.specs.declared.handle.Table.{Table as a_table};
 
@@ -22,7 +24,7 @@ pub struct Handle {
     at: *mut u8,
     alloc: Global,
     /// The table.
-    pub ghost table: { Option a_table },
+    pub ghost table: { Option a_table } by { coded_option table_row.coded },
 }
 
 impl Model for Handle {
