@@ -14,10 +14,6 @@ from schema import Schema
 from table_values import ObjectSets, TableChooser, heights_of, tied
 from terms import values_of
 
-# A time is a VisibleString under another tag (X.680 46, 47), and is judged as one: asn1ct takes any text as a time.
-TIMES = re.compile("^(utc_time|generalized_time)$", re.M)
-AS_STRING = "visible_string 0 - - -"
-
 
 @dataclass(frozen=True, eq=False)
 class TableType:
@@ -57,7 +53,7 @@ class TableProtocol:
         schema.add_all(own)
         schema.judged()
         self.modules, self.schema = schema.modules, f"{folder}/types.schema"
-        written(self.schema, TIMES.sub(AS_STRING, schema.text({})))
+        written(self.schema, schema.text({}))
         self.heights, self.sets = heights_of(tied(self.modules)), ObjectSets(self.modules)
         self.known = [TableType((it.module, it.name), self.modules.use_of(it.module, it.name)) for it in schema.roots]
 
