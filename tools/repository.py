@@ -70,9 +70,9 @@ class Kit:
             raise Failure("there is no `rt` on the path")
         self.folder = os.path.dirname(os.path.dirname(os.path.realpath(rt)))
 
-    def check(self, crate, root):
-        """Returns the command that checks the crate whose root file this is, on one processor, less its libraries."""
-        words = [f"{self.folder}/bin/rattle", "check", "--crate-name", crate, root, "--jobs", "1"]
+    def check(self, crate, root, jobs=1):
+        """Returns the command that checks the crate whose root file this is, in so many jobs, less its libraries."""
+        words = [f"{self.folder}/bin/rattle", "check", "--crate-name", crate, root, "--jobs", str(jobs)]
         words += ["--antt-project", f"{self.folder}/rattle/logic/antt-project.json"]
         return [*words, "--logic-built", f"{self.folder}/logic_built", "-L", f"dependency={self.folder}/rlibs"]
 
