@@ -1,5 +1,6 @@
 """How many messages a second threads take that work at once, each on messages of its own, by the library for C."""
 import json
+import os
 
 from build import HERE, ran
 from inputs import AT_ONCE
@@ -12,10 +13,16 @@ THREADS = (1, 2, 4)
 LONGER = 5
 
 
+def library(folder):
+    """Returns the library for C: as `rt lib` left it in its crate, or else built over the libraries below."""
+    left = f"{PER_C}/out/libper_c.a"
+    return left if os.path.isfile(left) else static_library(folder.path)
+
+
 def build_program(folder):
-    """Builds the library for C, over the libraries below as the gate left them, and the program that calls it."""
+    """Builds the program that calls the library for C."""
     words = ["gcc", "-O2", "-pthread", f"-I{PER_C}/include", "-o", f"{folder.path}/bin/threads", f"{HERE}/c/threads.c"]
-    ran([*words, static_library(folder.path), f"{Kit().folder}/c/liblibc_c.a"], folder.path)
+    ran([*words, library(folder), f"{Kit().folder}/c/liblibc_c.a"], folder.path)
 
 
 def seconds(folder, message, count, threads):
