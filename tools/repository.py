@@ -4,7 +4,6 @@ import re
 import shutil
 
 TOP = os.path.dirname(os.path.dirname(os.path.realpath(__file__)))
-FURTHER = f"{TOP}/further"
 
 
 class Failure(Exception):
@@ -38,18 +37,6 @@ def read_crates(path=f"{TOP}/crates.txt"):
             if head.split():
                 crates[head.split()[0]] = re.findall(r"\w+", names)
     return crates
-
-
-def put_crate(name, to, **how):
-    """Puts a crate into a folder as shutil.copytree does. The files of one of further/ get their own names."""
-    source = f"{FURTHER}/{name}"
-    if not os.path.isdir(source):
-        shutil.copytree(folder_of(name), to, **how)
-        return
-    shutil.copytree(source, to)
-    for at, _, files in os.walk(to):
-        for file in filter(lambda it: it.endswith(".txt"), files):
-            os.rename(f"{at}/{file}", f"{at}/{file.removesuffix('.txt')}")
 
 
 def below(names, crates):

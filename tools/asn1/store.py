@@ -1,5 +1,4 @@
 """Puts crates into a repository: what this tool wrote there it may write again, and what a person changed it leaves."""
-import collections
 import hashlib
 import os
 import shutil
@@ -9,12 +8,6 @@ from notation import Refused
 
 # The file of a crate that says what the tool wrote there, as `sha256sum` does.
 SUMS = "asn1.sums"
-
-# Where crates stand in a repository: their folder, the list of their lines, and what their files' names end with beside
-# their kind. `rt ci` proves those of CRATES. It stops at .rt and .antt files elsewhere, so those of FURTHER end with .txt.
-Place = collections.namedtuple("Place", "folder lines ending")
-CRATES = Place("crates", "crates.txt", "")
-FURTHER = Place("further", "further/CRATES", ".txt")
 
 
 def read(path):
@@ -47,9 +40,8 @@ def sums_kept(folder):
     return {path: digits for digits, path in (line.split("  ", 1) for line in lines)}
 
 
-def formatted(room, files, places):
-    """Writes files of crates, by crate and path, into a room of their own, formats them, and ends their names as at their
-    places."""
+def formatted(room, files):
+    """Writes files of crates, by crate and path, into a room of their own, and formats them."""
     if not shutil.which("rt"):
         raise Refused("there is no `rt` on the path")
     write(f"{room}/crates.txt", "".join(f"{crate}:\n" for crate in files))
@@ -60,18 +52,16 @@ def formatted(room, files, places):
         ran = subprocess.run(["rt", "fmt"], cwd=f"{room}/crates/{crate}", **how)
         if ran.returncode:
             raise Refused(f"`rt fmt` refuses the pages of {crate}:\n{ran.stdout.strip()}")
-        for path in texts:
-            os.rename(f"{room}/crates/{crate}/{path}", f"{room}/crates/{crate}/{path}{places[crate].ending}")
 
 
-def expect_unchanged(room, top, places):
+def expect_unchanged(room, top, crates):
     """Refuses where a file of these crates is neither as the tool wrote it nor as it would now."""
-    for crate, place in places.items():
-        folder = f"{top}/{place.folder}/{crate}"
+    for crate in crates:
+        folder = f"{top}/crates/{crate}"
         kept, now = sums_kept(folder), sums_of(f"{room}/crates/{crate}")
         for path, digits in sorted(sums_of(folder).items()):
             if digits not in (kept.get(path), now.get(path)):
-                raise Refused(f"{place.folder}/{crate}/{path} was written or changed by hand: nothing is written")
+                raise Refused(f"crates/{crate}/{path} was written or changed by hand: nothing is written")
 
 
 def add_lines(path, lines):
@@ -84,12 +74,12 @@ def add_lines(path, lines):
     write(path, "\n".join([*texts, ""]))
 
 
-def put(room, top, files, lines, places):
-    """Formats the files of crates, and puts them and their lines into their places of the repository."""
-    formatted(room, files, places)
-    expect_unchanged(room, top, places)
+def put(room, top, files, lines):
+    """Formats the files of crates, and puts them and their lines into the repository."""
+    formatted(room, files)
+    expect_unchanged(room, top, files)
     for crate in files:
-        folder, new = f"{top}/{places[crate].folder}/{crate}", f"{room}/crates/{crate}"
+        folder, new = f"{top}/crates/{crate}", f"{room}/crates/{crate}"
         before, now = sums_of(folder), sums_of(new)
         for path in before.keys() - now.keys():
             os.remove(f"{folder}/{path}")
@@ -97,4 +87,4 @@ def put(room, top, files, lines, places):
             os.makedirs(os.path.dirname(f"{folder}/{path}"), exist_ok=True)
             shutil.copyfile(f"{new}/{path}", f"{folder}/{path}")
         write(f"{folder}/{SUMS}", "".join(f"{digits}  {path}\n" for path, digits in sorted(now.items())))
-        add_lines(f"{top}/{places[crate].lines}", {crate: lines[crate]})
+    add_lines(f"{top}/crates.txt", lines)

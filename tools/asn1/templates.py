@@ -2,6 +2,9 @@
 empty."""
 import re
 
+# The first line of each file, behind the sign of a comment.
+HEAD = "Written by tools/asn1/compile: change the ASN.1, not this file."
+
 RECORD = """
 @doc@
 @derives@
@@ -190,6 +193,11 @@ impl Limits for @limits@ {
     ghost LIMITS = { @words@ };
 }
 """
+
+
+def headed(path, text):
+    """Returns the text of the file of this path under its first line."""
+    return f"{'--' if path.endswith('.antt') else '//'} {HEAD}\n{text}"
 
 
 def filled(template, **values):

@@ -3,10 +3,6 @@ import collections
 
 from items import Items
 from notation import Refused, needed, read_modules
-from store import CRATES, FURTHER
-
-# What stands in front of the name of a crate that stands there.
-IN_FURTHER = f"{FURTHER.folder}/"
 
 
 def name_of(word):
@@ -18,18 +14,11 @@ def name_of(word):
 
 
 def crate_word(word):
-    """Returns the module and the crate of a word MODULE[.NAME]=[further/]CRATE, and the name or an empty text."""
-    where, equals, place = word.partition("=")
-    crate = place.removeprefix(IN_FURTHER)
+    """Returns the module and the crate of a word MODULE[.NAME]=CRATE, and the name or an empty text."""
+    where, equals, crate = word.partition("=")
     if not equals or not crate.isidentifier():
         raise Refused(f"--crate {word} isn't written MODULE=CRATE or MODULE.NAME=CRATE")
     return (*name_of(where), crate) if "." in where else (where, "", crate)
-
-
-def places_of(crates, words):
-    """Returns where each of these crates stands, by the words of a call that place them."""
-    further = {crate_word(word)[2] for word in words if f"={IN_FURTHER}" in word}
-    return {crate: FURTHER if crate in further else CRATES for crate in crates}
 
 
 def modules_wanted(files, types, crates):

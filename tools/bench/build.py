@@ -8,7 +8,8 @@ import subprocess
 from inputs import MESSAGES, SCHEMAS, TYPES, lines, octets_line
 from osmocom import FLAGS, OTHER_LIBRARIES, put_aligned
 from program import built_program
-from repository import FURTHER, TOP, Failure, below, put_crate, read_crates
+from protocol_crates import Pages
+from repository import TOP, Failure, below, read_crates
 
 HERE = os.path.dirname(os.path.realpath(__file__))
 VARIANTS = ("uper", "aper")
@@ -112,12 +113,14 @@ def write_inputs(folder):
 
 
 def build_this_project(folder):
-    """Proves and builds the programs in Rattle, in a copy of the libraries below, which are there as they are proved."""
-    crates, copy = {**read_crates(), **read_crates(f"{FURTHER}/CRATES")}, f"{folder.path}/copy"
+    """Proves and builds the programs in Rattle, in a copy of the libraries below, which are there as they are proved. NGAP's
+    pages are written for them."""
+    pages = Pages(f"{folder.path}/fetched", f"{folder.path}/pages", ["ngap"])
+    crates, copy = {**read_crates(), **pages.lines}, f"{folder.path}/copy"
     found = below(sum(LIBRARIES.values(), []), crates)
     for name in found:
         shutil.rmtree(f"{copy}/crates/{name}", ignore_errors=True)
-        put_crate(name, f"{copy}/crates/{name}", copy_function=copied)
+        pages.put_crate(name, f"{copy}/crates/{name}", copy_function=copied)
     lines = [f"{name}: {' '.join(crates[name])}\n" for name in found]
     lines += [f"bench_{name}: {' '.join(it)} anyhow hex\n" for name, it in LIBRARIES.items()]
     folder.written("copy/crates.txt", "".join(lines))

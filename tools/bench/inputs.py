@@ -130,7 +130,7 @@ def put_choice(to):
     put_inner(to, 1, b"\x12\x34\x56")
 
 
-def put_behind(to, octets):
+def put_after(to, octets):
     to.put(1, 1)
     put_counted(to, octets)
 
@@ -146,8 +146,8 @@ def kinds():
         "integer": ("INTEGER", lambda to: put_integer(to, 43554344223)),
         "octets1k": ("OCTET STRING of 1 KiB", lambda to: put_counted(to, short)),
         "octets1m": ("OCTET STRING of 1 MiB", lambda to: put_counted(to, long)),
-        "behind1k": ("the same of 1 KiB behind a bit", lambda to: put_behind(to, short)),
-        "behind1m": ("the same of 1 MiB behind a bit", lambda to: put_behind(to, long)),
+        "behind1k": ("the same of 1 KiB behind a bit", lambda to: put_after(to, short)),
+        "behind1m": ("the same of 1 MiB behind a bit", lambda to: put_after(to, long)),
         "visible1k": ("VisibleString of 1 KiB", lambda to: put_visible(to, text)),
         "optional": ("record with optional components", lambda to: put_optional(to, b"\1\2\3\4\5")),
         "list": ("list of 100 records", lambda to: put_list(to, numbers)),

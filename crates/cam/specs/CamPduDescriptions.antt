@@ -1,3 +1,4 @@
+-- Written by tools/asn1/compile: change the ASN.1, not this file.
 -- The module CAM-PDU-Descriptions: below each definition in ASN.1 stands what the theorem takes it for.
 use Rattle.its_container.specs.ItsContainer.{acceleration_control, cause_code, cen_dsrc_tolling_zone, closed_lanes}
 use Rattle.its_container.specs.ItsContainer.{curvature, curvature_calculation_mode, dangerous_goods_basic}

@@ -1,3 +1,4 @@
+// Written by tools/asn1/compile: change the ASN.1, not this file.
 //! BasicVehicleContainerHighFrequency, of the module CAM-PDU-Descriptions.
 
 ghost use Rattle.cam.specs.CamPduDescriptions.{basic_vehicle_container_high_frequency_lists};

@@ -1,3 +1,4 @@
+// Written by tools/asn1/compile: change the ASN.1, not this file.
 //! CoopAwareness, of the module CAM-PDU-Descriptions.
 
 ghost use Rattle.cam.specs.CamPduDescriptions.{coop_awareness_lists};

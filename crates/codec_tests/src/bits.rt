@@ -38,7 +38,7 @@ fn bit_of(number: u128, place: usize) -> bool {
     place < 128 && number >> place & 1 == 1
 }
 
-/// So many ones, and behind them the low bits of a number, pushed one by one.
+/// So many ones, and after them the low bits of a number, pushed one by one.
 fn ones_and_number(
     alloc: Global,
     start: usize,
@@ -57,7 +57,7 @@ fn are_same(one: &BitList<Global>, other: &BitList<Global>) -> bool {
     one.len() == other.len() && one.as_octets() == other.as_octets()
 }
 
-/// Whether a number that is pushed behind ones is there as its bits pushed one by one.
+/// Whether a number that is pushed after ones is there as its bits pushed one by one.
 fn pushes_alike(
     alloc: Global,
     start: usize,
@@ -103,7 +103,7 @@ fn number_at(start: usize, width: usize) -> u128 {
     number
 }
 
-/// Whether a number that is read behind some bits is that of its bits one by one.
+/// Whether a number that is read after some bits is that of its bits one by one.
 fn reads_alike(start: usize, width: usize) -> bool {
     let mut reader = BitReader::from_octets(&OCTETS);
     let is_there = reader.take(start as u128).is_ok();
@@ -119,7 +119,7 @@ fn reads_each_width_at_each_place(rt: HostRuntime) {
     }
 }
 
-/// The octets of a bit, of others' bits and of octets behind it.
+/// The octets of a bit, of others' bits and of octets after it.
 fn appended(alloc: Global) -> Result<Vec<u8>, AllocError> {
     let other = BitList::from_octets(alloc, &[0xa5])?;
     let mut list = ones(alloc, 1)?;
@@ -137,8 +137,8 @@ fn appends_octets_and_readers(rt: HostRuntime) -> Result<(), Fail> {
     Ok(())
 }
 
-/// The octets of `count` bits of a reader behind the first `begin`, where they are octets.
-fn octets_behind<'input>(
+/// The octets of `count` bits of a reader after the first `begin`, where they are octets.
+fn octets_after<'input>(
     reader: &BitReader<'input>,
     begin: u128,
     count: u128,
@@ -149,7 +149,7 @@ fn octets_behind<'input>(
 }
 
 /// The place of the first bit behind so many of a reader's.
-fn place_behind(reader: &BitReader<'_>, begin: u128) -> Option<u32> {
+fn place_after(reader: &BitReader<'_>, begin: u128) -> Option<u32> {
     let mut rest = reader.clone().unwrap();
     rest.take(begin).ok()?;
     Some(rest.place())
@@ -173,7 +173,7 @@ fn lends_octets_that_stand_on_octets(rt: HostRuntime) {
     let reader = BitReader::from_octets(&[0xa5, 0x3c, 0xff]);
     for (begin, count, octets) in LENT {
         assert!(rt;
-            octets_behind(&reader, begin, count) == octets,
+            octets_after(&reader, begin, count) == octets,
             "{count} behind {begin}"
         );
     }
@@ -184,7 +184,7 @@ fn tells_the_place_of_its_first_bit(rt: HostRuntime) {
     let reader = BitReader::from_octets(&[0xa5, 0x3c]);
     for (begin, place) in [(0, 0), (1, 1), (7, 7), (8, 0), (11, 3), (16, 0)] {
         assert!(rt;
-            place_behind(&reader, begin) == Some(place),
+            place_after(&reader, begin) == Some(place),
             "behind {begin}"
         );
     }

@@ -15,7 +15,7 @@ use rasn_per::bits::BitReader;
 use rasn_per::per::de::{DecodeError, Decoder, DecoderOptions};
 use rasn_per::uper::{
     DecodeErrorKind, EncodeError, EncodeErrorKind, ParserFailCause, decode_with_constraints,
-    decode_with_remainder, encode_buf, lawful,
+    decode_with_remainder, encode_buf, encode_onto, lawful,
 };
 use std::alloc::Global;
 use std::test::Fail;
@@ -23,7 +23,7 @@ use std::test::Fail;
 /// The codecs of both variants.
 const BOTH: &[Codec] = &[Codec::Aper, Codec::Uper];
 
-/// TRUE and FALSE, behind an extension bit 0.
+/// TRUE and FALSE, after an extension bit 0.
 const OUTER: &[u8] = &[0x40];
 
 const READ: Outer1 = Outer1 {
@@ -89,9 +89,9 @@ fn names_what_no_value_begins_with(rt: HostRuntime) {
     }
 }
 
-/// TRUE, and two octets behind it.
+/// TRUE, and two octets after it.
 #[test]
-fn answers_what_stands_behind_a_value(rt: HostRuntime) {
+fn answers_what_stands_after_a_value(rt: HostRuntime) {
     match decode_with_remainder::<bool>(rt.alloc(), &[0x80, 0xaa, 0xbb]) {
         Ok((value, behind)) => {
             expect_equal(&rt, &value, &true);
@@ -142,6 +142,8 @@ fn leaves_no_octets_of_a_refused_value(rt: HostRuntime) -> Result<(), Fail> {
     let mut buffer = Vec::new(rt.alloc());
     let written = refusal_of(rt.alloc(), b"ABCDEABCDE", &mut buffer)?;
     expect_equal(&rt, &written, &None);
+    encode_onto(&READ, &mut buffer)?;
+    expect_equal(&rt, &buffer.pop(), &Some(0x40));
     expect_items(&rt, buffer.as_slice(), &[0x48, 0x29, 0xc0, 0x53, 0x80]);
     let refused = refusal_of(rt.alloc(), b"AF", &mut buffer)?;
     expect_equal(&rt, &refused, &Some(NOT_PERMITTED));

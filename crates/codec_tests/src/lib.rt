@@ -1,7 +1,7 @@
 //! Tests of what no clause says of values (`rasn_types`, `rasn_strings`, `rasn_constraints`), of bits
 //! (`per_bits`), of the calls (`rasn_per`, `per_versions`, `per_located`, `rasn_jer`) and of pages, and
 //! no row of `rows/` or `vectors/` has: outside vectors, printed text, that calls succeed, what `uper` says of what it
-//! refuses, where octets are refused, and which are lent.
+//! refuses, and where octets are refused.
 #![tactic(auto)]
 
 #[cfg(test)]
@@ -16,8 +16,6 @@ mod copies;
 mod expected;
 #[cfg(test)]
 mod identifiers;
-#[cfg(test)]
-mod lending;
 #[cfg(test)]
 mod located;
 #[cfg(test)]

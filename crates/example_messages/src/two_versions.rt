@@ -1,4 +1,4 @@
-//! Two versions of a message talk to each other: the second has an addition behind the extension marker.
+//! Two versions of a message talk to each other: the second has an addition after the extension marker.
 
 ghost use Rattle.per_core.specs.Versions.{NewerType};
 

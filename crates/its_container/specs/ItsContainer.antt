@@ -1,3 +1,4 @@
+-- Written by tools/asn1/compile: change the ASN.1, not this file.
 -- The module ITS-Container: below each definition in ASN.1 stands what the theorem takes it for.
 use Rattle.rasn_below.specs.Page.{Component, TypeLists, automatic, big, bit_string, boolean, enumerated, extensible}
 use Rattle.rasn_below.specs.Page.{extensible_automatic, extensible_enumerated, i16, i32, i8, integer, minus◌to◌}

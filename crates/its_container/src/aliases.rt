@@ -1,3 +1,4 @@
+// Written by tools/asn1/compile: change the ASN.1, not this file.
 //! Names for types under constraints, for lists, and for numbers and bits.
 
 use crate::path_point::PathPoint;

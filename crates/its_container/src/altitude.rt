@@ -1,3 +1,4 @@
+// Written by tools/asn1/compile: change the ASN.1, not this file.
 //! Altitude, of the module ITS-Container.
 
 ghost use Rattle.its_container.specs.ItsContainer.{altitude_lists};

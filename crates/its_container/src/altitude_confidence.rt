@@ -1,3 +1,4 @@
+// Written by tools/asn1/compile: change the ASN.1, not this file.
 //! AltitudeConfidence, of the module ITS-Container.
 
 ghost use Rattle.its_container.specs.declared.altitude_confidence.AltitudeConfidence.TheVariants.{Alt000_01, Alt000_02};

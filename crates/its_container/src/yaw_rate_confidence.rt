@@ -1,3 +1,4 @@
+// Written by tools/asn1/compile: change the ASN.1, not this file.
 //! YawRateConfidence, of the module ITS-Container.
 
 ghost use Rattle.its_container.specs.declared.yaw_rate_confidence.YawRateConfidence.TheVariants.{DegSec000_01};

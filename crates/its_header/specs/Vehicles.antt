@@ -1,4 +1,4 @@
--- VehicleState ::= SEQUENCE { heading INTEGER (0..3601), .. }: the components stand in the order of the type
+-- VehicleState ::= SEQUENCE { heading INTEGER (0..3601), .. }: the components are in the order of the type
 use Rattle.std.specs.Prelude.{[], ◌∷◌}
 use Rattle.rasn_below.specs.Page.{automatic, integer, boolean, i16, i32, i8, u16, u32, u8, ◌to◌, minus◌to◌, TypeLists}
 

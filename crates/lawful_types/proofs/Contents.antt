@@ -8,7 +8,7 @@ use Rattle.rasn_types.specs.Contents.{Arc, arcs_after, is_identifier, next_arc}
 abbrev pub arcs_from_first : List ℕ → Bool
 arcs_from_first os = arcs_after (Some (record { begun = false; value = 0; bound = 2 ^ 32 + 80 })) os
 
--- an octet that may not stand where it does
+-- an octet that may not be where it does
 pub stopped : (s : Arc) (os : List ℕ) (i : ℕ) → i < length os → next_arc s (get_or os i 0) ≡ None → arcs_after (Some s) (drop i os) ≡ false
 stopped s os i l e = ap (arcs_after (Some s)) (drop-cons os i 0 l) ∙ ap (λ o. arcs_after o (drop (suc i) os)) e
 

@@ -67,7 +67,7 @@ closed_more ts' ts ps qs i p e (rest, f) h all =
 pub closed_all : (ts' ts : List Kind) (ps : List Pair) (i : ℕ) → length ps ≤ i → All (IsNewerPair ts' ts ps) (take i ps) → AreClosed ts' ts ps
 closed_all ts' ts ps i l all = subst (λ x. All (IsNewerPair ts' ts ps) x) (take_all i ps l) all
 
--- where nothing stands at a place, the list has ended
+-- where nothing is at a place, the list has ended
 pub past : (ps : List Pair) (i : ℕ) → slice_get ps i ≡ None → length ps ≤ i
 past [] i e = omega arith
 past (p ∷ ps) zero e = absurd cc

@@ -30,12 +30,12 @@ use Rattle.rasn_dynamic.specs.Types.{alternatives_in, at_place, behind, default_
 use Rattle.rasn_dynamic.proofs.Levelled.{schema_levels}
 use Rattle.rasn_dynamic.proofs.SameDefaults.{same_self}
 use Rattle.per_laws.specs.Levels.{levels_of}
-use Rattle.per_laws.proofs.FewVersions.{levelled_holds}
+use Rattle.per_laws.proofs.VersionsAt128Levels.{levelled_holds}
 use Rattle.per_laws.proofs.Levelled.{levelled_type_unfolds}
 use Rattle.lawful_types.specs.declared.fault.Reason.{Reason}
 use Rattle.lawful_types.specs.declared.fault.Reason.TheVariants as Reasons
 use Rattle.lawful_types.specs.declared.fault.Fault.{Fault}
-use Rattle.lawful_types.specs.Keeps.{deepest_default, default_levels, held_levels, IsFaultOf, has_lawful_default, is_default_of, is_default_of_plain, is_default_of_simple, is_default_tree_of, is_default_within, is_lawful_kind, is_right, keeps, keeps_bounds, keeps_defaults, keeps_presence_bits, keeps_size, keeps_tags, tags_of, tree_levels}
+use Rattle.lawful_types.specs.TypeRules.{deepest_default, default_levels, held_levels, IsFaultOf, has_lawful_default, is_default_of, is_default_of_plain, is_default_of_simple, is_default_tree_of, is_default_within, is_lawful_kind, is_right, keeps, keeps_bounds, keeps_defaults, keeps_presence_bits, keeps_size, keeps_tags, tags_of, tree_levels}
 use Rattle.lawful_types.proofs.OneKind.{one_right}
 use Rattle.lawful_types.proofs.Passing.{and_true, passes_at}
 

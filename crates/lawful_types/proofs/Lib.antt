@@ -5,11 +5,11 @@ pub mod Values
 pub mod Closed
 pub mod Fronts
 pub mod Leaves
-pub mod Oks
+pub mod OkAnswers
 pub mod Parts
 pub mod Presences
 pub mod SameValues
-pub mod Within
+pub mod ContainingTypes
 pub mod OneKind
 pub mod RightTrees
 pub mod Pairwise

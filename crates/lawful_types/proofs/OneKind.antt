@@ -8,7 +8,7 @@ use Rattle.rasn_schema.specs.Schemas.{Presence, required, optional, group, defau
 use Rattle.per_core.proofs.LengthForms.{or_left, or_right}
 use Rattle.per_laws.proofs.NormalForms.{one_normal_form}
 use Rattle.per_laws.proofs.Types.{up_to}
-use Rattle.lawful_types.specs.Keeps.{is_right}
+use Rattle.lawful_types.specs.TypeRules.{is_right}
 
 -- tests that agree where another is false
 all_alike : (f g K : Value → Bool) → ((v : Value) → K v ≡ false → f v ≡ g v) → (vs : List Value) → any_of K vs ≡ false → all_pass f vs ≡ all_pass g vs

@@ -1,4 +1,4 @@
--- Kinds in which others stand are newer where what stands within is.
+-- Kinds in which others stand are newer where what is within is.
 use Rattle.std.proofs.Common.{◌≡◌, refl, sym, subst, ℕ, zero, suc, ◌+◌, ◌<◌, ◌≤◌, Bool, true, false, List, [], ◌∷◌, length, Option, Some, None, arith, below_more}
 use Rattle.std.specs.Prelude.{is_some, slice_get}
 use Rattle.std.specs.Global.{Vec}

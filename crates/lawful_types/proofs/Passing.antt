@@ -6,7 +6,7 @@ use Rattle.rasn_schema.specs.Lawful.{all_pass, is_new, same_tag}
 use Rattle.rasn_schema.specs.Schemas.{Tag}
 use Rattle.rasn_schema.proofs.Places.{and_first, and_second}
 use Rattle.rasn_dynamic.specs.declared.types.Alternative.{Alternative}
-use Rattle.lawful_types.specs.Keeps.{tags_of}
+use Rattle.lawful_types.specs.TypeRules.{tags_of}
 
 pub and_true : (a b : Bool) → a ≡ true → b ≡ true → (a && b) ≡ true
 and_true a b e f = rw (e, f) refl

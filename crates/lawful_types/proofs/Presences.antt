@@ -10,7 +10,7 @@ use Rattle.rasn_dynamic.specs.declared.types.Presence.{Presence}
 use Rattle.rasn_dynamic.specs.declared.types.Presence.TheVariants.{Default, Group, Optional, Required}
 use Rattle.rasn_dynamic.specs.Defaults.{groups}
 use Rattle.rasn_dynamic.specs.Types.{presence_of, required_in, tree_value}
-use Rattle.lawful_types.specs.Keeps.{is_default_tree_of}
+use Rattle.lawful_types.specs.TypeRules.{is_default_tree_of}
 use Rattle.lawful_types.specs.OneLevel.{IsNewerPresence}
 use Rattle.lawful_types.proofs.SameValues.{is_widened}
 

@@ -35,7 +35,7 @@ use Rattle.rasn_dynamic.proofs.ComparedParts.{group_stands, settle_part}
 use Rattle.rasn_dynamic.proofs.Comparing.{same_chosen}
 use Rattle.rasn_dynamic.proofs.NormalForms.{chosen_normal, idle_pairs, lists_same, past_none, records_same, shape, within_normal}
 use Rattle.rasn_dynamic.proofs.Places.{containing_there, none_there, plain_there, record_there}
-use Rattle.lawful_types.specs.Keeps.{is_default_of, is_right, is_right_slot, list_of, tree_levels}
+use Rattle.lawful_types.specs.TypeRules.{is_default_of, is_right, is_right_slot, list_of, tree_levels}
 use Rattle.lawful_types.proofs.Lawful.{plain_right}
 use Rattle.lawful_types.proofs.Pairwise.{pairs_mapped}
 use Rattle.lawful_types.proofs.SameTrees.{unrecorded}
@@ -63,7 +63,7 @@ pub record_levels : (rs xs : List DefaultTree) → levels_of (record_value (map 
 unfolding levels_of
 record_levels rs xs = ap₂ (λ a b. suc (max a b)) (slots_deep rs) (slots_deep xs)
 
--- ---- what stands at a place, or is contained there
+-- ---- what is at a place, or is contained there
 
 within_value : (ts : List Kind) (i n : ℕ) (v : Value) → is_value (schema_at ts i n) v ≡ is_value (at_place (λ k. plain_at ts k n) (within ts (slice_get ts i))) v
 unfolding is_value
@@ -341,7 +341,7 @@ pub fits : (b : Bool) (ts : List Kind) (n k : ℕ) (c : Component) (o : Option V
 fits b ts zero k c o t r g le e f h l v = absurd (omega (arith, le))
 fits b ts (suc n) k c o t r g le e f h l v = part_right b ts (suc n) c o t r g e f h l (v n)
 
--- ---- what holds values, by what stands at its place
+-- ---- what holds values, by what is at its place
 
 module _ (ts : List Kind) (i : ℕ) (ds : List DefaultTree) where
   abbrev pub IsListTold : Bool → Type 0
@@ -372,7 +372,7 @@ module _ (ts : List Kind) (i : ℕ) (ds : List DefaultTree) where
         h.at n m ∙ ap (is_right (schema_at ts i n)) e;
   }
 
--- a list or a record that stands somewhere
+-- a list or a record that is somewhere
 listed_there : (o : Option Kind) (j : ℕ) → list_of o ≡ Some j → (c : _) × (o ≡ Some (ListKind j c))
 listed_there (Some (ListKind i c)) j e = let h : i ≡ j = cc in (c, ap (λ k. Some (ListKind k c)) h)
 listed_there None j e = absurd cc
@@ -461,7 +461,7 @@ alternative_told ts i p w d b e h = record { at = go }
     go (suc zero) le = absurd (omega (arith, le))
     go (suc (suc n)) le = h.at (suc n) (omega (arith, le, k)) ∙ sym (chosen_right ts i n p (tree_value w)) ∙ ap (is_right (schema_at ts i (suc (suc n)))) e
 
--- ---- groups that hold nothing, by what stands there
+-- ---- groups that hold nothing, by what is there
 
 module _ (r : Record) (rs xs : List DefaultTree) (d : DefaultTree) where
   both_idle : (a b : Bool) → a ≡ all_pairs (λ c d. idle_test c (tree_slot d)) r.root.items rs → b ≡ all_pairs (λ c d. idle_test c (tree_slot d)) (behind r.additions) xs → record_value (map tree_slot rs) (map tree_slot xs) ≡ tree_value d

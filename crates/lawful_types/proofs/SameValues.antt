@@ -10,13 +10,13 @@ use Rattle.rasn_schema.specs.Schemas
 use Rattle.rasn_schema.specs.Schemas.{Parts, Presence, Schema}
 use Rattle.rasn_schema.proofs.Places.{and_first, and_second}
 use Rattle.per_core.specs.Versions.{IsPlain, IsWidened, Newer, NewerParts, also, made, made_both, more_items, more_parts, newer_containing, newer_list, newer_set_of, newer_sequence, newer_choice, no_more, project, project_at, project_slots, slot_through, slots_through, through_alternative, through_bag, through_elements, through_fields, through_item, unchanged, widen, widen_at, widen_slots}
-use Rattle.per_laws.proofs.FewVersions.{levelled_holds}
+use Rattle.per_laws.proofs.VersionsAt128Levels.{levelled_holds}
 use Rattle.per_laws.proofs.Levelled.{levelled_type_unfolds}
 use Rattle.per_laws.proofs.Types.{up_to}
 use Rattle.rasn_dynamic.specs.declared.types.Kind.{Kind}
 use Rattle.rasn_dynamic.specs.Types.{schema_at, tree_value}
 use Rattle.rasn_dynamic.proofs.Levelled.{schema_levels}
-use Rattle.lawful_types.specs.Keeps.{tree_levels}
+use Rattle.lawful_types.specs.TypeRules.{tree_levels}
 use Rattle.lawful_types.specs.OneLevel.{IsValueOf, KeepDefaults}
 use Rattle.lawful_types.proofs.OneKind.{value_alike}
 

@@ -23,7 +23,7 @@ use Rattle.rasn_traits.specs.Counted.{item_at, stands_in}
 use Rattle.rasn_dynamic.specs.declared.types.Simple.{Simple}
 use Rattle.rasn_dynamic.specs.declared.types.Simple.TheVariants.{OctetString, Open, Text}
 use Rattle.rasn_dynamic.specs.Types.{behind, default_value, of_size}
-use Rattle.lawful_types.specs.Keeps.{is_default_of_named, is_default_of_simple}
+use Rattle.lawful_types.specs.TypeRules.{is_default_of_named, is_default_of_simple}
 
 pub no_truth : (d : DefaultValue) → ((b : Bool) → d ≡ TheVariants.Boolean b → ⊥) → is_value Schemas.boolean (default_value d) ≡ false
 unfolding is_value
@@ -79,10 +79,10 @@ octets_kind k d (inl h) = rw h.1 refl
 octets_kind k d (inr (inl h)) = rw h (other_text (default_value d))
 octets_kind k d (inr (inr h)) = rw h refl
 
--- as many items behind the extension marker
-pub behind_counted : {A : Type 0} (o : Option (Vec A)) → length (behind o) ≡ addeds_of (option_map (λ v. length v.items) o)
-behind_counted None = refl
-behind_counted (Some v) = refl
+-- as many items after the extension marker
+pub after_counted : {A : Type 0} (o : Option (Vec A)) → length (behind o) ≡ addeds_of (option_map (λ v. length v.items) o)
+after_counted None = refl
+after_counted (Some v) = refl
 
 -- the item at a place
 pub this_item : (c : ItemCounts) (p : Place) → stands_in c p ≡ is_value (items_of c) (item_at p)

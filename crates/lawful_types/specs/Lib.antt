@@ -1,4 +1,4 @@
-pub mod Inside
-pub mod Keeps
+pub mod PlacesInside
+pub mod TypeRules
 pub mod Subidentifiers
 pub mod OneLevel

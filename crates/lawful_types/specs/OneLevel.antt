@@ -1,5 +1,5 @@
 -- When a type of one table is a newer version of a type of another (ITU-T X.680, 52), wherever the listed pairs of the
--- types that stand within are. The newer table comes first.
+-- types that are within are. The newer table comes first.
 use Rattle.std.specs.Prelude.{ℕ, ℤ, ◌≡◌, Bool, true, List, ◌++◌, Option, Contains, slice_get}
 use Rattle.std.specs.List.{All}
 use Rattle.rasn_constraints.specs.Constraints.{bounds_of, size_between}
@@ -18,7 +18,7 @@ use Rattle.rasn_dynamic.specs.declared.types.DefaultTree.{DefaultTree}
 use Rattle.rasn_dynamic.specs.declared.types.Kind.{Kind}
 use Rattle.rasn_dynamic.specs.Defaults.{groups}
 use Rattle.rasn_dynamic.specs.Types.{alternatives_in, at_place, kind_in, parts_in, plain_in, presence_of, tree_value}
-use Rattle.lawful_types.specs.Keeps.{is_default_tree_of}
+use Rattle.lawful_types.specs.TypeRules.{is_default_tree_of}
 use Rattle.lawful_types.specs.declared.pairs.Pair.{Pair}
 
 -- a list is the front of another
@@ -54,7 +54,7 @@ IsNewerPlain ts' ts ps k' k = (s' s : ℕ → Schema) (n : ℕ) → AreVersions 
 abbrev pub IsOpen : Kind → Type 0
 IsOpen k = (ts : List Kind) (s : ℕ → Schema) (n : ℕ) → plain_in ts s n k ≡ Schemas.any
 
--- what stands within octets that contain it, if anything does
+-- what is within octets that contain it, if anything does
 abbrev pub IsNewerWithin : List Kind → List Kind → List Pair → Option Kind → Option Kind → Type 0
 IsNewerWithin ts' ts ps o' o = (s' s : ℕ → Schema) (n : ℕ) → AreVersions ts' ts ps s' s
     → Newer (at_place (plain_in ts' s' n) o') (at_place (plain_in ts s n) o)
@@ -64,7 +64,7 @@ abbrev pub IsNewerKind : List Kind → List Kind → List Pair → Kind → Kind
 IsNewerKind ts' ts ps k' k = (s' s : ℕ → Schema) (n : ℕ) → AreVersions ts' ts ps s' s
     → Newer (kind_in ts' s' n k') (kind_in ts s n k)
 
--- what stands at the places of a pair, if anything does
+-- what is at the places of a pair, if anything does
 abbrev pub IsNewerPair : List Kind → List Kind → List Pair → Pair → Type 0
 IsNewerPair ts' ts ps p = (s' s : ℕ → Schema) (n : ℕ) → AreVersions ts' ts ps s' s
     → Newer (at_place (kind_in ts' s' n) (slice_get ts' p.newer)) (at_place (kind_in ts s n) (slice_get ts p.older))
@@ -73,7 +73,7 @@ IsNewerPair ts' ts ps p = (s' s : ℕ → Schema) (n : ℕ) → AreVersions ts' 
 abbrev pub AreClosed : List Kind → List Kind → List Pair → Type 0
 AreClosed ts' ts ps = All (IsNewerPair ts' ts ps) ps
 
--- whether a component has to be there, wherever its type is newer; by whether it stands behind an extension marker
+-- whether a component has to be there, wherever its type is newer; by whether it is after an extension marker
 abbrev pub IsNewerPresence : Bool → List Kind → List Kind → Component → Component → Type 0
 IsNewerPresence behind ts' ts c' c = (s' s : ℕ → Schema) → Newer (s' c'.of) (s c.of) → KeepDefaults ts' s'
     → KeepDefaults ts s
@@ -86,7 +86,7 @@ pub record IsNewerComponent (behind : Bool) (ts' ts : List Kind) (ps : List Pair
   pub listed : IsListed ps c'.of c.of
   pub presence : IsNewerPresence behind ts' ts c' c
 
--- the components before an extension marker, or those behind it, where there may be more
+-- the components before an extension marker, or those after it, where there may be more
 abbrev pub AreNewerComponents : Bool → List Kind → List Kind → List Pair → List Component → List Component → Type 0
 AreNewerComponents behind ts' ts ps cs' cs = (s' s : ℕ → Schema) → AreVersions ts' ts ps s' s
     → NewerParts behind (parts_in (groups behind ts') s' cs') (parts_in (groups behind ts) s cs)
@@ -96,7 +96,7 @@ pub record IsNewerAlternative (ps : List Pair) (c' c : Alternative) : Type 0 whe
   pub tag : tag_of c'.tag ≡ tag_of c.tag
   pub listed : IsListed ps c'.of c.of
 
--- the alternatives before an extension marker, or those behind it, where there may be more
+-- the alternatives before an extension marker, or those after it, where there may be more
 abbrev pub AreNewerAlternatives : Bool → List Pair → List Alternative → List Alternative → Type 0
 AreNewerAlternatives behind ps cs' cs = (s' s : ℕ → Schema) → ((i j : ℕ) → IsListed ps i j → Newer (s' i) (s j))
     → NewerParts behind (alternatives_in s' cs') (alternatives_in s cs)

@@ -4,7 +4,7 @@ ghost use Rattle.std.specs.Prelude.{◌≡◌, ◌≤◌, IfOk, false, is_some, 
 ghost use Rattle.rasn_schema.specs.Structures.{tag_of};
 ghost use Rattle.rasn_schema.specs.Lawful.{same_tag};
 ghost use Rattle.rasn_dynamic.specs.Types.{required_in, tree_value};
-ghost use Rattle.lawful_types.specs.Keeps.{is_default_tree_of};
+ghost use Rattle.lawful_types.specs.TypeRules.{is_default_tree_of};
 ghost use Rattle.lawful_types.specs.OneLevel.{AreNewerAlternatives, AreNewerComponents, IsFront};
 ghost use Rattle.lawful_types.specs.OneLevel.{IsNewerAlternative, IsNewerComponent, IsNewerPresence};
 
@@ -15,7 +15,7 @@ use crate::same_defaults::are_same;
 use rasn_dynamic::types::{Alternative, Component, DefaultTree, Kind, Presence, required_in};
 use rasn_types::types::Tag;
 
-/// Compares the components of two records, each with the one in its place, and lists the pairs of their types. Behind
+/// Compares the components of two records, each with the one in its place, and lists the pairs of their types. After
 /// an extension marker the newer one may have more.
 pub(crate) fn compare_components(
     behind: bool,
@@ -37,7 +37,7 @@ pub(crate) fn compare_components(
     Ok(())
 }
 
-/// Compares how many components or alternatives there are: no fewer, and more only behind an extension marker.
+/// Compares how many components or alternatives there are: no fewer, and more only after an extension marker.
 fn compare_counts(behind: bool, newer: usize, older: usize) -> Result<(), Reason>
     ensures none_left_out { IfOk result (λ done. older ≤ newer) }
     ensures none_put_in { IfOk result (λ done. behind ≡ false → newer ≤ older) }
@@ -78,7 +78,7 @@ fn are_same_tag(newer: Tag, older: Tag) -> bool
     newer.class as u8 == older.class as u8 && newer.value == older.value
 }
 
-/// Compares whether two components have to be there, and their defaults. The type of a group behind an extension marker
+/// Compares whether two components have to be there, and their defaults. The type of a group after an extension marker
 /// is a SEQUENCE (X.680 25.1).
 fn compare_presences(
     behind: bool,
@@ -104,7 +104,7 @@ fn compare_presences(
     }
 }
 
-/// Whether a SEQUENCE stands at a place of a table.
+/// Whether a SEQUENCE is at a place of a table.
 fn is_record(kinds: &[Kind], place: usize) -> bool
     ensures { result ≡ is_some (required_in (slice_get kinds.now place)) }
 {
@@ -136,7 +136,7 @@ fn compare_defaults(
     Ok(())
 }
 
-/// Compares the alternatives of two choices, each with the one in its place, and lists the pairs of their types. Behind
+/// Compares the alternatives of two choices, each with the one in its place, and lists the pairs of their types. After
 /// an extension marker the newer one may have more.
 pub(crate) fn compare_alternatives(
     behind: bool,

@@ -10,7 +10,7 @@ ghost use Rattle.rasn_dynamic.specs.declared.types.Kind.{Kind};
 ghost use Rattle.rasn_dynamic.specs.Defaults.{all_pairs, group_of, record_of};
 ghost use Rattle.rasn_dynamic.specs.Types.{presence_of, record_schema, schema_at, tree_slot};
 ghost use Rattle.rasn_dynamic.specs.Types.{tree_value, within};
-ghost use Rattle.lawful_types.specs.Keeps.{is_default_tree_of, is_right, list_of, is_right_slot, tree_levels};
+ghost use Rattle.lawful_types.specs.TypeRules.{is_default_tree_of, is_right, list_of, is_right_slot, tree_levels};
 
 use crate::defaults::is_default_at;
 use crate::same_defaults::are_same;
@@ -88,7 +88,7 @@ fn are_elements(kinds: &[Kind], place: usize, tolds: &[DefaultTree]) -> bool
     true
 }
 
-/// Whether defaults fit the components of a record behind its extension marker or before it, one for one.
+/// Whether defaults fit the components of a record after its extension marker or before it, one for one.
 #[cycle(judging)]
 fn are_parts(
     kinds: &[Kind],
@@ -209,7 +209,7 @@ fn is_idle(component: &Component, told: &DefaultTree) -> bool
     }
 }
 
-/// The place of the elements' type of the list that stands at a place, or is contained there, where one does.
+/// The place of the elements' type of the list that is at a place, or is contained there, where one does.
 fn list_within(kinds: &[Kind], place: usize) -> Option<usize>
     ensures { result ≡ list_of (within kinds.now (slice_get kinds.now place)) }
 {
@@ -219,7 +219,7 @@ fn list_within(kinds: &[Kind], place: usize) -> Option<usize>
     }
 }
 
-/// The record that stands at a place, or is contained there, where one does.
+/// The record that is at a place, or is contained there, where one does.
 fn record_within(kinds: &[Kind], place: usize) -> Option<&Record>
     ensures { option_map (λ r. r.now) result ≡ record_of (within kinds.now (slice_get kinds.now place)) }
 {

@@ -7,8 +7,8 @@ ghost use Rattle.rasn_schema.specs.Enumerations.{items_of};
 ghost use Rattle.rasn_schema.specs.Lawful.{all_pass, if_bits, if_characters, if_octets, is_value};
 ghost use Rattle.rasn_traits.specs.Counted.{stands_in};
 ghost use Rattle.rasn_dynamic.specs.Types.{counts_of, default_value};
-ghost use Rattle.lawful_types.specs.Keeps.{has_lawful_default, is_default_of, is_default_of_plain};
-ghost use Rattle.lawful_types.specs.Keeps.{is_default_of_named, is_default_of_simple};
+ghost use Rattle.lawful_types.specs.TypeRules.{has_lawful_default, is_default_of, is_default_of_plain};
+ghost use Rattle.lawful_types.specs.TypeRules.{is_default_of_named, is_default_of_simple};
 
 use crate::default_trees::is_default_tree_at;
 use crate::identifiers::are_contents;
@@ -97,7 +97,7 @@ fn is_item_of(default: &DefaultValue, items: &Items) -> bool
     }
 }
 
-/// Whether an item of an ENUMERATED stands at a place.
+/// Whether an item of an ENUMERATED is at a place.
 fn has_item(items: &Items, place: Place) -> bool
     ensures { result ≡ stands_in (counts_of items.now) place }
 {

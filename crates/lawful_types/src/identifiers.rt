@@ -40,7 +40,7 @@ pub(crate) fn are_contents(octets: &[u8]) -> bool
     !octets.is_empty() && !read.begun
 }
 
-/// How far a subidentifier is read behind one more octet, or the one behind it. `None` where the octet may not stand
+/// How far a subidentifier is read after one more octet, or the one after it. `None` where the octet may not be
 /// there: its number would be too large, or it begins with the octet 80 (X.690 8.19.2).
 fn next(read: Subidentifier, octet: u8) -> Option<Subidentifier>
     requires below { read.value < read.limit }

@@ -3,7 +3,7 @@
 ghost use Rattle.std.specs.Prelude.{◌≡◌, ℕ, MatchResult, false, true};
 ghost use Rattle.rasn_schema.specs.Lawful.{all_pass, IsLawfulType};
 ghost use Rattle.rasn_dynamic.specs.Types.{schema_at};
-ghost use Rattle.lawful_types.specs.Keeps.{IsFaultOf, is_lawful_kind, keeps};
+ghost use Rattle.lawful_types.specs.TypeRules.{IsFaultOf, is_lawful_kind, keeps};
 
 use crate::fault::{Fault, Reason};
 use crate::rules::{keeps_bounds, keeps_defaults, keeps_presence_bits, keeps_size, keeps_tags};

@@ -1,4 +1,4 @@
-//! Whether a type is a newer version of another, wherever what stands within is.
+//! Whether a type is a newer version of another, wherever what is within is.
 
 ghost use Rattle.std.specs.Prelude.{◌≡◌, IfOk, List, slice_get, true};
 ghost use Rattle.rasn_dynamic.specs.declared.types.Kind.{Kind};
@@ -11,7 +11,7 @@ use crate::pairs::{Pair, list};
 use crate::simple::{compare_simple, have_same_size};
 use rasn_dynamic::types::{Choice, Kind, Record, Simple, SizeBounds};
 
-/// Compares what stands at the places of a pair, where something does.
+/// Compares what is at the places of a pair, where something does.
 pub(crate) fn compare_at(
     newer_kinds: &[Kind],
     older_kinds: &[Kind],
@@ -30,7 +30,7 @@ pub(crate) fn compare_at(
     compare_kinds(newer_kinds, older_kinds, newer, older, pairs)
 }
 
-/// Compares two types. Of octets that contain a value, what stands within them is compared.
+/// Compares two types. Of octets that contain a value, what is within them is compared.
 fn compare_kinds(
     newer_kinds: &[Kind],
     older_kinds: &[Kind],
@@ -56,7 +56,7 @@ fn compare_kinds(
     }
 }
 
-/// Compares what stands within octets that contain it, by its places.
+/// Compares what is within octets that contain it, by its places.
 fn compare_within(
     newer_kinds: &[Kind],
     older_kinds: &[Kind],
@@ -118,7 +118,7 @@ fn is_open(kind: &Kind) -> bool
     }
 }
 
-/// Compares the sizes of two lists or bags, and lists the pair of what stands in them.
+/// Compares the sizes of two lists or bags, and lists the pair of what is in them.
 fn compare_elements(
     pairs: &mut Vec<Pair>,
     newer: usize,

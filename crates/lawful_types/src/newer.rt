@@ -12,10 +12,10 @@ use rasn_dynamic::types::{Kind, Types};
 use std::alloc::Global;
 
 /// Judges whether the type at a place of the one table is a newer version of the type at a place of the other (X.680
-/// 52), at every depth: more additions, alternatives or items behind an extension marker, and nothing else. Then the
+/// 52), at every depth: more additions, alternatives or items after an extension marker, and nothing else. Then the
 /// laws of versions hold of the two (`per_dynamic::versions`).
 ///
-/// Each pair of types that stand in one another's place is compared once, so it takes time with the number of pairs and
+/// Each pair of types that are in one another's place is compared once, so it takes time with the number of pairs and
 /// the components of their types, and memory for the list of pairs. Names aren't compared: no encoding has them.
 pub fn is_newer(
     newer: &Types,
@@ -38,7 +38,7 @@ pub fn is_newer(
     compare_all(&newer.kinds, &older.kinds, &mut pairs)
 }
 
-/// Compares each pair of a list, and each pair that stands within one that is compared. The list with these is closed:
+/// Compares each pair of a list, and each pair that is within one that is compared. The list with these is closed:
 /// each pair of it is newer wherever all are.
 fn compare_all(newer: &[Kind], older: &[Kind], pairs: &mut Vec<Pair>) -> Result<(), NotNewer>
     ensures front { IsFront pairs.old.items pairs.new.items }
@@ -60,7 +60,7 @@ fn pair_at(pairs: &[Pair], index: usize) -> Option<Pair>
     pairs.get(index).copied()
 }
 
-/// Compares the types of a pair, and lists the pairs that stand within.
+/// Compares the types of a pair, and lists the pairs that are within.
 fn compare_pair(
     newer: &[Kind],
     older: &[Kind],

@@ -2,7 +2,7 @@
 
 use thiserror::Error;
 
-/// Two types that stand in one another's place, of which the one isn't a newer version of the other, and why.
+/// Two types that are in one another's place, of which the one isn't a newer version of the other, and why.
 #[derive(Clone, Copy, Debug, PartialEq, Eq, Error)]
 #[error("type {newer} is no newer version of type {older}: {reason}")]
 pub struct NotNewer {
@@ -29,7 +29,7 @@ pub enum Reason {
     /// The characters that a string may have differ (X.680 51.7), or are listed in another order.
     #[error("its permitted alphabet is another")]
     Alphabet,
-    /// An ENUMERATED has other root items, or fewer behind its extension marker (X.680 20).
+    /// An ENUMERATED has other root items, or fewer after its extension marker (X.680 20).
     #[error("its items are others")]
     Items,
     /// Only one of the types has an extension marker.
@@ -51,7 +51,7 @@ pub enum Reason {
     /// A component or an alternative isn't there any more.
     #[error("a component or an alternative is left out")]
     LeftOut,
-    /// A component or an alternative is new, and not behind an extension marker.
+    /// A component or an alternative is new, and not after an extension marker.
     #[error("a component or an alternative is new before the extension marker")]
     PutIn,
     /// Memory for the pairs of types that are to be compared ran out.

@@ -2,7 +2,7 @@
 
 ghost use Rattle.std.specs.Prelude.{◌≡◌, length, MatchOption, MatchResult, nat_lt, true};
 ghost use Rattle.rasn_schema.specs.Lawful.{all_pass};
-ghost use Rattle.lawful_types.specs.Inside.{AreAllInside, FailsAt, is_inside, is_name_inside, IsPastTable};
+ghost use Rattle.lawful_types.specs.PlacesInside.{AreAllInside, FailsAt, is_inside, is_name_inside, IsPastTable};
 
 use rasn_dynamic::types::{Alternative, Component, Kind, Name, Row, Types};
 use thiserror::Error;

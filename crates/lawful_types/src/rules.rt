@@ -2,8 +2,8 @@
 
 ghost use Rattle.std.specs.Prelude.{◌≡◌, count_by};
 ghost use Rattle.rasn_dynamic.specs.Types.{is_not_required};
-ghost use Rattle.lawful_types.specs.Keeps;
-ghost use Rattle.lawful_types.specs.Keeps.{size_stated, size_stated_by};
+ghost use Rattle.lawful_types.specs.TypeRules;
+ghost use Rattle.lawful_types.specs.TypeRules.{size_stated, size_stated_by};
 
 use crate::defaults::have_lawful_defaults;
 use crate::tags::are_told_apart;
@@ -16,7 +16,7 @@ const PRESENCE_BITS: usize = 65536;
 
 /// Whether the bounds of a number are in order (X.680 51.4), and not too far apart.
 pub(crate) fn keeps_bounds(kind: &Kind) -> bool
-    ensures { result ≡ Keeps.keeps_bounds kind.now }
+    ensures { result ≡ TypeRules.keeps_bounds kind.now }
 {
     match kind {
         Kind::Simple(Simple::Integer(bounds)) => {
@@ -29,7 +29,7 @@ pub(crate) fn keeps_bounds(kind: &Kind) -> bool
 
 /// Whether the bounds of a size are in order (X.680 51.5).
 pub(crate) fn keeps_size(kind: &Kind) -> bool
-    ensures { result ≡ Keeps.keeps_size kind.now }
+    ensures { result ≡ TypeRules.keeps_size kind.now }
 {
     match size_stated(kind) {
         Some(size) => {
@@ -67,7 +67,7 @@ fn size_stated_by(simple: &Simple) -> Option<SizeBounds>
 
 /// Whether fewer than 65536 root components of a SEQUENCE may be absent or have a default.
 pub(crate) fn keeps_presence_bits(kind: &Kind) -> bool
-    ensures { result ≡ Keeps.keeps_presence_bits kind.now }
+    ensures { result ≡ TypeRules.keeps_presence_bits kind.now }
 {
     match kind {
         Kind::Record(record) => presence_bit_count(&record.root) < PRESENCE_BITS,
@@ -87,7 +87,7 @@ fn presence_bit_count(components: &[Component]) -> usize
 
 /// Whether the alternatives of a CHOICE have different tags (X.680 29.3).
 pub(crate) fn keeps_tags(kind: &Kind) -> bool
-    ensures { result ≡ Keeps.keeps_tags kind.now }
+    ensures { result ≡ TypeRules.keeps_tags kind.now }
 {
     match kind {
         Kind::Choice(choice) => are_told_apart(&choice.roots, choice.behind()),
@@ -97,7 +97,7 @@ pub(crate) fn keeps_tags(kind: &Kind) -> bool
 
 /// Whether the defaults of a SEQUENCE are values of their components' types (X.680 25.9).
 pub(crate) fn keeps_defaults(kinds: &[Kind], kind: &Kind) -> bool
-    ensures { result ≡ Keeps.keeps_defaults kinds.now kind.now }
+    ensures { result ≡ TypeRules.keeps_defaults kinds.now kind.now }
 {
     match kind {
         Kind::Record(record) => {

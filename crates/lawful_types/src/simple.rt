@@ -9,7 +9,7 @@ ghost use Rattle.lawful_types.specs.OneLevel.{IsSameNumber, IsSameSize};
 use crate::not_newer::Reason;
 use rasn_dynamic::types::{CharacterString, Items, NumberBounds, Simple, SizeBounds};
 
-/// Compares two types in which no other stands: they are the same, but behind its extension marker an ENUMERATED may
+/// Compares two types in which no other stands: they are the same, but after its extension marker an ENUMERATED may
 /// have more items (X.680 20).
 pub(crate) fn compare_simple(newer: &Simple, older: &Simple) -> Result<(), Reason>
     ensures { IfOk result (λ done. Newer (simple_schema newer.now) (simple_schema older.now)) }
@@ -66,7 +66,7 @@ pub(crate) fn have_same_size(newer: &SizeBounds, older: &SizeBounds) -> bool
     least == old_least && most == old_most && newer.extensible == older.extensible
 }
 
-/// Compares the items of two ENUMERATED types by their number: as many before the extension marker, and no fewer behind
+/// Compares the items of two ENUMERATED types by their number: as many before the extension marker, and no fewer after
 /// it.
 fn compare_items(newer: &Items, older: &Items) -> Result<(), Reason>
     ensures { IfOk result (λ done. Newer (items_of (counts_of newer.now)) (items_of (counts_of older.now))) }

@@ -3,19 +3,19 @@
 ghost use Rattle.std.specs.Prelude.{◌≡◌, ◌++◌, ◌&&◌};
 ghost use Rattle.rasn_schema.specs.Structures.{tag_of};
 ghost use Rattle.rasn_schema.specs.Lawful.{are_distinct, is_new, same_tag};
-ghost use Rattle.lawful_types.specs.Keeps.{tags_of};
+ghost use Rattle.lawful_types.specs.TypeRules.{tags_of};
 
 use rasn_dynamic::types::Alternative;
 use rasn_types::types::Tag;
 
-/// Whether no two alternatives, before the extension marker and behind it, have one tag (X.680 29.3).
+/// Whether no two alternatives, before the extension marker and after it, have one tag (X.680 29.3).
 pub(crate) fn are_told_apart(roots: &[Alternative], addeds: &[Alternative]) -> bool
     ensures { result ≡ are_distinct (tags_of roots.now ++ tags_of addeds.now) }
 {
     are_distinct(roots, addeds) && are_distinct(addeds, &[])
 }
 
-/// Whether each of some alternatives has another tag than those behind it, and than some others.
+/// Whether each of some alternatives has another tag than those after it, and than some others.
 fn are_distinct(alternatives: &[Alternative], others: &[Alternative]) -> bool
     ensures { (result && are_distinct (tags_of others.now))
         ≡ are_distinct (tags_of alternatives.now ++ tags_of others.now) }

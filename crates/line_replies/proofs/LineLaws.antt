@@ -64,13 +64,13 @@ pieces-one : (x : ℕ) (t : Bool) → (x == 10) ≡ t →
 pieces-one x true e = pieces-feed x [] e
 pieces-one x false e = pieces-last x e
 
--- the first piece, and those behind it
+-- the first piece, and those after it
 pieces-cons : (x : ℕ) (xs : List ℕ) →
     pieces_of (x ∷ xs) ≡ first_piece 10 (x ∷ xs) ∷ pieces_of (drop_through 10 (x ∷ xs))
 pieces-cons x [] = pieces-one x (x == 10) refl
 pieces-cons x (y ∷ ys) = pieces-by x y ys (x == 10) refl (pieces-cons y ys)
 
--- the first line, and those behind it
+-- the first line, and those after it
 pub lines-cons : (octets : List ℕ) → octets ≢ [] → lines_of octets ≡ line_of octets ∷ lines_of (drop_through 10 octets)
 lines-cons [] some = elim (some refl) [ ]
 lines-cons (x ∷ xs) some = ap (map (strip_last 13)) (pieces-cons x xs)

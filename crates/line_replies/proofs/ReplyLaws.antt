@@ -126,7 +126,7 @@ replied-some P input rest before now after x k = record {
   printed = appends-kept before now after x.texts x.printed k;
 }
 
--- replies behind replies
+-- replies after replies
 replies-then : (P : List ℕ → List ℕ → Type 0) (lines others : List (List ℕ)) (octets more : List ℕ) →
     AreReplies P lines octets → AreReplies P others more → AreReplies P (lines ++ others) (octets ++ more)
 replies-then P [] others octets more e r = rw e r
@@ -208,7 +208,7 @@ front_through : (kept : List ℕ) (before after : Option (List ℕ)) (texts : Li
 front_through kept before after texts (front, rest, split, appended) (first, others, parts, printed) =
     (first, others ++ rest, split ∙ ap (λ z. z ++ rest) (sym appended ∙ parts) ∙ append_assoc first others rest, printed)
 
--- a front behind what was printed
+-- a front after what was printed
 front_then : (before now after : Option (List ℕ)) (texts more : List ℕ) →
     Appends before now texts → AppendsFront now after more → AppendsFront before after (texts ++ more)
 front_then before now after texts more x (front, rest, split, appended) =

@@ -15,7 +15,7 @@ abbrev pub onto_first : ℕ → List (List ℕ) → List (List ℕ)
 onto_first x [] = (x ∷ []) ∷ []
 onto_first x (piece ∷ pieces) = (x ∷ piece) ∷ pieces
 
--- what stands between line feeds; an end directly behind a line feed adds nothing
+-- what is between line feeds; an end directly after a line feed adds nothing
 abbrev pub pieces_of : List ℕ → List (List ℕ)
 pieces_of [] = []
 pieces_of (x ∷ xs) = if x == 10 then [] ∷ pieces_of xs else onto_first x (pieces_of xs)
@@ -24,7 +24,7 @@ pieces_of (x ∷ xs) = if x == 10 then [] ∷ pieces_of xs else onto_first x (pi
 abbrev pub lines_of : List ℕ → List (List ℕ)
 lines_of input = map (strip_last 13) (pieces_of input)
 
--- an input has a line, the first one is this, and that is what is left of the input behind it
+-- an input has a line, the first one is this, and that is what is left of the input after it
 pub record TakesLine (input rest : Option (List ℕ)) (line : List ℕ) : Type 0 where
   pub some : IfSome input (λ octets. octets ≢ [])
   pub is_line : IsLineOf input line

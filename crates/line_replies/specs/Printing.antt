@@ -22,7 +22,7 @@ pub record BreaksAnswer (IsAnswer : List ℕ → List ℕ → Type 0) (input bef
   pub is_answer : IsAnswer line text
   pub printed : AppendsFront before after text
 
--- the octets are the replies to some lines, one behind another
+-- the octets are the replies to some lines, one after another
 abbrev pub AreReplies : (List ℕ → List ℕ → Type 0) → List (List ℕ) → List ℕ → Type 0
 AreReplies IsReply [] octets = octets ≡ []
 AreReplies IsReply (line ∷ lines) octets =

@@ -12,7 +12,7 @@ use std::io::BufRead;
 /// The octets of the input before its first line feed, or all of them, without a carriage return at their end. At the
 /// end of the input there are none.
 ///
-/// Nothing behind the line feed is taken from the input. Answers an error where reading fails or memory ran out.
+/// Nothing after the line feed is taken from the input. Answers an error where reading fails or memory ran out.
 pub fn read_line<R: BufRead>(alloc: Global, input: &mut R) -> io::Result<Vec<u8>>
     ensures line { IfOk result (λ line. IsLineOf (R.remaining input.old) line.items) }
     ensures rest { OnOk result (DropsThrough (R.remaining input.old) (R.remaining input.new) 10) }

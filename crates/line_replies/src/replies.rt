@@ -62,7 +62,7 @@ fn reply_to_each<T: Replies, R: Read, W: Write>(
 
 /// Takes the next lines and prints their replies, through to where the output goes. Answers whether there may be more.
 ///
-/// Lines behind the next one are taken where they are in the buffer already, so no reply is kept back while more of
+/// Lines after the next one are taken where they are in the buffer already, so no reply is kept back while more of
 /// the input is waited for.
 pub fn reply_to_next<T: Replies, R: Read, W: Write>(
     alloc: Global,
@@ -83,7 +83,7 @@ pub fn reply_to_next<T: Replies, R: Read, W: Write>(
     }
 }
 
-/// Takes the next line, and those behind it that are whole in the buffer, and puts their replies behind `replies`.
+/// Takes the next line, and those after it that are whole in the buffer, and puts their replies behind `replies`.
 /// Answers whether there may be more.
 fn take_lines<T: Replies, R: Read>(
     alloc: Global,

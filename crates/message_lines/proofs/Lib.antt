@@ -1,4 +1,4 @@
-pub mod Made
+pub mod UnmadeOctets
 pub mod Remarked
 pub mod Strictly
 pub mod Words

@@ -6,7 +6,7 @@ use Rattle.std.specs.Prelude.{position}
 abbrev pub is_blank : ℕ → Bool
 is_blank c = c == 32 || c == 9
 
--- behind an index in a line, or at the line's end
+-- after an index in a line, or at the line's end
 abbrev pub behind : List ℕ → Option ℕ → ℕ
 behind line None = length line
 behind line (Some k) = k + 1
@@ -20,6 +20,6 @@ column_end true line = behind line (position is_blank line)
 abbrev pub column_of : Bool → List ℕ → List ℕ
 column_of has_column line = take (column_end has_column line) line
 
--- what stands behind it
+-- what is after it
 abbrev pub text_of : Bool → List ℕ → List ℕ
 text_of has_column line = drop (column_end has_column line) line

@@ -18,7 +18,7 @@ without_prefix (c ∷ d ∷ cs) = if c == 48 && (d == 120 || d == 88) then cs el
 abbrev pub octets_of : List ℕ → Option (List ℕ)
 octets_of word = result_ok (decode_of (without_prefix word))
 
--- octets and those behind them, where both are there
+-- octets and those after them, where both are there
 abbrev pub joined : Option (List ℕ) → Option (List ℕ) → Option (List ℕ)
 joined None ys = None
 joined (Some xs) None = None

@@ -24,7 +24,7 @@ remark_line t = 10 ∷ (codes "# " ++ departure t.kind t.name (at_path t.path))
 abbrev pub remark_lines : List Told → List ℕ
 remark_lines ts = flat_map remark_line ts
 
--- a text of JSON in a layout, and behind it the remarks, each on a line
+-- a text of JSON in a layout, and after it the remarks, each on a line
 abbrev pub IsJsonWith : Layout → List ℕ → List Told → List ℕ → Type 0
 IsJsonWith layout json remarks text =
     (laid : List ℕ) × IsLaidOut layout json laid × (text ≡ laid ++ remark_lines remarks)

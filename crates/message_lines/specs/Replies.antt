@@ -28,7 +28,7 @@ use Rattle.message_lines.specs.declared.replies.Refusal.TheVariants.{Blank, BadH
 use Rattle.message_lines.specs.declared.replies.Task.{Task}
 use Rattle.message_lines.specs.declared.replies.Task.TheVariants.{Show, Check, Make}
 
--- a message's JSON in a layout, and behind it the remarks on the one value that octets spell
+-- a message's JSON in a layout, and after it the remarks on the one value that octets spell
 abbrev pub IsCheckedText : Messages → Layout → List ℕ → List ℕ → Type 0
 IsCheckedText m layout octets answer = (json : List ℕ) × (remarks : List Remarked)
     × AreChecked m.types.now m.codec m.place octets json remarks × IsJsonWith layout json remarks answer

@@ -87,7 +87,7 @@ fn answer_by(
     }
 }
 
-/// The JSON of the message that octets spell, and behind it a line for each remark, with a line feed.
+/// The JSON of the message that octets spell, and after it a line for each remark, with a line feed.
 fn checked_answer(
     alloc: Global,
     messages: &Messages<'_>,

@@ -9,7 +9,7 @@ use per_messages::calls::Checked;
 use per_messages::remarks::{Remark, RemarkKind};
 use std::alloc::{AllocError, Global};
 
-/// The JSON of a message in a layout, and behind it a line for each remark, with a line feed at its front.
+/// The JSON of a message in a layout, and after it a line for each remark, with a line feed at its front.
 pub(crate) fn with_remarks(
     alloc: Global,
     layout: Layout,

@@ -33,7 +33,7 @@ use std::alloc::{AllocError, Global};
 pub enum Task {
     /// Hexadecimal is shown as JSON, in a layout.
     Show(Layout),
-    /// It is shown likewise, and behind it a line for each remark: where the message departs from its object sets.
+    /// It is shown likewise, and after it a line for each remark: where the message departs from its object sets.
     Check(Layout),
     /// JSON is made canonical octets, in lower-case hexadecimal.
     Make,
@@ -183,7 +183,7 @@ impl<'types> Messages<'types> {
         }
     }
 
-    /// The same, and behind it a line for each remark on the message.
+    /// The same, and after it a line for each remark on the message.
     fn checked(&self, alloc: Global, layout: Layout, text: &[u8]) -> Result<Vec<u8>, Refusal>
         ensures ok { IfOk result (λ answer. IsAnswerTo (Check layout) self.now text.now answer.items) }
         ensures err { IfErr result (λ r. IsRefusedBy (Check layout) self.now text.now r ⊎ (r ≡ OutOfMemory)) }

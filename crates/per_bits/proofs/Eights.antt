@@ -49,12 +49,12 @@ eight_low w x os h l e = octets_low w 8 x (take 8 os) h (length-take 8 os ∙ om
 
 -- ---- the bits that go on to the next word
 
--- a number f in the highest `used` bits of a word, zeros behind it
+-- a number f in the highest `used` bits of a word, zeros after it
 pub record AreFirst (used front : ℕ) (bits : Bits) : Type 0 where
   pub zeros : front % 2 ^ (64 - used) ≡ 0
   pub are : to_bits used (front / 2 ^ (64 - used)) ≡ bits
 
--- the first word of octets behind whose first bits only zeros stand
+-- the first word of octets after whose first bits only zeros stand
 pub first_bits : (used front : ℕ) (os : List ℕ) → used < 8 → 8 ≤ length os → HaveZeros used os → to_bits word_size front ≡ first_word os → AreFirst used front (take used (unpack os))
 first_bits used front os h l z e = record {
   zeros = sym (number-to_bits (64 - used) front) ∙ ap number_of (both.1 ∙ sym (to_bits-zeros (64 - used))) ∙ number-to_bits (64 - used) 0 ∙ mod-eq_of_lt (pow_pos (64 - used));
@@ -80,7 +80,7 @@ pub first_word_bits : (used front : ℕ) → used < 8 → front % 2 ^ (64 - used
 first_word_bits used front h z = ap (λ (n : ℕ). to_bits n front) (let i : word_size ≡ used + (64 - used) = omega (arith, word_size-is) in i) ∙ to_bits-split used (64 - used) front
     ∙ ap (λ bs. to_bits used (front / 2 ^ (64 - used)) ++ bs) (to_bits-same (64 - used) front 0 (z ∙ sym (mod-eq_of_lt (pow_pos (64 - used)))) ∙ to_bits-zeros (64 - used))
 
--- a field of `size` bits behind them: the word, its first `size` bits, and those that go on
+-- a field of `size` bits after them: the word, its first `size` bits, and those that go on
 pub record Goes (used size front field word next : ℕ) : Type 0 where
   pub written : take size (to_bits word_size word) ++ to_bits used (next / 2 ^ (64 - used)) ≡ to_bits used (front / 2 ^ (64 - used)) ++ to_bits size field
   pub zeros : next % 2 ^ (64 - used) ≡ 0
@@ -202,9 +202,9 @@ eight_less w n m e = ap (λ (k : ℕ). k * w) (let i : n / 8 ≡ m / 8 + 1 = ome
 pub none_left : (w n : ℕ) → n ≡ 0 → n / 8 * w ≡ 0
 none_left w n e = ap (λ (k : ℕ). k / 8 * w) e ∙ omega arith
 
--- ---- zeros that are put behind octets, and cut back
+-- ---- zeros that are put after octets, and cut back
 
--- octets behind which zeros were put, from the first octet on in which a bit is spare
+-- octets after which zeros were put, from the first octet on in which a bit is spare
 pub record AreBegun (spare begun begin : ℕ) (os part : List ℕ) : Type 0 where
   pub zeros : HaveZeros (8 * begun - spare) part
   pub bits : unpack (take begin os) ++ take (8 * begun - spare) (unpack part) ≡ filled spare os
@@ -297,10 +297,10 @@ pub both_put : (spare unused w n : ℕ) (os ps qs from rest : List ℕ) (field :
 both_put spare unused w n os ps qs from rest field h r b f =
     subst (λ bs. AreFilledBy bs unused qs) (ap₂ (λ bs cs. bs ++ cs) (filled_by h) (b ∙ ap (low_bits_of w) r) ∙ append_assoc (filled spare os) (low_bits_of w (take n from)) (low_bits_of w (drop n from)) ∙ ap (λ bs. filled spare os ++ bs) (sym (low-split w n from))) f
 
--- how long the octets are behind the eights
+-- how long the octets are after the eights
 pub eights_length : (spare w : ℕ) (os ps from : List ℕ) → ArePadded spare os → w ≤ 8 → AreFilledBy (filled spare os ++ low_bits_of w from) spare ps → length ps ≤ length os + length from
 eights_length spare w os ps from h l f = let m : w * length from ≤ 8 * length from = mul-le w (length from) 8 (length from) l (omega arith) in omega (arith, filled_more spare spare os ps (low_bits_of w from) h f, length-low w from, m)
 
--- octets behind which zeros were put
+-- octets after which zeros were put
 pub with_zeros : (n len : ℕ) (os qs : List ℕ) → len ≡ length os → len ≤ n → qs ≡ take n os ++ replicate (n - len) 0 → qs ≡ os ++ replicate (n - len) 0
 with_zeros n len os qs l h e = e ∙ ap (λ ps. ps ++ replicate (n - len) 0) (take_all n os (omega arith))

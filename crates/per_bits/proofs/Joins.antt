@@ -13,14 +13,14 @@ use Rattle.per_bits.specs.Octets.{word_size, first_word, filled, AreFilledBy}
 use Rattle.per_bits.proofs.Readers.{filled_all}
 use Rattle.per_bits.proofs.Words.{word_size-is, to_bits-join, to_bits-zeros, unpack-bytes, octets_taken, first_word-short, inner-first_word, part_bits, unpack-drop}
 
--- ---- a number below a power, and another behind it
+-- ---- a number below a power, and another after it
 
 pub behind : (x y i k : ℕ) → x < 2 ^ i → y < 2 ^ k → x * 2 ^ k + y < 2 ^ (i + k)
 behind x y i k h l = let m : (x + 1) * 2 ^ k ≤ 2 ^ i * 2 ^ k = mul-le (x + 1) (2 ^ k) (2 ^ i) (2 ^ k) (omega arith) (omega arith) in
     let a : (x + 1) * 2 ^ k ≡ x * 2 ^ k + 1 * 2 ^ k = add-mul x 1 (2 ^ k) in omega (arith, pow-add 2 i k)
 
-pub put_behind : (w x y i k : ℕ) → x < 2 ^ i → y < 2 ^ k → i + k ≤ w → bit_or (x * 2 ^ k % 2 ^ w) y ≡ x * 2 ^ k + y
-put_behind w x y i k h l e = ap (λ (m : ℕ). bit_or m y) (shl_whole x i k w h e) ∙ or_shifted x k y l
+pub put_after : (w x y i k : ℕ) → x < 2 ^ i → y < 2 ^ k → i + k ≤ w → bit_or (x * 2 ^ k % 2 ^ w) y ≡ x * 2 ^ k + y
+put_after w x y i k h l e = ap (λ (m : ℕ). bit_or m y) (shl_whole x i k w h e) ∙ or_shifted x k y l
 
 -- ---- fewer octets than a word has
 
@@ -45,20 +45,20 @@ octets_all os n w e h l b = ap (λ (m : ℕ). to_bits word_size (m * 2 ^ (56 - 8
     moved : w * 2 ^ 8 * 2 ^ (56 - 8 * n) ≡ w * 2 ^ (64 - 8 * n) + 0
     moved = mul_assoc w (2 ^ 8) (2 ^ (56 - 8 * n)) ∙ ap (λ (m : ℕ). w * m) (sym (pow-add 2 8 (56 - 8 * n)) ∙ ap (λ (m : ℕ). 2 ^ m) (let i : 8 + (56 - 8 * n) ≡ 64 - 8 * n = omega arith in i)) ∙ omega arith
 
--- ---- the first octets and a word of those behind them
+-- ---- the first octets and a word of those after them
 
--- the number n of the first k octets, and r behind it in a word
+-- the number n of the first k octets, and r after it in a word
 pub front_word : (k n r : ℕ) (os : List ℕ) → k ≤ 8 → r < 2 ^ (64 - 8 * k) → to_bits (8 * k) n ≡ unpack (take k os) → to_bits word_size (n * 2 ^ (64 - 8 * k) + r) ≡ unpack (take k os) ++ to_bits (64 - 8 * k) r
 front_word k n r os h l b = ap (λ (m : ℕ). to_bits m (n * 2 ^ (64 - 8 * k) + r)) (let i : word_size ≡ 8 * k + (64 - 8 * k) = omega (arith, word_size-is) in i)
     ∙ to_bits-join (8 * k) (64 - 8 * k) n r l ∙ ap (λ bs. bs ++ to_bits (64 - 8 * k) r) b
 
--- where no bit behind the first k octets is asked for
+-- where no bit after the first k octets is asked for
 pub front_alone : (k n c : ℕ) (os : List ℕ) → k ≤ 8 → k ≤ length os → c ≤ 8 * k → to_bits (8 * k) n ≡ unpack (take k os) → take c (to_bits word_size (n * 2 ^ (64 - 8 * k) + 0)) ≡ take c (first_word os)
 front_alone k n c os h l f b = ap (λ bs. take c bs) (front_word k n 0 os h (pow_pos (64 - 8 * k)) b ∙ ap (λ bs. bs ++ to_bits (64 - 8 * k) 0) (sym (unpack-take k os)))
     ∙ take-append-le c (take (8 * k) (unpack os)) (to_bits (64 - 8 * k) 0) (omega (arith, length-take (8 * k) (unpack os), length-unpack os)) ∙ take-take c (8 * k) (unpack os) f
     ∙ sym (inner-first_word 0 c os (omega arith) (omega arith))
 
--- where the word r is that of the octets behind the first k
+-- where the word r is that of the octets after the first k
 pub front_and_rest : (k n r : ℕ) (os : List ℕ) → k ≤ 8 → k ≤ length os → r < 2 ^ 64 → to_bits (8 * k) n ≡ unpack (take k os) → to_bits word_size r ≡ first_word (drop k os) →
     to_bits word_size (n * 2 ^ (64 - 8 * k) + r / 2 ^ (8 * k)) ≡ first_word os
 front_and_rest k n r os h l f b e = front_word k n (r / 2 ^ (8 * k)) os h (shr_below r left (8 * k) (subst (λ (m : ℕ). r < 2 ^ m) (let i : 64 ≡ left + 8 * k = omega arith in i) f)) b
@@ -83,7 +83,7 @@ front_and_rest k n r os h l f b e = front_word k n (r / 2 ^ (8 * k)) os h (shr_b
 pub unpack-half : (n : ℕ) (os qs : List ℕ) → 4 ≤ length os → qs ≡ take 4 os → ((i : ℕ) → Fits w8 (get_or os i 0)) → n ≡ from_be_bytes w32 qs → to_bits (8 * 4) n ≡ unpack (take 4 os)
 unpack-half n os qs h e f i = sym (unpack-bytes 4 n) ∙ ap unpack (be_bytes_4 qs n (ap length e ∙ length-take 4 os ∙ omega arith) (octets_taken 4 os qs h e f) i ∙ e)
 
--- the number of the last four octets of fewer than eight, moved up, has the bits of those behind the first four
+-- the number of the last four octets of fewer than eight, moved up, has the bits of those after the first four
 pub last_four : (n : ℕ) (os qs : List ℕ) → 4 ≤ length os → length os < 8 → qs ≡ drop (length os - 4) os → ((i : ℕ) → Fits w8 (get_or os i 0)) → n ≡ from_be_bytes w32 qs
     → to_bits word_size (n * 2 ^ (96 - 8 * length os) % 2 ^ 64) ≡ first_word (drop 4 os)
 last_four n os qs h l e f i = to_bits-same word_size (moved % 2 ^ 64) moved (ap (λ (m : ℕ). moved % 2 ^ 64 % 2 ^ m) word_size-is ∙ mod-eq_of_lt (mod-lt moved (pow_pos 64)) ∙ ap (λ (m : ℕ). moved % 2 ^ m) (sym word_size-is))
@@ -129,11 +129,11 @@ last_filled spare ps last h = ap₂ (λ (n : ℕ) bs. take n bs) (let e : 8 * le
     high = ap (λ bs. take (8 - spare) bs) (append-nil (to_bits 8 last) ∙ ap (λ (n : ℕ). to_bits n last) (let e : 8 ≡ (8 - spare) + spare = omega arith in e) ∙ to_bits-split (8 - spare) spare last)
         ∙ take_at (to_bits (8 - spare) (last / 2 ^ spare)) (to_bits spare last) (8 - spare) (length-to_bits (8 - spare) (last / 2 ^ spare))
 
--- the word of some bits, a number behind them, and zeros
+-- the word of some bits, a number after them, and zeros
 pub word_bits : (used width value bits low word : ℕ) → used < 8 → width ≤ 56 → bits < 2 ^ used → low ≡ value % 2 ^ width →
     word ≡ bit_or (bits * 2 ^ width % 2 ^ 64) low * 2 % 2 ^ 64 * 2 ^ (63 - (used + width)) % 2 ^ 64 →
     to_bits word_size word ≡ (to_bits used bits ++ to_bits width value) ++ replicate (64 - (used + width)) false
-word_bits used width value bits low word h f l e w = ap (to_bits word_size) (w ∙ ap (λ (m : ℕ). m * 2 % 2 ^ 64 * 2 ^ (63 - all) % 2 ^ 64) (put_behind 64 bits low used width l small (omega arith))
+word_bits used width value bits low word h f l e w = ap (to_bits word_size) (w ∙ ap (λ (m : ℕ). m * 2 % 2 ^ 64 * 2 ^ (63 - all) % 2 ^ 64) (put_after 64 bits low used width l small (omega arith))
     ∙ ap (λ (m : ℕ). m * 2 ^ (63 - all) % 2 ^ 64) (shl_whole both all 1 64 below (omega arith)) ∙ shl_whole (both * 2) (all + 1) (63 - all) 64 (shl_below both all 1 below) (omega arith) ∙ moved)
     ∙ ap (λ (m : ℕ). to_bits m (both * 2 ^ (64 - all) + 0)) (let i : word_size ≡ all + (64 - all) = omega (arith, word_size-is) in i)
     ∙ to_bits-join all (64 - all) both 0 (pow_pos (64 - all)) ∙ ap₂ (λ bs cs. bs ++ cs) (to_bits-join used width bits low small ∙ ap (λ bs. to_bits used bits ++ bs) low_bits) (to_bits-zeros (64 - all))
@@ -156,7 +156,7 @@ word_bits used width value bits low word h f l e w = ap (to_bits word_size) (w �
     moved : both * 2 * 2 ^ (63 - all) ≡ both * 2 ^ (64 - all) + 0
     moved = mul_assoc both 2 (2 ^ (63 - all)) ∙ ap (λ (m : ℕ). both * m) (sym (pow-add 2 1 (63 - all)) ∙ ap (λ (m : ℕ). 2 ^ m) (let i : 1 + (63 - all) ≡ 64 - all = omega arith in i)) ∙ omega arith
 
--- the octets ps, behind which the octets of a word were written and cut back to those in use
+-- the octets ps, after which the octets of a word were written and cut back to those in use
 pub appended : (ps qs bytes : List ℕ) (used width value bits low word count n : ℕ) → used < 8 → width ≤ 56 → bits < 2 ^ used → low ≡ value % 2 ^ width →
     word ≡ bit_or (bits * 2 ^ width % 2 ^ 64) low * 2 % 2 ^ 64 * 2 ^ (63 - (used + width)) % 2 ^ 64 → bytes ≡ to_be_bytes w64 word →
     used + width ≤ 8 * count → count ≤ 8 → n ≡ length ps → qs ≡ take (n + count) (ps ++ bytes) →
@@ -242,7 +242,7 @@ put_last spare width value used low v n os h f l s u e w = record {
     below = behind used low mine width used_below small
 
     is : v ≡ both * 2 ^ rest
-    is = w ∙ ap (λ (m : ℕ). m * 2 ^ rest % 2 ^ 64) (put_behind 64 used low mine width used_below small (omega arith)) ∙ shl_whole both (mine + width) rest 64 below (omega arith)
+    is = w ∙ ap (λ (m : ℕ). m * 2 ^ rest % 2 ^ 64) (put_after 64 used low mine width used_below small (omega arith)) ∙ shl_whole both (mine + width) rest 64 below (omega arith)
 
     low_same : to_bits width low ≡ to_bits width value
     low_same = to_bits-same width low value (ap (λ (m : ℕ). m % 2 ^ width) e ∙ mod-eq_of_lt (mod-lt value (pow_pos width)))

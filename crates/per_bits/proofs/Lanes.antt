@@ -1,4 +1,4 @@
--- Fields of one size that stand side by side in a number.
+-- Fields of one size that are side by side in a number.
 use Rattle.std.proofs.Common.{◌≡◌, refl, sym, ap, ap₂, ◌∙◌, subst, ℕ, zero, suc, ◌+◌, ◌-◌, ◌*◌, ◌/◌, ◌%◌, ◌^◌, ◌<◌, ◌≤◌, ◌++◌, arith, pow_pos, pow_mono, pow-add, mod-lt, mod-eq_of_lt, mul_assoc, mul_comm, append_assoc, bit_and}
 use Rattle.std.proofs.Math.Nat.{add-mul, mul-add}
 use Rattle.std.proofs.Math.Pow.{mod-mod-pow}

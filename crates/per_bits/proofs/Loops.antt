@@ -7,7 +7,7 @@ use Rattle.std.specs.List.{between}
 use Rattle.rasn_types.specs.Bits.{Bits, to_bits, number_of, unpack}
 use Rattle.rasn_types.proofs.Bits.{length-unpack, number-to_bits, to_bits-same, to_bits-split}
 use Rattle.per_bits.specs.Octets.{filled, AreFilledBy, ArePadded, AreWithin}
-use Rattle.per_bits.proofs.Joins.{behind, put_behind}
+use Rattle.per_bits.proofs.Joins.{behind, put_after}
 use Rattle.per_bits.proofs.Readers.{split_at, from_place, filled_by, filled_length, spare_there}
 use Rattle.per_bits.proofs.Words.{to_bits-join}
 
@@ -31,7 +31,7 @@ wide_more k s left count value part p new os all h l m e b f r i n = (subst (λ 
     further = omega arith
 
     is : new ≡ value * 2 ^ k + part
-    is = n ∙ put_behind 128 value part (count - left) k b f (omega arith)
+    is = n ∙ put_after 128 value part (count - left) k b f (omega arith)
 
     bits : to_bits (count - (left - k)) new ++ take (left - k) (drop (p % 8) (unpack (between (p / 8) (length os) os))) ≡ all
     bits = ap₂ (λ (x y : ℕ). to_bits x y ++ take (left - k) (drop (p % 8) (unpack (between (p / 8) (length os) os)))) (sym further) is
@@ -50,7 +50,7 @@ low_bits k value v h e = to_bits-same k v value (ap (λ (n : ℕ). n % 2 ^ k) e 
 pub part_written : (k left value v : ℕ) → k ≤ left → k ≤ 56 → v ≡ value / 2 ^ (left - k) % 2 ^ 56 → to_bits k v ++ to_bits (left - k) value ≡ to_bits left value
 part_written k left value v h l e = ap (λ bs. bs ++ to_bits (left - k) value) (low_bits k (value / 2 ^ (left - k)) v l e) ∙ sym (to_bits-split k (left - k) value) ∙ ap (λ (n : ℕ). to_bits n value) (omega arith)
 
--- how long octets are behind which bits were put
+-- how long octets are after which bits were put
 pub filled_more : (spare unused : ℕ) (os qs : List ℕ) (bs : Bits) → ArePadded spare os → AreFilledBy (filled spare os ++ bs) unused qs → 8 * length qs + spare ≡ 8 * length os + length bs + unused
 filled_more spare unused os qs bs h f =
     let l : 8 * length qs ≡ length (filled spare os ++ bs) + unused = sym (length-unpack qs) ∙ ap length f.zeros ∙ length-append (filled spare os ++ bs) (replicate unused false) ∙ ap (λ (n : ℕ). length (filled spare os ++ bs) + n) (length-replicate unused false) in

@@ -6,7 +6,7 @@ use Rattle.std.proofs.Math.Nat.{mul-add, mul-suc}
 use Rattle.rasn_types.specs.Bits.{to_bits, unpack}
 use Rattle.rasn_types.proofs.Bits.{length-to_bits, to_bits-same}
 use Rattle.per_bits.specs.Octets.{low_bits_of}
-use Rattle.per_bits.proofs.Joins.{behind, put_behind}
+use Rattle.per_bits.proofs.Joins.{behind, put_after}
 use Rattle.per_bits.proofs.Words.{to_bits-join}
 
 pub low-append : (w : ℕ) (os qs : List ℕ) → low_bits_of w (os ++ qs) ≡ low_bits_of w os ++ low_bits_of w qs
@@ -50,12 +50,12 @@ of_more w i field o n new os h l few e f d = record {
     small = let m = mod-lt o (pow_pos w) in omega arith
 
     is : new ≡ field * 2 ^ w + n
-    is = d ∙ put_behind 64 field n (w * i) w h.below small (omega (arith, within))
+    is = d ∙ put_after 64 field n (w * i) w h.below small (omega (arith, within))
 
     low : to_bits w n ≡ low_bits_of w (get_or os i 0 ∷ [])
     low = to_bits-same w n o (ap (λ (m : ℕ). m % 2 ^ w) f ∙ mod-eq_of_lt (mod-lt o (pow_pos w))) ∙ ap (to_bits w) e ∙ sym (append-nil (to_bits w (get_or os i 0)))
 
--- the octets of one field, and those behind it
+-- the octets of one field, and those after it
 pub record FieldOf (w at k n field : ℕ) (os : List ℕ) : Type 0 where
   pub within : at + k ≤ length os
   pub few : n ≤ 8 * k

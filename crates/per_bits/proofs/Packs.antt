@@ -49,7 +49,7 @@ packed_front spare n os qs h e q a = let c = cut spare n os qs h e q in packed_b
 pub front_bits : (spare n : ℕ) (os qs : List ℕ) (bs : Bits) → AreKept spare os → n ≡ length os - spare / 8 → qs ≡ take n os → filled spare os ≡ bs → take (length bs) (unpack qs) ≡ bs
 front_bits spare n os qs bs h e q i = ap (λ cs. take (length bs) cs) ((cut spare n os qs h e q).zeros ∙ ap (λ cs. cs ++ replicate (spare % 8) false) i) ∙ take_at bs (replicate (spare % 8) false) (length bs) refl
 
--- octets behind which bits were put, and zeros up to the end of an octet
+-- octets after which bits were put, and zeros up to the end of an octet
 pub octets_grown : (spare : ℕ) (os qs : List ℕ) (bs : Bits) → AreOctets os → AreOctets qs → AreFilledBy (unpack os ++ bs) spare qs → qs ≡ os ++ packed bs
 octets_grown spare os qs bs a b h = packed_by spare qs (padded_by h) b ∙ ap packed (filled_by h)
     ∙ ap (λ (n : ℕ). pack n (unpack os ++ bs)) (let l : (length (unpack os ++ bs) + 7) / 8 ≡ length os + (length bs + 7) / 8 = omega (arith, length-append (unpack os) bs, length-unpack os) in l)

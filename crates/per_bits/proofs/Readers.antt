@@ -40,14 +40,14 @@ pub taken : (s n k p : ℕ) (os : List ℕ) → k ≤ n → p ≡ s + k →
     take n (drop s (unpack os)) ≡ take k (drop s (unpack os)) ++ take (n - k) (drop (p % 8) (unpack (between (p / 8) (length os) os)))
 taken s n k p os h e = split_at k n (drop s (unpack os)) h ∙ ap (λ bs. take k (drop s (unpack os)) ++ take (n - k) bs) (sym (from_place s k p os e))
 
--- m bits behind the first k of a reader's
+-- m bits after the first k of a reader's
 pub part_taken : (s n k m p : ℕ) (os : List ℕ) → k + m ≤ n → p ≡ s + k → take m (drop (p % 8) (unpack (between (p / 8) (length os) os))) ≡ take m (drop k (take n (drop s (unpack os))))
 part_taken s n k m p os h e =
     let bits = drop s (unpack os) in
     let rest : take m (drop k (take n bits)) ≡ take m (drop k bits) = ap (λ (i : ℕ). take m (drop k (take i bits))) (let i : n ≡ k + (n - k) = omega arith in i) ∙ ap (λ bs. take m bs) (drop-take k (n - k) bits) ∙ take-take m (n - k) (drop k bits) (omega arith) in
     ap (λ bs. take m bs) (from_place s k p os e) ∙ sym rest
 
--- the first bit that is left stands in the first octet
+-- the first bit that is left is in the first octet
 pub first_of_octet : (s : ℕ) (os : List ℕ) → s < 8 → take 1 (drop s (unpack (take 1 os))) ≡ take 1 (drop s (unpack os))
 first_of_octet s os h = ap (λ bs. take 1 (drop s bs)) (sym (unpack-take 1 os) ∙ ap (λ (n : ℕ). take n (unpack os)) (let e : 8 * 1 ≡ s + (8 - s) = omega arith in e))
     ∙ ap (λ bs. take 1 bs) (drop-take s (8 - s) (unpack os)) ∙ take-take 1 (8 - s) (drop s (unpack os)) (omega arith)
@@ -79,7 +79,7 @@ filled_length spare os = length-take (8 * length os - spare) (unpack os) ∙ ome
 pub filled_all : (os : List ℕ) → filled 0 os ≡ unpack os
 filled_all os = take_all (8 * length os - 0) (unpack os) (omega (arith, length-unpack os))
 
--- octets that some bits and zeros behind them fill
+-- octets that some bits and zeros after them fill
 pub filled_zeros : (spare : ℕ) (os : List ℕ) (bs : Bits) → unpack os ≡ bs ++ replicate spare false → filled spare os ≡ bs
 filled_zeros spare os bs h = ap (λ cs. take (8 * length os - spare) cs) h ∙ take_at bs (replicate spare false) (8 * length os - spare) (let l : 8 * length os ≡ length bs + spare = sym (length-unpack os) ∙ ap length h ∙ length-append bs (replicate spare false) ∙ ap (λ (n : ℕ). length bs + n) (length-replicate spare false) in omega arith)
 

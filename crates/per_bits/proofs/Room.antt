@@ -15,8 +15,8 @@ use Rattle.per_bits.proofs.Words.{to_bits-zeros, unpack-bytes, unpack-drop, word
 
 -- ---- octets all bits of which are spare
 
-zeros_behind : (spare k : ℕ) (os : List ℕ) → AreKept spare os → 8 * length os - spare ≤ 8 * k → unpack (drop k os) ≡ replicate (8 * length os - 8 * k) false
-zeros_behind spare k os h l = sym (unpack-drop k os) ∙ ap (λ bs. drop (8 * k) bs) h.zeros
+zeros_after : (spare k : ℕ) (os : List ℕ) → AreKept spare os → 8 * length os - spare ≤ 8 * k → unpack (drop k os) ≡ replicate (8 * length os - 8 * k) false
+zeros_after spare k os h l = sym (unpack-drop k os) ∙ ap (λ bs. drop (8 * k) bs) h.zeros
     ∙ ap (λ (n : ℕ). drop n (filled spare os ++ replicate spare false)) (let e : 8 * k ≡ length (filled spare os) + more = omega (arith, filled_length spare os) in e)
     ∙ drop-append-add (filled spare os) (replicate spare false) more ∙ drop-replicate more spare false
     ∙ ap (λ (n : ℕ). replicate n false) (let e : spare - more ≡ 8 * length os - 8 * k = omega (arith, filled_length spare os, room_there h) in e)
@@ -37,12 +37,20 @@ pub unpack-zeros : (k : ℕ) → unpack (replicate k 0) ≡ replicate (8 * k) fa
 unpack-zeros zero = refl
 unpack-zeros (suc k) = ap₂ (λ bs cs. bs ++ cs) (to_bits-zeros 8) (unpack-zeros k) ∙ replicate-append-replicate 8 (8 * k) false ∙ ap (λ (n : ℕ). replicate n false) (let e : 8 + 8 * k ≡ 8 * suc k = omega arith in e)
 
--- zeros are put behind them
+-- zeros are put after them
 pub zeros_added : (spare more k : ℕ) (os qs : List ℕ) → AreKept spare os → spare < 192 → k ≡ 40 → more ≡ spare + 320 → qs ≡ os ++ replicate k 0 → HaveRoom (filled spare os) more qs
 zeros_added spare more k os qs h l f m q = record {
   few = omega arith;
   zeros = ap unpack q ∙ unpack-append os (replicate k 0) ∙ ap₂ (λ bs cs. bs ++ cs) h.zeros (unpack-zeros k) ∙ append_assoc (filled spare os) (replicate spare false) (replicate (8 * k) false)
       ∙ ap (λ bs. filled spare os ++ bs) (replicate-append-replicate spare (8 * k) false ∙ ap (λ (n : ℕ). replicate n false) (let e : spare + 8 * k ≡ more = omega arith in e));
+}
+
+-- some of them are taken
+pub zeros_taken : {bits : Bits} {spare count : ℕ} {os : List ℕ} → HaveRoom bits spare os → count ≤ spare → HaveRoom (bits ++ replicate count false) (spare - count) os
+zeros_taken {bits} {spare} {count} h l = record {
+  few = omega (arith, h.few);
+  zeros = h.zeros ∙ ap (λ bs. bits ++ bs) (ap (λ (n : ℕ). replicate n false) (let e : spare ≡ count + (spare - count) = omega arith in e) ∙ sym (replicate-append-replicate count (spare - count) false))
+      ∙ sym (append_assoc bits (replicate count false) (replicate (spare - count) false));
 }
 
 -- ---- a field
@@ -103,7 +111,7 @@ field_put n len spare width value free used place octet front low word os now by
     written = ap unpack y ∙ unpack-bytes 8 word ∙ ap (λ (n : ℕ). to_bits n word) (sym word_size-is) ∙ word_bits used width value front low word (omega arith) l below v w
 
     others : unpack (drop 8 (drop place os)) ≡ replicate (8 * length os - 8 * (place + 8)) false
-    others = ap unpack (drop-drop 8 place os) ∙ zeros_behind spare (place + 8) os h (omega (arith, room_there h))
+    others = ap unpack (drop-drop 8 place os) ∙ zeros_after spare (place + 8) os h (omega (arith, room_there h))
 
     behind : unpack (bytes ++ drop 8 (drop place os)) ≡ (mine ++ field) ++ zeros
     behind = unpack-append bytes (drop 8 (drop place os)) ∙ ap₂ (λ bs cs. bs ++ cs) written others

@@ -10,7 +10,7 @@ use Rattle.std.proofs.lemmas.Nat.{or_shifted, shl_whole, shr_below, shr-shr}
 use Rattle.rasn_types.specs.Bits.{Bits, number_of, to_bits, unpack}
 use Rattle.rasn_types.proofs.Bits.{length-to_bits, number-to_bits, to_bits-same, to_bits-split}
 use Rattle.per_bits.specs.Octets.{filled, AreKept, HaveRoom}
-use Rattle.per_bits.proofs.Joins.{behind, put_behind}
+use Rattle.per_bits.proofs.Joins.{behind, put_after}
 use Rattle.per_bits.proofs.Readers.{filled_length, room_there}
 use Rattle.per_bits.proofs.Words.{to_bits-join, to_bits-zeros, unpack-drop}
 
@@ -23,7 +23,7 @@ pub bit_is : {n : ℕ} (b : Bool) → n ≡ bool_byte b → to_bits 1 n ≡ b �
 bit_is true e = ap (λ (m : ℕ). to_bits 1 m) e
 bit_is false e = ap (λ (m : ℕ). to_bits 1 m) e
 
--- an octet with another bit: what stands in front, the bit, and what stands behind
+-- an octet with another bit: what is in front, the bit, and what is behind
 module _ (p s o bit front low v : ℕ) (b : Bool) (e : p + (1 + s) ≡ 8) (below : o < 256) (small : bit < 2 ^ 1) (is_bit : to_bits 1 bit ≡ b ∷ [])
     (is_front : front ≡ bit_or (o / 2 ^ s / 2 * 2 % 2 ^ 64) bit) (is_low : low ≡ o % 2 ^ s) (is : v ≡ bit_or (front * 2 ^ s % 2 ^ 64) low) where
   abbrev high : ℕ
@@ -33,7 +33,7 @@ module _ (p s o bit front low v : ℕ) (b : Bool) (e : p + (1 + s) ≡ 8) (below
   high_below = subst (λ (n : ℕ). n < 2 ^ p) (sym (shr-shr o s 1)) (shr_below o p (s + 1) (subst (λ (n : ℕ). o < 2 ^ n) (let i : 8 ≡ p + (s + 1) = omega arith in i) below))
 
   front_is : front ≡ high * 2 ^ 1 + bit
-  front_is = is_front ∙ put_behind 64 high bit p 1 high_below small (omega arith)
+  front_is = is_front ∙ put_after 64 high bit p 1 high_below small (omega arith)
 
   front_below : front < 2 ^ (p + 1)
   front_below = subst (λ (n : ℕ). n < 2 ^ (p + 1)) (sym front_is) (behind high bit p 1 high_below small)
@@ -42,7 +42,7 @@ module _ (p s o bit front low v : ℕ) (b : Bool) (e : p + (1 + s) ≡ 8) (below
   low_below = let m = mod-lt o (pow_pos s) in omega arith
 
   v_is : v ≡ front * 2 ^ s + low
-  v_is = is ∙ put_behind 64 front low (p + 1) s front_below low_below (omega arith)
+  v_is = is ∙ put_after 64 front low (p + 1) s front_below low_below (omega arith)
 
   pub octet_fits : v < 256
   octet_fits = subst (λ (n : ℕ). n < 256) (sym v_is) (subst (λ (n : ℕ). front * 2 ^ s + low < 2 ^ n) (let i : p + 1 + s ≡ 8 = omega arith in i) (behind front low (p + 1) s front_below low_below))

@@ -6,14 +6,14 @@ use Rattle.std.proofs.Math.ListN.{set}
 use Rattle.std.proofs.Math.Seq.{drop-cons}
 use Rattle.rasn_types.specs.Bits.{Bits, to_bits, unpack}
 use Rattle.rasn_types.proofs.Bits.{length-to_bits, length-unpack, to_bits-same, unpack-append}
-use Rattle.per_bits.proofs.Joins.{put_behind}
+use Rattle.per_bits.proofs.Joins.{put_after}
 use Rattle.per_bits.proofs.Readers.{split_at}
 use Rattle.per_bits.proofs.Words.{to_bits-inner, to_bits-join, inner-append, unpack-drop}
 
 -- eight bits of two octets
 pub pair_bits : (s a b : ℕ) → s < 8 → a < 2 ^ 8 → b < 2 ^ 8 → to_bits 8 (bit_or (a * 2 ^ 8 % 2 ^ 16) b / 2 ^ (8 - s) % 256) ≡ take 8 (drop s (to_bits 8 a ++ to_bits 8 b))
 pair_bits s a b h f g = to_bits-same 8 (p / 2 ^ (8 - s) % 256) (p / 2 ^ (8 - s)) (omega arith) ∙ sym (to_bits-inner s 8 (8 - s) p)
-    ∙ ap (λ bs. take 8 (drop s bs)) (ap₂ to_bits (let e : s + (8 + (8 - s)) ≡ 8 + 8 = omega arith in e) (put_behind 16 a b 8 8 f g (omega arith)) ∙ to_bits-join 8 8 a b g)
+    ∙ ap (λ bs. take 8 (drop s bs)) (ap₂ to_bits (let e : s + (8 + (8 - s)) ≡ 8 + 8 = omega arith in e) (put_after 16 a b 8 8 f g (omega arith)) ∙ to_bits-join 8 8 a b g)
   where
     p : ℕ
     p = bit_or (a * 2 ^ 8 % 2 ^ 16) b
@@ -53,10 +53,10 @@ shift_more s i v os from h l k e b = ap unpack cut ∙ unpack-append (take i os)
         ∙ take_at here (drop (suc i) os) (i + 1) (length-append (take i os) (v ∷ []) ∙ omega (arith, length-take i os))
 
 -- octets that were appended, and then filled with the bits of others
-pub filled_behind : (n start count s : ℕ) (now old ys from rest : List ℕ) → n ≡ length now → start ≡ length old → now ≡ old ++ take count from → s + 8 * count ≤ 8 * length from →
+pub filled_after : (n start count s : ℕ) (now old ys from rest : List ℕ) → n ≡ length now → start ≡ length old → now ≡ old ++ take count from → s + 8 * count ≤ 8 * length from →
     unpack ys ≡ take (8 * length (take (length now - start) (drop start now))) (drop s (unpack from)) →
     unpack (take n (put_mid start (length now - start) now ys ++ rest)) ≡ unpack old ++ take (8 * count) (drop s (unpack from))
-filled_behind n start count s now old ys from rest e l h w f = ap unpack cut ∙ unpack-append old ys ∙ ap (λ bs. unpack old ++ bs) bits
+filled_after n start count s now old ys from rest e l h w f = ap unpack cut ∙ unpack-append old ys ∙ ap (λ bs. unpack old ++ bs) bits
   where
     long : length now ≡ start + count
     long = ap length h ∙ length-append old (take count from) ∙ omega (arith, length-take count from, w, l)

@@ -1,4 +1,4 @@
--- The spare bits behind a value.
+-- The spare bits after a value.
 use Rattle.std.proofs.Common.{◌≡◌, ◌<◌, inl, inr, ◌∙◌, ap, subst, ℕ, Bool, false, length, take, take_all, arith, mod-eq_of_lt, replicate}
 use Rattle.rasn_types.specs.Bits.{Bits, number_of}
 use Rattle.rasn_types.proofs.Packing.{number-zeros}
@@ -6,7 +6,7 @@ use Rattle.per_core.specs.Ends.{Ends, spare, IsOfSpare}
 use Rattle.per_core.specs.Spellings.{ZeroIf}
 use Rattle.per_core.specs.declared.ends.Surplus.{Surplus}
 use Rattle.per_core.specs.declared.ends.Surplus.TheVariants.{Missing, NonzeroOctet, NonzeroSpareBits, ExtraOctets}
-use Rattle.per_core.proofs.Within.{zero_if}
+use Rattle.per_core.proofs.WriterSpellings.{zero_if}
 use Rattle.per_core.proofs.Zeros.{zeros}
 
 -- of fewer than eight bits all are spare

@@ -17,7 +17,7 @@ use Rattle.per_bits.proofs.Words.{inner-append, inner-front, to_bits-inner, unpa
 
 -- ---- eight numbers in a word
 
--- the numbers behind the first bits of a word
+-- the numbers after the first bits of a word
 pub record AreNumbers (w skip loaded word : ℕ) : Type 0 where
   pub bits : to_bits (8 * w) word ≡ take (8 * w) (drop skip (to_bits word_size loaded))
   pub below : word < 2 ^ (8 * w)
@@ -50,7 +50,7 @@ put_more w at k value octets bytes h e l b = ap (λ os. low_bits_of w (take (at 
     ∙ low-append w (take at octets) bytes
     ∙ ap (λ bs. low_bits_of w (take at octets) ++ bs) (sym (octets_low w 8 value bytes h (bytes_eight value bytes b) (ap (λ (m : ℕ). to_bits m value) (sym word_size-is) ∙ sym (bytes_bits value bytes b))))
 
--- the bits of the word behind a place
+-- the bits of the word after a place
 word_there : (w skip place loaded : ℕ) (from rest : List ℕ) → w < 8 → skip < 8 → place ≤ length from → rest ≡ drop place from → to_bits word_size loaded ≡ first_word rest →
     take (8 * w) (drop skip (to_bits word_size loaded)) ≡ take (8 * w) (drop (8 * place) (drop skip (unpack from ++ replicate word_size false)))
 word_there w skip place loaded from rest h l f r e = ap (λ bs. take (8 * w) (drop skip bs)) e

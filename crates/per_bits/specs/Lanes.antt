@@ -1,4 +1,4 @@
--- Fields of one size that stand side by side in a number, the last of them its lowest bits.
+-- Fields of one size that are side by side in a number, the last of them its lowest bits.
 use Rattle.std.specs.Prelude.{◌≡◌, ℕ, zero, suc, ◌+◌, ◌-◌, ◌*◌, ◌/◌, ◌%◌, ◌^◌, ◌<◌, [], ◌++◌}
 use Rattle.rasn_types.specs.Bits.{Bits, to_bits}
 

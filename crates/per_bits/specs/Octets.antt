@@ -6,7 +6,7 @@ use Rattle.rasn_types.specs.Bits.{Bits, to_bits, unpack}
 unfoldable pub word_size : ℕ
 word_size = 64
 
--- the first bits of octets, as many as a word has, zeros behind them where there are fewer
+-- the first bits of octets, as many as a word has, zeros after them where there are fewer
 abbrev pub first_word : List ℕ → Bits
 first_word octets = take word_size (unpack octets ++ replicate word_size false)
 
@@ -14,7 +14,7 @@ first_word octets = take word_size (unpack octets ++ replicate word_size false)
 abbrev pub filled : ℕ → List ℕ → Bits
 filled spare octets = take (8 * length octets - spare) (unpack octets)
 
--- octets that are these bits, and behind them spare ones, fewer than eight zeros
+-- octets that are these bits, and after them spare ones, fewer than eight zeros
 pub record AreFilledBy (bits : Bits) (spare : ℕ) (octets : List ℕ) : Type 0 where
   pub few : spare < 8
   pub zeros : unpack octets ≡ bits ++ replicate spare false
@@ -23,7 +23,7 @@ pub record AreFilledBy (bits : Bits) (spare : ℕ) (octets : List ℕ) : Type 0 
 abbrev pub ArePadded : ℕ → List ℕ → Type 0
 ArePadded spare octets = AreFilledBy (filled spare octets) spare octets
 
--- octets that are these bits, and behind them spare ones, fewer than 512 zeros: room for later bits
+-- octets that are these bits, and after them spare ones, fewer than 512 zeros: room for later bits
 pub record HaveRoom (bits : Bits) (spare : ℕ) (octets : List ℕ) : Type 0 where
   pub few : spare < 512
   pub zeros : unpack octets ≡ bits ++ replicate spare false
@@ -32,11 +32,11 @@ pub record HaveRoom (bits : Bits) (spare : ℕ) (octets : List ℕ) : Type 0 whe
 abbrev pub AreKept : ℕ → List ℕ → Type 0
 AreKept spare octets = HaveRoom (filled spare octets) spare octets
 
--- only zeros stand in octets behind the first bits
+-- only zeros are in octets after the first bits
 abbrev pub HaveZeros : ℕ → List ℕ → Type 0
 HaveZeros used octets = unpack octets ≡ take used (unpack octets) ++ replicate (8 * length octets - used) false
 
--- `count` bits stand in octets behind `skip` others
+-- `count` bits are in octets behind `skip` others
 pub record AreWithin (skip count : ℕ) (octets : List ℕ) : Type 0 where
   pub few : skip < 8
   pub enough : skip + count ≤ 8 * length octets

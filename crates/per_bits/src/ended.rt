@@ -7,7 +7,7 @@ ghost use Rattle.per_core.specs.Spellings.{ZeroIf};
 use crate::BitReader;
 pub use per_core::ends::Surplus;
 
-/// Whether bits end as a complete encoding does: `left` is what is left of `total` bits behind a value.
+/// Whether bits end as a complete encoding does: `left` is what is left of `total` bits after a value.
 ///
 /// Fewer than eight bits may be left, whatever they are, or zero bits where `zero_padding` asks for these; they are
 /// looked at before whole octets that are left over. A value of no bits takes one octet, which is zero.

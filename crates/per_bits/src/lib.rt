@@ -7,22 +7,22 @@
 
 ghost use Rattle.std.specs.Prelude.{◌≡◌, ◌+◌, ◌-◌, ◌*◌, ◌/◌, ◌%◌, ◌^◌, ◌<◌, ◌≤◌, List, [], ◌∷◌, ◌++◌, Bool, length};
 ghost use Rattle.std.specs.Prelude.{take, drop, set, slice_get, vec_len, vec_capacity, OnOk, OnErr, IfOk, IfErr};
-ghost use Rattle.std.specs.Prelude.{IfSome, IsSome, IsTrue, ◌↔◌, ⊤};
+ghost use Rattle.std.specs.Prelude.{IfSome, IsSome, IsTrue, ◌↔◌, ⊤, replicate, false};
 ghost use Rattle.rasn_types.specs.Bits.{to_bits, number_of, unpack};
 ghost use Rattle.rasn_types.specs.Packed.{packed};
 ghost use Rattle.per_bits.specs.Octets.{filled, low_bits_of, AreFilledBy, ArePadded, AreWholeOctets};
 
-use crate::fields::{
-    FIELD_BITS, append_field, append_low_bits, append_octets_behind, copy_octets, cut_back,
-    fill_last_octet, put_bit, put_number, read_field, read_wide_field, spread_octets, with_bit,
-    with_room,
+use crate::bit_fields::{
+    FIELD_BITS, append_field, append_low_bits, append_octets_after, copy_octets, cut_back,
+    field_of, fill_last_octet, put_bit, put_field, put_number, read_field, read_wide_field,
+    spread_octets, with_bit, with_room,
 };
 use rasn_types::bit_string::note_octets;
 use std::alloc::{AllocError, Allocator};
 use std::marker::Model;
 
+mod bit_fields;
 pub mod ended;
-mod fields;
 pub mod per;
 
 /// Bits in the order in which they are written.
@@ -46,6 +46,7 @@ impl<A: Allocator> Model for BitList<A> {
 
 impl<A: Allocator> BitList<A> {
     /// A list of no bits, which takes no memory.
+    #[inline(always)]
     pub fn new(alloc: A) -> Self
         ensures { result ≡ [] }
     {
@@ -56,6 +57,7 @@ impl<A: Allocator> BitList<A> {
     }
 
     /// A list of no bits in the memory of octets, which are removed.
+    #[inline(always)]
     pub fn from_memory(mut octets: Vec<u8, A>) -> Self
         ensures { result ≡ [] }
     {
@@ -85,6 +87,7 @@ impl<A: Allocator> BitList<A> {
     }
 
     /// How many bits there are.
+    #[inline(always)]
     pub fn len(&self) -> u128
         ensures { result ≡ length self.now }
     {
@@ -109,6 +112,7 @@ impl<A: Allocator> BitList<A> {
     }
 
     /// The bits in the fewest octets, as `as_octets` gives them, in the list's own memory.
+    #[inline(always)]
     pub fn into_octets(self) -> Vec<u8, A>
         ensures { result.items ≡ packed self }
     {
@@ -168,12 +172,43 @@ impl<A: Allocator> BitList<A> {
         Ok(())
     }
 
+    /// Appends the low `width` bits of a word, at most the 56 of a field, highest first. The only error is want of
+    /// memory, and then the list is as it was.
+    #[inline(always)]
+    pub fn push_field(&mut self, value: u64, width: u32) -> Result<(), AllocError>
+        requires { width ≤ FIELD_BITS }
+        ensures ok { OnOk result (self.new ≡ self.old ++ to_bits width value) }
+        ensures err { OnErr result (self.new ≡ self.old) }
+    {
+        let spare = with_room(&mut self.octets, self.spare)?;
+        put_field(&mut self.octets, spare, value, width);
+        self.spare = spare - width;
+        Ok(())
+    }
+
+    /// Appends zero bits, which take the place of spare ones. The only error is want of memory, and then the list is as
+    /// it was.
+    #[inline(always)]
+    pub fn push_zeros(&mut self, count: u32) -> Result<(), AllocError>
+        requires { count ≤ 128 }
+        ensures ok { OnOk result (self.new ≡ self.old ++ replicate count false) }
+        ensures err { OnErr result (self.new ≡ self.old) }
+    {
+        let spare = with_room(&mut self.octets, self.spare)?;
+        self.spare = spare - count;
+        Ok(())
+    }
+
     /// Appends the bits of the octets, the highest of each octet first. The only error is want of memory, and then
     /// the list is as it was.
     pub fn push_octets(&mut self, octets: &[u8]) -> Result<(), AllocError>
         ensures ok { OnOk result (self.new ≡ self.old ++ unpack octets.now) }
         ensures err { OnErr result (self.new ≡ self.old) }
     {
+        if octets.len() <= 7 {
+            let field = field_of(octets, 8);
+            return self.push_field(field, 8 * octets.len() as u32);
+        }
         self.push_reader(&BitReader::from_octets(octets))
     }
 
@@ -210,6 +245,7 @@ impl<A: Allocator> BitList<A> {
     }
 
     /// Removes every bit. The list keeps its memory for later bits.
+    #[inline(always)]
     pub fn clear(&mut self)
         ensures { self.new ≡ [] }
     {
@@ -222,7 +258,7 @@ impl<A: Allocator> BitList<A> {
 /// that octet stand in front of it. No call takes memory but `append_octets`.
 #[derive(Drop)]
 pub struct BitReader<'input> {
-    /// The octet that the first bit stands in, and those behind it.
+    /// The octet that the first bit is in, and those after it.
     octets: &'input [u8],
     /// How many bits of that octet are no longer left, fewer than eight.
     skip: u32,
@@ -326,7 +362,7 @@ impl<'input> BitReader<'input> {
         Ok(front)
     }
 
-    /// A reader of `count` bits behind the first `begin`, all of which are still left here.
+    /// A reader of `count` bits after the first `begin`, all of which are still left here.
     #[inline(always)]
     pub fn part(&self, begin: u128, count: u128) -> BitReader<'input>
         requires { begin + count ≤ length self.now.bits }
@@ -354,6 +390,16 @@ impl<'input> BitReader<'input> {
         } else {
             read_wide_field(self.octets, self.skip, count as u32)
         }
+    }
+
+    /// The number that the first `width` bits mean, at most the 56 of a field. They are still left.
+    #[inline(always)]
+    fn first_field(&self, width: u32) -> u64
+        requires few { width ≤ FIELD_BITS }
+        requires left { width ≤ length self.now.bits }
+        ensures { to_bits width result ≡ take width self.now.bits }
+    {
+        read_field(self.octets, self.skip, width)
     }
 
     /// The first bit, 0 or 1, which is still left.
@@ -393,7 +439,7 @@ impl<'input> BitReader<'input> {
         }
     }
 
-    /// Appends the bits that are left to octets: the fewest octets, the first bit highest, and zero bits behind the
+    /// Appends the bits that are left to octets: the fewest octets, the first bit highest, and zero bits after the
     /// last. The only error is want of memory, and then the octets are as they were.
     pub fn append_octets<A: Allocator>(&self, octets: &mut Vec<u8, A>) -> Result<(), AllocError>
         ensures ok { OnOk result (octets.new.items ≡ octets.old.items ++ packed self.now.bits) }
@@ -401,7 +447,7 @@ impl<'input> BitReader<'input> {
     {
         note_octets(octets.as_slice());
         octets.reserve(self.octet_room())?;
-        append_reader(octets, 0, self.clone().unwrap());
+        append_from_octet(octets, self.clone().unwrap());
         Ok(())
     }
 
@@ -413,7 +459,7 @@ impl<'input> BitReader<'input> {
         ensures room { vec_capacity octets.old ≤ vec_capacity octets.new }
     {
         let count = (self.len / 8) as usize;
-        append_octets_behind(octets, self.octets, self.skip, count);
+        append_octets_after(octets, self.octets, self.skip, count);
         self.take(8 * count as u128).unwrap();
     }
 
@@ -482,6 +528,6 @@ fn append_from_octet<A: Allocator>(octets: &mut Vec<u8, A>, reader: BitReader<'_
     let mut left = reader;
     left.move_front(octets);
     let width = left.len() as u32;
-    let number = left.take_field(width);
+    let number = left.first_field(width);
     append_field(octets, 0, number, width)
 }

@@ -1,4 +1,4 @@
 pub mod Codes
 mod Crosses
-mod Held
+mod HandleContents
 mod Values

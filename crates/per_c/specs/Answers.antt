@@ -73,7 +73,7 @@ HasNoJson options number octets (Encode kind) = ⊥
 HasNoJson options number octets (Json e) = IsTextless options number octets e
 HasNoJson options number octets refusal = IsRefused options number octets refusal
 
--- octets are put in the front of a room, which stays as it was behind them, and how many they are is written
+-- octets are put in the front of a room, which stays as it was after them, and how many they are is written
 pub record ArePut (octets before after : List ℕ) (written : ℕ) : Type 0 where
   pub count : written ≡ length octets
   pub fits : written ≤ length before

@@ -144,6 +144,6 @@ message_refusal Messages.OtherType = OtherType
 message_refusal (Messages.FromJson e) = FromJson e
 message_refusal Messages.OutOfMemory = OutOfMemory
 
--- a name as C has it: zeros behind it, 32 octets in all
+-- a name as C has it: zeros after it, 32 octets in all
 abbrev pub in_c : List ℕ → List ℕ
 in_c name = name ++ replicate (32 - length name) 0

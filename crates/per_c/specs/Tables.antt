@@ -11,7 +11,7 @@ use Rattle.rasn_dynamic.specs.Names.{place_of}
 use Rattle.rasn_dynamic.specs.Types.{schema_at}
 use Rattle.rasn_dynamic.specs.declared.types.Types.{Types}
 use Rattle.rasn_dynamic.specs.declared.values.Value.{Value}
-use Rattle.rasn_dynamic_jer.specs.Told.{IsTextOf}
+use Rattle.rasn_dynamic_jer.specs.FromJson.{IsTextOf}
 use Rattle.schema_file.specs.Lines.{IsLineOf}
 use Rattle.per_core.specs.Rows.{Codec}
 use Rattle.per_lines.specs.declared.arguments.Padding.TheVariants as Paddings
@@ -130,7 +130,7 @@ path_of (Some fault) = string_bytes fault.path
 abbrev pub IsPathOf : Option Table → ℕ → List ℕ → List ℕ → Type 0
 IsPathOf held place text path = (fault : Option Fault) × IsTextFault held place text fault × (path ≡ path_of fault)
 
--- how many octets stand in front of where a text stops to be JSON; all of them where it is JSON
+-- how many octets are in front of where a text stops to be JSON; all of them where it is JSON
 abbrev pub octet_of : List ℕ → Option Fault → ℕ
 octet_of text None = length text
 octet_of text (Some fault) = unwrap_or fault.octet (length text)
@@ -148,7 +148,7 @@ IsUntold held NoTypes = held ≡ None
 IsUntold held OutOfMemory = Unit {0}
 IsUntold held _ = ⊥
 
--- the type of a name stands at a place of the table that is held
+-- the type of a name is at a place of the table that is held
 pub record IsFound (held : Option Table) (name : List ℕ) (place : ℕ) : Type 0 where
   pub table : Table
   pub is_held : held ≡ Some table

@@ -3,7 +3,7 @@
 ghost use Rattle.std.specs.Prelude.{◌≡◌, ◌<◌, length};
 ghost use Rattle.per_c.specs.Numbers.{in_c};
 
-/// A text that ends with an octet of zero, and has more of them behind it.
+/// A text that ends with an octet of zero, and has more of them after it.
 #[repr(C)]
 #[derive(Clone, Copy)]
 pub struct Name {

@@ -287,14 +287,14 @@ pub extern "C" fn per_first_length(
 /// A bit of octets: of the octet at an index, counted from its first bit, which is the highest.
 #[repr(C)]
 pub struct PerBit {
-    /// How many octets stand in front.
+    /// How many octets are in front.
     pub octet: usize,
     /// How many bits of its octet do, at most 7.
     pub bit: u32,
 }
 
 /// Where octets are refused by the type at a place: the path in `path`, how many octets it has in `written`, and how
-/// many bits stand in front in `bit`. Where `path` is too small, it stays as it is. Answers 0, or the code of a
+/// many bits are in front in `bit`. Where `path` is too small, it stays as it is. Answers 0, or the code of a
 /// refusal.
 #[unsafe(no_mangle)]
 pub extern "C" fn per_refused_at(

@@ -22,7 +22,7 @@ use Rattle.per_core.proofs.Numbers.{number_within, small_within}
 use Rattle.per_core.proofs.Presenting.{Pair, Pairs, record_within, open_within, octets_within}
 use Rattle.per_core.proofs.Strings.{string_within, day_within}
 use Rattle.per_core.proofs.Readings.{one_reading}
-use Rattle.per_core.proofs.Within.{Within, just_within, refused_within, then_within, if_within, relax, field_within, bounded_within}
+use Rattle.per_core.proofs.WriterSpellings.{Within, just_within, refused_within, then_within, if_within, relax, field_within, bounded_within}
 
 pub as_within : {X : Type 0} (make : X → Value) (spells : X → Spelling) (x : X) (v : Value) → v ≡ make x → {w : Writer} → Within w (spells x) → Within w (As make spells v)
 as_within make spells x v e h = relax (λ p b s. record { of = x; is = e; spelled = s }) h

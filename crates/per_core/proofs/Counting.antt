@@ -4,9 +4,9 @@ use Rattle.rasn_types.specs.Bits.{Bits, to_bits}
 use Rattle.rasn_constraints.specs.Bounds.{allows, Size, any_size}
 use Rattle.per_core.specs.Basic.{OneByOne, LastCount, Fragment, UnconstrainedLength, PaddingIf, length_form, Sized, Counted}
 use Rattle.per_core.specs.Counts.{fragment_sizes, unless_zero, determinant, in_fragments, ItemKind, is_aligned, padding_if, counted_under, counted_in, marked_form, counted}
-use Rattle.per_core.specs.Spellings.{Settings, Spelling, exactly, Then, AnyPadding, Field}
+use Rattle.per_core.specs.Spellings.{Settings, Spelling, exactly, Then, AnyPadding, BitField}
 use Rattle.per_core.specs.Writers.{after, Writer, just, ◌▹◌, one_by_one, padding, written_if}
-use Rattle.per_core.proofs.Within.{Within, just_within, then_within, if_within, cond_within, relax, left_within, right_within, when_within, field_within, padding_within, bounded_within}
+use Rattle.per_core.proofs.WriterSpellings.{Within, just_within, then_within, if_within, cond_within, relax, left_within, right_within, when_within, field_within, padding_within, bounded_within}
 
 pub length-map' : {X Y : Type 0} (f : X → Y) (xs : List X) → length (map f xs) ≡ length xs
 length-map' f [] = refl
@@ -36,7 +36,7 @@ last_count m h = cond_cases (ltb m 128) refl
     cond_cases true e = left_within (when_within (ltb-true m 128 e) (field_within 8 m (omega (arith, ltb-true m 128 e))))
     cond_cases false e = right_within (rw (lt-ltb m 16384 h) (two (field_within 14 m h)))
       where
-        two : Within (just (to_bits 14 m)) (Field 14 m) → Within (just (true ∷ false ∷ to_bits 14 m)) (Then (exactly (true ∷ false ∷ [])) (Field 14 m))
+        two : Within (just (to_bits 14 m)) (BitField 14 m) → Within (just (true ∷ false ∷ to_bits 14 m)) (Then (exactly (true ∷ false ∷ [])) (BitField 14 m))
         two w = record {
           within = λ p b e. let e' : true ∷ false ∷ to_bits 14 m ≡ b = cc in
               record { front = true ∷ false ∷ []; rest = to_bits 14 m; is_front = refl; is_rest = w.within ((p + 2) % 8) (to_bits 14 m) refl; joins = sym e' };

@@ -1,4 +1,4 @@
--- What is spelled within a spelling: each element, part and alternative stands in no more bits than the whole.
+-- What is spelled within a spelling: each element, part and alternative is in no more bits than the whole.
 use Rattle.std.proofs.Common.{◌≡◌, refl, sym, ap, ◌∙◌, ℕ, zero, suc, ◌+◌, ◌-◌, ◌*◌, ◌≤◌, ◌⊎◌, Bool, true, false, cond, ◌&&◌, ltb, List, [], ◌∷◌, ◌++◌, length, arith, inl, inr, Option, Some, None, length-append, subst}
 use Rattle.rasn_types.specs.Bits.{Bits, unpack}
 use Rattle.rasn_types.proofs.Bits.{length-unpack}
@@ -10,8 +10,8 @@ use Rattle.per_core.specs.Basic.{OneByOne, InFragments, UnconstrainedLength, IsC
 use Rattle.per_core.specs.Counts.{ItemKind, is_aligned}
 use Rattle.per_core.specs.Spellings.{Settings, Spelling, Then}
 use Rattle.per_core.proofs.Readings.{length-by_tags}
-use Rattle.per_core.specs.FewItems.{Each}
-use Rattle.per_core.proofs.FewLengths.{then_length}
+use Rattle.per_core.specs.ItemCounts.{Each}
+use Rattle.per_core.proofs.LengthCounts.{then_length}
 
 -- so many bits at most, from some position on, have a spelling
 pub record HeldIn (m : ℕ) (f : Spelling) : Type 0 where

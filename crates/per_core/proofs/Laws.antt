@@ -11,13 +11,13 @@ use Rattle.per_core.specs.Basic.{basic, fills, Fills, Fronts, front}
 use Rattle.per_core.specs.Canon.{canon, bytes, completed}
 use Rattle.per_core.specs.Spellings.{Settings, Spelling}
 use Rattle.per_core.specs.Writers.{complete}
-use Rattle.per_core.proofs.Agree.{Agree}
+use Rattle.per_core.proofs.SpellingsAgree.{Agree}
 use Rattle.per_core.proofs.Canonical.{canonical}
 use Rattle.per_core.proofs.Positions.{canon_p}
 use Rattle.per_core.proofs.Presenting.{unpack-complete}
 use Rattle.per_core.proofs.Unique.{fills_agree}
 use Rattle.per_core.proofs.Readings.{one_reading}
-use Rattle.per_core.proofs.Within.{zero_if}
+use Rattle.per_core.proofs.WriterSpellings.{zero_if}
 use Rattle.rasn_types.proofs.Codes.{split_at_length}
 
 -- octets are a complete encoding of at most one value

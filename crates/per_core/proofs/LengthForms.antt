@@ -6,8 +6,8 @@ use Rattle.rasn_types.proofs.Bits.{number_below}
 use Rattle.rasn_constraints.specs.Bounds.{allows, Size, any_size}
 use Rattle.per_core.specs.Basic.{OneByOne, InOctets, constrained_form, constrained_by, IsConstrainedWhole, LastCount, Fragment, InFragments, UnconstrainedLength, PaddingIf, length_form, Sized, Counted, octet, Octets}
 use Rattle.per_core.specs.Counts.{ItemKind, octet_items, is_aligned}
-use Rattle.per_core.specs.Spellings.{Settings, Spelling, exactly, Then, AnyPadding, Field}
-use Rattle.per_core.proofs.Agree.{Agree, weaken, then_agree, either_agree, when_agree, exactly_agree, empty_agree, field_agree, padding_agree, no_yes, yes_no, behind, turned}
+use Rattle.per_core.specs.Spellings.{Settings, Spelling, exactly, Then, AnyPadding, BitField}
+use Rattle.per_core.proofs.SpellingsAgree.{Agree, weaken, then_agree, either_agree, when_agree, exactly_agree, empty_agree, field_agree, padding_agree, no_yes, yes_no, behind, turned}
 
 pub and_left : (a b : Bool) → (a && b) ≡ true → a ≡ true
 and_left true b e = refl
@@ -58,11 +58,11 @@ pub in_octets_agree : (a : Settings) (n o o' : ℕ) → Agree (o ≡ o') (InOcte
 in_octets_agree a n o o' = record {
   agree = λ p b c s t x y e.
       let w = then_agree (field_agree (width ((width n + 7) / 8)) x.more y.more) (λ m.
-      weaken (λ r. r.1) (then_agree (padding_agree a) (λ u. subst (λ k. Agree (o ≡ o') (Field (8 * suc x.more) o) (Field (8 * suc k) o')) m (field_agree (8 * suc x.more) o o')))) in
+      weaken (λ r. r.1) (then_agree (padding_agree a) (λ u. subst (λ k. Agree (o ≡ o') (BitField (8 * suc x.more) o) (BitField (8 * suc k) o')) m (field_agree (8 * suc x.more) o o')))) in
       let r = w.agree p b c s t x.spelled y.spelled e in (r.0.1, r.1);
 }
 
-pub padded_field_agree : (a : Settings) (w n m : ℕ) → Agree (n ≡ m) (Then (AnyPadding a) (Field w n)) (Then (AnyPadding a) (Field w m))
+pub padded_field_agree : (a : Settings) (w n m : ℕ) → Agree (n ≡ m) (Then (AnyPadding a) (BitField w n)) (Then (AnyPadding a) (BitField w m))
 padded_field_agree a w n m = weaken (λ r. r.1) (then_agree (padding_agree a) (λ u. field_agree w n m))
 
 -- the same test on both sides
@@ -82,7 +82,7 @@ pub bounded_agree : (a : Settings) (n o o' : ℕ) → Agree (o ≡ o') (IsConstr
 bounded_agree a n o o' = record { agree = λ p b c s t x y e. (bounded_form_agree a n o o').agree p b c s t x.spelled y.spelled e }
 
 -- counts in an octet or two
-field_two : (n m w : ℕ) → n < 128 → Agree (n ≡ m) (Field 8 n) (Then (exactly (true ∷ false ∷ [])) (Field w m))
+field_two : (n m w : ℕ) → n < 128 → Agree (n ≡ m) (BitField 8 n) (Then (exactly (true ∷ false ∷ [])) (BitField w m))
 field_two n m w h = record { agree = λ p b c s t x y e. absurd (go b c s t x.wide x.means y.front y.rest y.is_front y.joins e) }
   where
     go : (b c s t : Bits) → length b ≡ 8 → number_of b ≡ n → (f r : Bits) → f ≡ true ∷ false ∷ [] → c ≡ f ++ r → b ++ s ≡ c ++ t → ⊥
@@ -100,7 +100,7 @@ last_agree n m = either_agree
     (weaken (λ r. r.1) (then_agree (exactly_agree (true ∷ false ∷ []) (true ∷ false ∷ []) refl) (λ e. field_agree 14 n m)))
 
 -- a fragment's count is no last count
-two_no_field : {P : Type 0} (n m : ℕ) → 191 < n → Agree P (Field 8 n) (Then (exactly (true ∷ false ∷ [])) (Field 14 m))
+two_no_field : {P : Type 0} (n m : ℕ) → 191 < n → Agree P (BitField 8 n) (Then (exactly (true ∷ false ∷ [])) (BitField 14 m))
 two_no_field n m h = record { agree = λ p b c s t x y e. absurd (go b c s t x.wide x.means y.front y.rest y.is_front y.joins e) }
   where
     go : (b c s t : Bits) → length b ≡ 8 → number_of b ≡ n → (f r : Bits) → f ≡ true ∷ false ∷ [] → c ≡ f ++ r → b ++ s ≡ c ++ t → ⊥

@@ -1,4 +1,4 @@
-pub mod Agree
+pub mod SpellingsAgree
 pub mod Canonical
 pub mod ConstrainedLengths
 pub mod Counting
@@ -9,20 +9,20 @@ pub mod Positions
 pub mod Presenting
 pub mod Records
 pub mod Strings
-pub mod Took
+pub mod TakenInTurn
 pub mod Unique
 pub mod Readings
-pub mod Within
+pub mod WriterSpellings
 pub mod Filling
 pub mod Zeros
 pub mod SetOrders
 pub mod Placing
 pub mod SetReadings
-mod FewArcs
-mod FewItems
-pub mod FewLengths
-pub mod FewTook
-pub mod FewWithin
+mod ArcCounts
+mod ItemCounts
+pub mod LengthCounts
+pub mod TakenItems
+pub mod ItemsWithin
 pub mod HeldIn
 mod NullRows
 pub mod Fits

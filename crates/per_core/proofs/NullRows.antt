@@ -11,11 +11,11 @@ use Rattle.rasn_constraints.specs.Bounds.{allows, any_size}
 use Rattle.rasn_schema.specs.Schemas
 use Rattle.per_core.specs.Basic.{OneByOne, IsConstrainedWhole, PaddingIf, UnconstrainedLength, InFragments, Sized, basic, basic_in, constrained_by}
 use Rattle.per_core.specs.Counts.{is_aligned, list_items}
-use Rattle.per_core.specs.Spellings.{Settings, Spelling, Then, AnyPadding, Field}
+use Rattle.per_core.specs.Spellings.{Settings, Spelling, Then, AnyPadding, BitField}
 use Rattle.per_core.specs.Writers.{after}
 use Rattle.per_core.proofs.LengthForms.{and_no}
-use Rattle.per_core.proofs.Within.{zero_if}
-use Rattle.per_core.specs.FewItems.{item_count}
+use Rattle.per_core.proofs.WriterSpellings.{zero_if}
+use Rattle.per_core.specs.ItemCounts.{item_count}
 use Rattle.per_core.specs.Nulls.{any_nulls, nulls, sized_nulls}
 
 pub count_of_nulls : (n : ℕ) → item_count (nulls n) ≡ n
@@ -37,7 +37,7 @@ only_one v a p = go v
     narrow : width 1 ≤ 0
     narrow = width_least 1 0 (omega arith)
 
-    field : Field (width 1) 0 p []
+    field : BitField (width 1) 0 p []
     field = let h = narrow in record { wide = omega arith; means = refl }
 
     go : (v : Variant) → constrained_by v a 1 0 p []
@@ -74,7 +74,7 @@ unfolding basic_in
 fixed_nulls a p n h = record { of = replicate n nothing; is = refl; spelled = fixed_row a n n p h refl (length-replicate n nothing) }
 
 -- a field's own bits
-field_of : (w n p : ℕ) → n < 2 ^ w → Field w n p (to_bits w n)
+field_of : (w n p : ℕ) → n < 2 ^ w → BitField w n p (to_bits w n)
 field_of w n p h = record { wide = length-to_bits w n; means = number-to_bits w n ∙ mod-eq_of_lt h }
 
 abbrev unaligned_by : Bool → Settings
@@ -87,7 +87,7 @@ fragment_rows : (strict : Bool) (k n p : ℕ) → n ≡ 65536 * k → (b : Bits)
 fragment_rows strict zero n p e =
     let c : length (replicate n nothing) ≡ n = length-replicate n nothing in
     let h : length (replicate n nothing) < 128 = omega arith in
-    let x : Field 8 (length (replicate n nothing)) (after p []) (to_bits 8 (length (replicate n nothing))) = field_of 8 (length (replicate n nothing)) (after p []) (omega arith) in (
+    let x : BitField 8 (length (replicate n nothing)) (after p []) (to_bits 8 (length (replicate n nothing))) = field_of 8 (length (replicate n nothing)) (after p []) (omega arith) in (
       to_bits 8 (length (replicate n nothing)) ++ [],
       length-append (to_bits 8 (length (replicate n nothing))) [] ∙ omega (arith, length-to_bits 8 (length (replicate n nothing))),
       record {

@@ -7,10 +7,10 @@ use Rattle.rasn_types.proofs.Octets.{length-pack, unpack-pack, length-whole_bits
 use Rattle.rasn_constraints.specs.Bounds.{holds, fits_i128, above, Bounds, unbounded}
 use Rattle.per_core.specs.Basic.{IsSemiConstrainedWhole, IsUnconstrainedWhole, number_spelling, IsNumber, IsNumberOf, Marked, Small}
 use Rattle.per_core.specs.Counts.{counted_octets, number_under, number_form, marked_form, small}
-use Rattle.per_core.specs.Spellings.{Settings, exactly, Then, Field}
+use Rattle.per_core.specs.Spellings.{Settings, exactly, Then, BitField}
 use Rattle.per_core.specs.Writers.{just, ◌▹◌, written_if}
 use Rattle.per_core.proofs.Presenting.{octets_within}
-use Rattle.per_core.proofs.Within.{Within, just_within, then_within, if_within, relax, left_within, right_within, when_within, field_within, bounded_within, natural_fits}
+use Rattle.per_core.proofs.WriterSpellings.{Within, just_within, then_within, if_within, relax, left_within, right_within, when_within, field_within, bounded_within, natural_fits}
 
 full_octets : (k : ℕ) (b : Bits) → length b ≡ 8 * k → unpack (pack (length b / 8) b) ≡ b
 full_octets k b l = unpack-pack (length b / 8) b (omega arith)
@@ -71,7 +71,7 @@ pub small_within : (a : Settings) (i : ℕ) → Within (small a.variant i) (Smal
 unfolding small
 small_within a i = go (ltb i 64) refl
   where
-    small_form : i < 64 → Within (just (false ∷ to_bits 6 i)) (Then (exactly (false ∷ [])) (Field 6 i))
+    small_form : i < 64 → Within (just (false ∷ to_bits 6 i)) (Then (exactly (false ∷ [])) (BitField 6 i))
     small_form h = record {
       within = λ p b e. let w = field_within 6 i h in let e' : false ∷ to_bits 6 i ≡ b = cc in
           record { front = false ∷ []; rest = to_bits 6 i; is_front = refl; is_rest = w.within ((p + 1) % 8) (to_bits 6 i) refl; joins = sym e' };

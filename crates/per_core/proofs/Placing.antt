@@ -9,7 +9,7 @@ use Rattle.rasn_schema.specs.Schemas.{Tag, Schema, Parts, no_parts, part, by_tag
 use Rattle.per_core.specs.Canon.{Member, bitmap_of, bodies_of, canon, flags_of, members, record_of, with_additions}
 use Rattle.per_core.specs.Writers.{Writer, one_by_one, ◌▹◌}
 use Rattle.per_core.proofs.Readings.{length-by_tags}
-use Rattle.per_core.specs.Placed.{each_writes, its_flag, its_value, placed_set}
+use Rattle.per_core.specs.PlacedSets.{each_writes, its_flag, its_value, placed_set}
 
 -- what is written for a component that is put among others
 each_put : (f : Member → Option Value → Writer) (n : ℕ) (m : Member) (s : Option Value) (ms : List Member) (ss : List (Option Value)) → length ms ≡ length ss

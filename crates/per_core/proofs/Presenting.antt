@@ -10,12 +10,12 @@ use Rattle.rasn_schema.specs.Schemas.{Presence, required, optional, group, defau
 use Rattle.per_core.specs.Basic.{Sized, octet, bit, Octets, Fills, Open, Rule, FlagOf, Flags, IsLeftOut, Body, Bodies, Root, Additions_in, IsBitmap, Record_in}
 use Rattle.per_core.specs.Canon.{Member, shown, flagged, if_shown, flags_of, bodies_of, also_bit, bitmap_of, any_set, bitmap, opens_of, extension_bit, with_additions, record_of}
 use Rattle.per_core.specs.Counts.{counted, octet_items, bit_items, bit_writers, unconstrained_octets, open_bits}
-use Rattle.per_core.specs.Spellings.{Settings, Spelling, exactly, Then, Either, Field}
+use Rattle.per_core.specs.Spellings.{Settings, Spelling, exactly, Then, Either, BitField}
 use Rattle.per_core.specs.Writers.{complete, Writer, just, ◌▹◌, join, written_if}
 use Rattle.rasn_types.proofs.Codes.{same_true}
 use Rattle.per_core.proofs.Counting.{counted_within}
 use Rattle.per_core.proofs.Positions.{Periodic, then_p, flags_p}
-use Rattle.per_core.proofs.Within.{zero_if, Within, just_within, refused_within, then_within, if_within, relax, left_within, right_within, when_within, field_within}
+use Rattle.per_core.proofs.WriterSpellings.{zero_if, Within, just_within, refused_within, then_within, if_within, relax, left_within, right_within, when_within, field_within}
 
 -- a member and its rule
 pub record Pair (m : Member) (r : Rule) : Type 0 where
@@ -203,7 +203,7 @@ bitmap_within : (a : Settings) (bs : Bits) → 0 < length bs → Within (bitmap 
 unfolding bitmap
 bitmap_within a bs h = relax (λ p b x. record { some = h; spelled = x }) (go (leb (length bs) 64) refl)
   where
-    small_form : length bs - 1 < 64 → Within (just (false ∷ to_bits 6 (length bs - 1)) ▹ just bs) (Then (exactly (false ∷ [])) (Then (Field 6 (length bs - 1)) (exactly bs)))
+    small_form : length bs - 1 < 64 → Within (just (false ∷ to_bits 6 (length bs - 1)) ▹ just bs) (Then (exactly (false ∷ [])) (Then (BitField 6 (length bs - 1)) (exactly bs)))
     small_form l = record {
       within = λ p b e. let w = field_within 6 (length bs - 1) l in let e' : (false ∷ to_bits 6 (length bs - 1)) ++ bs ≡ b = cc in
           record {
@@ -216,7 +216,7 @@ bitmap_within a bs h = relax (λ p b x. record { some = h; spelled = x }) (go (l
     }
 
     go : (t : Bool) → leb (length bs) 64 ≡ t → Within (cond t (just (false ∷ to_bits 6 (length bs - 1)) ▹ just bs) (just (true ∷ []) ▹ counted a.variant any_size false bit_items (bit_writers bs)))
-        (Either (Then (exactly (false ∷ [])) (Then (Field 6 (length bs - 1)) (exactly bs))) (Then (exactly (true ∷ [])) (Sized a any_size bit_items bit bs)))
+        (Either (Then (exactly (false ∷ [])) (Then (BitField 6 (length bs - 1)) (exactly bs))) (Then (exactly (true ∷ [])) (Sized a any_size bit_items bit bs)))
     go true e = left_within (small_form (let l : length bs ≤ 64 = leb-true (length bs) 64 e in omega arith))
     go false e = right_within (then_within (just_within (true ∷ [])) (counted_within (λ b. just (b ∷ [])) bit (λ b. just_within (b ∷ [])) a any_size false bit_items bs))
 

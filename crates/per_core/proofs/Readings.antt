@@ -10,7 +10,7 @@ use Rattle.per_core.specs.Basic
 use Rattle.per_core.specs.Basic.{Proper, Counted, octet, bit, Octets, Fills, Open, Rule, FlagOf, IsLeftOut, Record, As, IsConstrainedWhole, Chosen, ExtensionBit, Char, String, YearIn, year_form, Year, IsDay, basic, basic_in, rules, rules_in}
 use Rattle.per_core.specs.Counts.{list_items, octet_items, bit_items, char_items}
 use Rattle.per_core.specs.Spellings.{Settings, Spelling, exactly, Then}
-use Rattle.per_core.proofs.Agree.{Agree, weaken, then_agree, when_agree, never_agree, agree_never, exactly_agree, empty_agree, field_agree, no_yes, behind, turned}
+use Rattle.per_core.proofs.SpellingsAgree.{Agree, weaken, then_agree, when_agree, never_agree, agree_never, exactly_agree, empty_agree, field_agree, no_yes, behind, turned}
 use Rattle.per_core.proofs.LengthForms.{Zip-same, lengthy_agree, same_octets, bounded_agree}
 use Rattle.per_core.proofs.Records.{SlotRel, Kin, AllKin, Along, fields_agree}
 use Rattle.per_core.proofs.Unique.{fills_agree, open_agree, small_agree, as_agree, is_number_of_agree, in_whole_agree}

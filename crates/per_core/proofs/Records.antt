@@ -4,8 +4,8 @@ use Rattle.rasn_types.specs.Values.{Value}
 use Rattle.rasn_constraints.specs.Bounds.{any_size}
 use Rattle.per_core.specs.Basic.{Sized, bit, Fills, Rule, FlagOf, Flags, IsLeftOut, Holds, Body, Bodies, Root, Unknown, OpenOf, Additions, IsBitmap, Extended, Record}
 use Rattle.per_core.specs.Counts.{bit_items}
-use Rattle.per_core.specs.Spellings.{Settings, Spelling, exactly, Then, Field}
-use Rattle.per_core.proofs.Agree.{Agree, weaken, then_agree, either_agree, when_agree, never_agree, agree_never, exactly_agree, empty_agree, field_agree, no_yes, yes_no, behind}
+use Rattle.per_core.specs.Spellings.{Settings, Spelling, exactly, Then, BitField}
+use Rattle.per_core.proofs.SpellingsAgree.{Agree, weaken, then_agree, either_agree, when_agree, never_agree, agree_never, exactly_agree, empty_agree, field_agree, no_yes, yes_no, behind}
 use Rattle.per_core.proofs.LengthForms.{Zip-same, sized_agree}
 use Rattle.per_core.proofs.Unique.{fills_agree, open_agree}
 
@@ -132,10 +132,10 @@ pub bitmap_agree : (a : Settings) (bs bs' : List Bool) → Agree (bs ≡ bs') (I
 bitmap_agree a bs bs' = record {
   agree = λ p b c s t x y e.
       let large = sized_agree (λ x y. x ≡ y) bit bit (λ x y. weaken (λ e. let e' : x ∷ [] ≡ y ∷ [] = e in cc) (exactly_agree (x ∷ []) (y ∷ []) refl)) a any_size bit_items bs bs' in
-      let few : Agree (bs ≡ bs') (Then (Field 6 (length bs - 1)) (exactly bs)) (Then (Field 6 (length bs' - 1)) (exactly bs'))
+      let few : Agree (bs ≡ bs') (Then (BitField 6 (length bs - 1)) (exactly bs)) (Then (BitField 6 (length bs' - 1)) (exactly bs'))
       = weaken (λ r. r.1) (then_agree (field_agree 6 (length bs - 1) (length bs' - 1)) (λ l. exactly_agree bs bs' (omega (arith, x.some, y.some)))) in
-      let w = either_agree (behind (false ∷ []) few) (no_yes (Then (Field 6 (length bs - 1)) (exactly bs)) (Sized a any_size bit_items bit bs'))
-      (yes_no (Sized a any_size bit_items bit bs) (Then (Field 6 (length bs' - 1)) (exactly bs')))
+      let w = either_agree (behind (false ∷ []) few) (no_yes (Then (BitField 6 (length bs - 1)) (exactly bs)) (Sized a any_size bit_items bit bs'))
+      (yes_no (Sized a any_size bit_items bit bs) (Then (BitField 6 (length bs' - 1)) (exactly bs')))
       (behind (true ∷ []) (weaken (Zip-same bs bs') large)) in
       w.agree p b c s t x.spelled y.spelled e;
 }

@@ -6,7 +6,7 @@ use Rattle.rasn_schema.specs.Schemas.{Tag, TagTree, Presence, Schema, Parts, no_
 use Rattle.per_core.specs.Basic.{basic_in, rules_in}
 use Rattle.per_core.specs.Canon.{canon, members}
 use Rattle.per_core.specs.Spellings.{Settings}
-use Rattle.per_core.specs.Listed.{put_second, brought_forward, behind_first, as_listed}
+use Rattle.per_core.specs.ListedParts.{put_second, brought_forward, after_first, as_listed}
 
 -- how a part is written, where it is put
 members_put : (a : Variant) (n : ℕ) (t : TagTree) (p : Presence) (s : Schema) (ps : Parts)
@@ -84,9 +84,9 @@ inserted_forward (suc n) (x ∷ xs) = inserted_second n x (brought_forward n xs)
 pub listed_again {ℓ} : {A : Type ℓ} (ts : List Tag) (xs : List A) → as_listed ts (by_tags ts xs) ≡ xs
 listed_again [] [] = refl
 listed_again [] (x ∷ xs) = refl
-listed_again (t ∷ ts) [] = ap (behind_first (as_listed ts)) (forward_nothing (how_many_less t ts))
+listed_again (t ∷ ts) [] = ap (after_first (as_listed ts)) (forward_nothing (how_many_less t ts))
 listed_again (t ∷ ts) (x ∷ xs) =
-    ap (behind_first (as_listed ts)) (forward_inserted (how_many_less t ts) x (by_tags ts xs)) ∙ ap (λ ys. x ∷ ys) (listed_again ts xs)
+    ap (after_first (as_listed ts)) (forward_inserted (how_many_less t ts) x (by_tags ts xs)) ∙ ap (λ ys. x ∷ ys) (listed_again ts xs)
 
 -- what is listed, in its order again
 pub ordered_again {ℓ} : {A : Type ℓ} (ts : List Tag) (xs : List A) → by_tags ts (as_listed ts xs) ≡ xs
@@ -96,6 +96,6 @@ ordered_again [] (x ∷ xs) = refl
 ordered_again {A} (t ∷ ts) xs = go (ordered_again ts) (brought_forward (how_many_less t ts) xs) ∙ inserted_forward (how_many_less t ts) xs
   where
     go : ((ys : List A) → by_tags ts (as_listed ts ys) ≡ ys) → (ys : List A)
-        → by_tags (t ∷ ts) (behind_first (as_listed ts) ys) ≡ put_back (how_many_less t ts) ys
+        → by_tags (t ∷ ts) (after_first (as_listed ts) ys) ≡ put_back (how_many_less t ts) ys
     go again [] = refl
     go again (y ∷ ys) = ap (insert_at (how_many_less t ts) y) (again ys)

@@ -13,7 +13,7 @@ use Rattle.per_core.specs.Basic.{Bodies, Record_in, Root, Rule, basic_in, rules_
 use Rattle.per_core.specs.Canon.{canon, members, record_of}
 use Rattle.per_core.specs.Spellings.{Settings}
 use Rattle.per_core.proofs.Readings.{length-by_tags, length-rules-in}
-use Rattle.per_core.specs.Listed.{listed_slots, AsListed, InOrder}
+use Rattle.per_core.specs.ListedParts.{listed_slots, AsListed, InOrder}
 use Rattle.per_core.proofs.SetOrders.{members_ordered, rules_ordered, listed_again, ordered_again}
 
 -- a record has one list of root parts and one of additions

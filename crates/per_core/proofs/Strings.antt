@@ -11,12 +11,12 @@ use Rattle.rasn_constraints.specs.Bounds.{Size}
 use Rattle.per_core.specs.Basic.{Char, String, IsConstrainedWhole, YearIn, year_form, Year, IsDay, As}
 use Rattle.per_core.specs.Canon.{char_writers, coded, date_of, year_writer, in_range, year_of}
 use Rattle.per_core.specs.Counts.{char_items, counted, constrained_whole, number_under}
-use Rattle.per_core.specs.Spellings.{Settings, Field}
+use Rattle.per_core.specs.Spellings.{Settings, BitField}
 use Rattle.per_core.specs.Writers.{Writer, ◌▹◌}
 use Rattle.per_core.proofs.Counting.{counted_within}
 use Rattle.per_core.proofs.LengthForms.{and_left, and_right}
 use Rattle.per_core.proofs.Numbers.{whole_in_octets}
-use Rattle.per_core.proofs.Within.{Within, refused_within, then_within, if_within, relax, field_within, bounded_within}
+use Rattle.per_core.proofs.WriterSpellings.{Within, refused_within, then_within, if_within, relax, field_within, bounded_within}
 
 index_below : (ds : List ℕ) (c i : ℕ) → index_of c ds ≡ Some i → (i < length ds) × (c ≤ greatest ds)
 index_below [] c i e = absurd (cc)
@@ -53,11 +53,11 @@ unfolding char_writers
 string_within a alphabet size mark cs = counted_within (λ c. coded (char_width a.variant alphabet) (char_code a.variant alphabet c)) (Char a alphabet) (char_within a alphabet) a size mark (char_items (char_width a.variant alphabet)) cs
 
 -- dates
-index_within : (a : Settings) (k : ℕ) → Within (constrained_whole a.variant 4 k) (Field 2 k)
+index_within : (a : Settings) (k : ℕ) → Within (constrained_whole a.variant 4 k) (BitField 2 k)
 unfolding width
 index_within a k = go a.variant a.strict
   where
-    go : (v : Variant) (z : Bool) → Within (constrained_whole v 4 k) (Field 2 k)
+    go : (v : Variant) (z : Bool) → Within (constrained_whole v 4 k) (BitField 2 k)
     go unaligned z = relax (λ p b x. x.spelled) (bounded_within (record { variant = unaligned; strict = z }) 4 k)
     go aligned z = relax (λ p b x. x.spelled) (bounded_within (record { variant = aligned; strict = z }) 4 k)
 

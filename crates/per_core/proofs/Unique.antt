@@ -5,8 +5,8 @@ use Rattle.rasn_types.specs.Bits.{unpack, unsigned, signed}
 use Rattle.rasn_types.specs.Values.{Value}
 use Rattle.rasn_constraints.specs.Bounds.{holds, above, Bounds, unbounded}
 use Rattle.per_core.specs.Basic.{Marked, IsSemiConstrainedWhole, IsUnconstrainedWhole, number_spelling, IsNumber, IsNumberOf, at_least_zero, Small, Fills, Open, As}
-use Rattle.per_core.specs.Spellings.{Settings, Spelling, Field}
-use Rattle.per_core.proofs.Agree.{Agree, weaken, either_agree, when_agree, field_agree, no_yes, yes_no, behind}
+use Rattle.per_core.specs.Spellings.{Settings, Spelling, BitField}
+use Rattle.per_core.proofs.SpellingsAgree.{Agree, weaken, either_agree, when_agree, field_agree, no_yes, yes_no, behind}
 use Rattle.per_core.proofs.LengthForms.{and_left, same_octets, bounded_agree}
 
 -- numbers
@@ -60,7 +60,7 @@ is_number_of_agree a bounds mark range z z' = record {
 }
 
 pub small_agree : (a : Settings) (i j : ℕ) → Agree (i ≡ j) (Small a i) (Small a j)
-small_agree a i j = either_agree (behind (false ∷ []) (field_agree 6 i j)) (no_yes (Field 6 i) (IsNumber a at_least_zero (pos j))) (yes_no (IsNumber a at_least_zero (pos i)) (Field 6 j))
+small_agree a i j = either_agree (behind (false ∷ []) (field_agree 6 i j)) (no_yes (BitField 6 i) (IsNumber a at_least_zero (pos j))) (yes_no (IsNumber a at_least_zero (pos i)) (BitField 6 j))
     (behind (true ∷ []) (weaken (λ e. cc) (is_number_agree a at_least_zero (pos i) (pos j))))
 
 -- values that are made of what is spelled

@@ -13,8 +13,9 @@ use Rattle.rasn_constraints.specs.Bounds.{allows, holds, fits_i128, above, Bound
 use Rattle.rasn_schema.specs.Orders.{ordered}
 use Rattle.rasn_schema.specs.Schemas
 use Rattle.rasn_schema.specs.Schemas.{tags, Presence, required, optional, group, default, Schema, Parts, no_parts, part}
-use Rattle.per_core.specs.Counts.{ItemKind, list_items, octet_items, bit_items, char_items, is_aligned}
-use Rattle.per_core.specs.Spellings.{Settings, ZeroIf, Spelling, exactly, Then, Either, When, never, AnyPadding, Field}
+use Rattle.per_core.specs.Counts.{by_range, ItemKind, list_items, octet_items, bit_items, char_items, is_aligned}
+use Rattle.per_core.specs.Spellings.{Settings, ZeroIf, Spelling, exactly, Then, Either, When, never, AnyPadding}
+use Rattle.per_core.specs.Spellings.{BitField}
 
 -- items one after the other
 abbrev pub OneByOne : {X : Type 0} → (X → Spelling) → List X → Spelling
@@ -24,14 +25,14 @@ OneByOne item (x ∷ xs) = Then (item x) (OneByOne item xs)
 -- X.691 11.5.7.4: the o-th of n numbers in counted octets; the count is any code of its field (this project's choice)
 pub record InOctets (a : Settings) (n o p : ℕ) (bits : Bits) : Type 0 where
   pub more : ℕ
-  pub spelled : Then (Field (width ((width n + 7) / 8)) more) (Then (AnyPadding a) (Field (8 * suc more) o)) p bits
+  pub spelled : Then (BitField (width ((width n + 7) / 8)) more)
+      (Then (AnyPadding a) (BitField (8 * suc more) o)) p bits
 
 -- X.691 11.5.6, 11.5.7: the o-th of n numbers, by the variant
 abbrev pub constrained_by : Variant → Settings → ℕ → ℕ → Spelling
-constrained_by unaligned a n o = Field (width n) o
-constrained_by aligned a n o = cond (nat_le n 255) (Field (width n) o)
-    (cond (n == 256) (Then (AnyPadding a) (Field 8 o))
-    (cond (nat_le n 65536) (Then (AnyPadding a) (Field 16 o)) (InOctets a n o)))
+constrained_by unaligned a n o = BitField (width n) o
+constrained_by aligned a n o = by_range n (BitField (width n) o) (Then (AnyPadding a) (BitField 8 o))
+    (Then (AnyPadding a) (BitField 16 o)) (InOctets a n o)
 
 -- X.691 11.5.6, 11.5.7: the o-th of n numbers, by the settings
 abbrev pub constrained_form : Settings → ℕ → ℕ → Spelling
@@ -42,10 +43,10 @@ pub record IsConstrainedWhole (a : Settings) (n o p : ℕ) (bits : Bits) : Type 
   pub below : o < n
   pub spelled : constrained_form a n o p bits
 
--- X.691 11.9.3.6, 11.9.3.7: a count below 16384, in one octet or two; two may also stand below 128 (this project's
+-- X.691 11.9.3.6, 11.9.3.7: a count below 16384, in one octet or two; two may also be below 128 (this project's
 -- choice)
 abbrev pub LastCount : ℕ → Spelling
-LastCount n = Either (When (n < 128) (Field 8 n)) (Then (exactly (true ∷ false ∷ [])) (Field 14 n))
+LastCount n = Either (When (n < 128) (BitField 8 n)) (Then (exactly (true ∷ false ∷ [])) (BitField 14 n))
 
 -- X.691 11.9.3.8: a count of 16384, 32768, 49152 or 65536
 pub record Fragment (n p : ℕ) (bits : Bits) : Type 0 where
@@ -53,7 +54,7 @@ pub record Fragment (n p : ℕ) (bits : Bits) : Type 0 where
   pub some : 0 < times
   pub few : times < 5
   pub is : n ≡ 16384 * times
-  pub spelled : Field 8 (192 + times) p bits
+  pub spelled : BitField 8 (192 + times) p bits
 
 -- X.691 11.9.3.8: one fragment of items, and the rest
 pub record Fragmented {X : Type 0} (a : Settings) (item : X → Spelling) (rest : List X → Spelling) (xs : List X)
@@ -107,7 +108,7 @@ Counted a size mark kind item = Marked mark (Sized a size kind item) (Sized a an
 
 -- an octet, as eight bits
 abbrev pub octet : ℕ → Spelling
-octet o = Field 8 o
+octet o = BitField 8 o
 
 -- a bit, as itself
 abbrev pub bit : Bool → Spelling
@@ -149,7 +150,7 @@ at_least_zero = record { low = Some (pos 0); high = None }
 
 -- X.691 11.6: a normally small number; the large form may stand for every number (this project's choice)
 abbrev pub Small : Settings → ℕ → Spelling
-Small a i = Either (Then (exactly (false ∷ [])) (Field 6 i))
+Small a i = Either (Then (exactly (false ∷ [])) (BitField 6 i))
     (Then (exactly (true ∷ [])) (IsNumber a at_least_zero (pos i)))
 
 -- octets that begin with a spelling of some bits, followed by fewer than eight spare ones
@@ -228,7 +229,7 @@ Unknown_in a false (true ∷ bs) = never
 abbrev pub OpenOf : Settings → (Value → Spelling) → Value → Spelling
 OpenOf a spells v = Open a (Fills a (spells v))
 
--- X.691 19.7 to 19.9: additions as a bitmap shows them: of the schema those with a bit 1, and behind them those that it
+-- X.691 19.7 to 19.9: additions as a bitmap shows them: of the schema those with a bit 1, and after them those that it
 -- doesn't know. A bitmap may be shorter or longer than the schema's list
 abbrev pub Additions_in : Settings → Bool → List Rule → List (Option Value) → List Bool → Spelling
 Additions_in a u [] [] bs = Unknown_in a u bs
@@ -250,7 +251,7 @@ Additions a = Additions_in a true
 -- one
 pub record IsBitmap (a : Settings) (flags : List Bool) (p : ℕ) (bits : Bits) : Type 0 where
   pub some : 0 < length flags
-  pub spelled : Either (Then (exactly (false ∷ [])) (Then (Field 6 (length flags - 1)) (exactly flags)))
+  pub spelled : Either (Then (exactly (false ∷ [])) (Then (BitField 6 (length flags - 1)) (exactly flags)))
       (Then (exactly (true ∷ [])) (Sized a any_size bit_items bit flags)) p bits
 
 -- X.691 19: extension bit 1, the root parts, a bitmap, and the additions that it shows
@@ -295,7 +296,7 @@ Choice a ext rs adds root i v = Then (ExtensionBit ext false)
 Choice a ext rs adds added i v = Then (ExtensionBit ext true)
     (Then (Small a i) (Open a (Fills a (Chosen adds i v))))
 
--- X.691 14.3: an item behind the extension marker; only those of the schema
+-- X.691 14.3: an item after the extension marker; only those of the schema
 pub record AddedItem (a : Settings) (addeds i p : ℕ) (bits : Bits) : Type 0 where
   pub known : i < addeds
   pub spelled : Small a i p bits
@@ -309,7 +310,7 @@ Item a roots addeds ext added i = Then (ExtensionBit ext true) (AddedItem a adde
 pub record Char (a : Settings) (alphabet : List ℕ) (c p : ℕ) (bits : Bits) : Type 0 where
   pub index : ℕ
   pub is : char_code a.variant alphabet c ≡ Some index
-  pub spelled : Field (char_width a.variant alphabet) index p bits
+  pub spelled : BitField (char_width a.variant alphabet) index p bits
 
 -- X.691 30.5: a known-multiplier string
 abbrev pub String : Settings → List ℕ → Size → Bool → List ℕ → Spelling
@@ -332,7 +333,7 @@ year_form a (suc (suc (suc (suc n)))) = λ y. never
 -- a year; any may stand as number
 pub record Year (a : Settings) (y : ℤ) (p : ℕ) (bits : Bits) : Type 0 where
   pub range : ℕ
-  pub spelled : Then (Field 2 range) (year_form a range y) p bits
+  pub spelled : Then (BitField 2 range) (year_form a range y) p bits
 
 -- X.691 32: a day of the calendar; month and day are counted from 0
 pub record IsDay (a : Settings) (x : ℤ × ℕ × ℕ) (p : ℕ) (bits : Bits) : Type 0 where

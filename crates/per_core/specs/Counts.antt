@@ -1,5 +1,5 @@
 -- Constrained whole numbers, lengths, numbers, and open types as they are written (ITU-T X.691, 11.2 and 11.5 to 11.9).
-use Rattle.std.specs.Prelude.{ℕ, zero, suc, ◌+◌, ◌-◌, ◌*◌, ◌/◌, ◌%◌, Bool, true, false, if◌then◌else◌, not, ◌&&◌}
+use Rattle.std.specs.Prelude.{ℕ, zero, suc, ◌+◌, ◌-◌, ◌*◌, ◌/◌, ◌%◌, Bool, true, false, cond, if◌then◌else◌, not, ◌&&◌}
 use Rattle.std.specs.Prelude.{nat_le, nat_lt, ◌==◌, List, [], ◌∷◌, ◌++◌, map, length, take, drop, replicate, Option}
 use Rattle.std.specs.Prelude.{Some, None, ℤ, pos}
 use Rattle.rasn_types.specs.Bits.{Bits, width, to_bits, pack, octets_of_natural, natural_bits, whole_bits}
@@ -9,22 +9,25 @@ use Rattle.per_core.specs.Writers.{Writer, just, refused, ◌▹◌, one_by_one,
 use Rattle.per_core.specs.declared.items.Item.{Item}
 use Rattle.per_core.specs.declared.items.Item.TheVariants.{Octet, Bit, Character}
 
+-- X.691 11.5.7: by how many numbers there are, of which the aligned variant has one: in bits, in an octet, in two
+-- octets, or in octets that are counted
+abbrev pub by_range {ℓ} : {A : Type ℓ} → ℕ → (in_bits in_octet in_two counted : A) → A
+by_range n b o t c = cond (nat_le n 255) b (cond (n == 256) o (cond (nat_le n 65536) t c))
+
 -- X.691 11.5: a constrained whole number: the o-th of n numbers, counted from 0
 unfoldable pub constrained_whole : Variant → ℕ → ℕ → Writer
 unfolding width octets_of_natural natural_bits
 constrained_whole unaligned n o = written_if (nat_lt o n) (just (to_bits (width n) o))
-constrained_whole aligned n o = written_if (nat_lt o n)
-    (if nat_le n 255 then just (to_bits (width n) o)
-    else if n == 256 then padding aligned ▹ just (to_bits 8 o)
-    else if nat_le n 65536 then padding aligned ▹ just (to_bits 16 o)
-    else just (to_bits (width ((width n + 7) / 8)) (octets_of_natural o - 1)) ▹ padding aligned ▹ just (natural_bits o))
+constrained_whole aligned n o = written_if (nat_lt o n) (by_range n (just (to_bits (width n) o))
+    (padding aligned ▹ just (to_bits 8 o)) (padding aligned ▹ just (to_bits 16 o))
+    (just (to_bits (width ((width n + 7) / 8)) (octets_of_natural o - 1)) ▹ padding aligned ▹ just (natural_bits o)))
 
 -- a fragment of n items, unless it is empty
 abbrev pub unless_zero : ℕ → List ℕ
 unless_zero zero = []
 unless_zero (suc n) = suc n ∷ []
 
--- X.691 11.9.3.8: how many items stand in each fragment: 65536 as often as it fits, then 49152, 32768 or 16384 where
+-- X.691 11.9.3.8: how many items are in each fragment: 65536 as often as it fits, then 49152, 32768 or 16384 where
 -- one fits, and then the rest below 16384, which is always there
 abbrev pub fragment_sizes : ℕ → List ℕ
 fragment_sizes n = replicate (n / 65536) 65536 ++ (unless_zero (n % 65536 / 16384 * 16384) ++ n % 16384 ∷ [])

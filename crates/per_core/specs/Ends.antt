@@ -12,8 +12,8 @@ use Rattle.per_core.specs.declared.decode_error.DecodeErrorKind.TheVariants.{Inc
 use Rattle.per_core.specs.declared.decode_error.DecodeErrorKind.TheVariants.{UnexpectedExtraData}
 use Rattle.per_core.specs.declared.decode_error.ParserFailCause.TheVariants.{NonzeroEmptyValue, NonzeroPadding}
 
--- X.691 11.1: of n bits fewer than eight are left behind a value of some bits, or all, which are eight zero bits,
--- behind one of none
+-- X.691 11.1: of n bits fewer than eight are left after a value of some bits, or all, which are eight zero bits,
+-- after one of none
 abbrev pub Ends : Bool → Bits → ℕ → Type 0
 Ends strict left n = ((length left < 8) × (length left < n) × ZeroIf strict left)
     ⊎ ((length left ≡ n) × (left ≡ replicate 8 false))
@@ -22,7 +22,7 @@ Ends strict left n = ((length left < 8) × (length left < n) × ZeroIf strict le
 abbrev pub spare : Bits → Bits
 spare left = take (length left % 8) left
 
--- whole octets that are left over, behind a value of some bits, or of none, which has taken one
+-- whole octets that are left over, after a value of some bits, or of none, which has taken one
 abbrev pub AreOver : Bits → ℕ → ℕ → Type 0
 AreOver left n octets = (0 < octets) × (((length left < n) × (octets ≡ length left / 8))
     ⊎ ((length left ≡ n) × (suc octets ≡ length left / 8)))

@@ -4,7 +4,7 @@ use Rattle.rasn_types.specs.Bits.{Bits}
 use Rattle.rasn_types.specs.Values.{Side}
 use Rattle.per_core.specs.Basic.{ExtensionBit, constrained_form, Item}
 use Rattle.per_core.specs.Spellings.{Settings, Spelling, Then, Took}
-use Rattle.per_core.specs.FieldFaults.{IsOfField, IsOfMarked, IsOfUnconstrained, Says}
+use Rattle.per_core.specs.BitFieldFaults.{IsOfBitField, IsOfMarked, IsOfUnconstrained, Says}
 use Rattle.per_core.specs.NumberFaults.{IsOfConstrained, empty_form, small_form}
 use Rattle.per_core.specs.declared.decode_error.DecodeErrorKind.{DecodeErrorKind}
 use Rattle.per_core.specs.declared.decode_error.DecodeErrorKind.TheVariants.{EnumerationIndexNotFound, IntegerOverflow}
@@ -12,29 +12,29 @@ use Rattle.per_core.specs.declared.decode_error.DecodeErrorKind.TheVariants.{Une
 use Rattle.per_core.specs.declared.decode_error.DecodeErrorKind.TheVariants.{ChoiceIndexExceedsPlatformWidth}
 use Rattle.per_core.specs.declared.decode_error.DecodeErrorKind.TheVariants.{ChoiceIndexNotFound}
 
--- how many items stand there
+-- how many items are there
 abbrev pub count_of : (roots addeds : ℕ) → Bool → ℕ
 count_of r e false = r
 count_of r e true = e
 
--- X.691 14.2, 14.3: a place in a list of so many items, whether one stands there or not
+-- X.691 14.2, 14.3: a place in a list of so many items, whether one is there or not
 abbrev pub place_form : Settings → (count : ℕ) → Bool → ℕ → Spelling
 place_form a n false i = constrained_form a n i
 place_form a n true i = small_form a i
 
--- a place in a list is read, behind the extension bit
+-- a place in a list is read, after the extension bit
 pub record IsPlace (a : Settings) (count : ℕ) (extensible : Bool) (extended : Bool) (i : ℕ) (s : Bits) : Type 0 where
   pub rest : Bits
   pub took : Took (Then (ExtensionBit extensible extended) (place_form a count extended i)) s rest
 
 -- X.691 14.3, 19.1, 23.5: of an extension bit
 abbrev pub IsOfExtension : Bool → Says
-IsOfExtension true s k = IsOfField 1 s k
+IsOfExtension true s k = IsOfBitField 1 s k
 IsOfExtension false s k = ⊥
 
--- X.691 14, 23.5 to 23.8: of an extension bit, and of the place behind it in the list that it tells
+-- X.691 14, 23.5 to 23.8: of an extension bit, and of the place after it in the list that it tells
 abbrev pub IsOfPlaces : Settings → (roots : ℕ) → (extensible : Bool) → Says
-IsOfPlaces a r ext = IsOfMarked ext (IsOfConstrained a r) (IsOfMarked true (IsOfField 6) (IsOfUnconstrained a 8))
+IsOfPlaces a r ext = IsOfMarked ext (IsOfConstrained a r) (IsOfMarked true (IsOfBitField 6) (IsOfUnconstrained a 8))
 
 -- what a kind says of an item: at a place that is read no item stands, a place is past 64 bits, or a large form has no
 -- octets
@@ -51,7 +51,7 @@ IsOfItem a r e ext s k = IsOfPlaces a r ext s k
 abbrev pub index_form : Settings → (roots addeds : ℕ) → (extensible : Bool) → Side × ℕ → Spelling
 index_form a r e ext x = Item a r e ext x.0 x.1
 
--- what a kind says of the index of a choice: in its list none stands there, it is past 64 bits, or a large form has no
+-- what a kind says of the index of a choice: in its list none is there, it is past 64 bits, or a large form has no
 -- octets
 abbrev pub IsOfIndex : Settings → (roots addeds : ℕ) → (extensible : Bool) → Bits → DecodeErrorKind → Type 0
 IsOfIndex a r e ext s (ChoiceIndexNotFound i) =

@@ -6,12 +6,12 @@ pub mod Rows
 pub mod Spellings
 pub mod Versions
 pub mod Writers
-pub mod Listed
-pub mod Placed
-pub mod FewItems
+pub mod ListedParts
+pub mod PlacedSets
+pub mod ItemCounts
 pub mod Nulls
 pub mod Lengths
-pub mod FieldFaults
+pub mod BitFieldFaults
 pub mod NumberFaults
 pub mod SizeFaults
 pub mod IndexFaults

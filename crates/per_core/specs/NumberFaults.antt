@@ -1,14 +1,15 @@
 -- What a refusal says of a number (ITU-T X.691, 11.5 to 11.8 and 13).
 use lib.Signed.{le_z}
-use Rattle.std.specs.Prelude.{◌≡◌, ◌⊎◌, ℕ, ◌+◌, ◌*◌, ◌/◌, nat_le, ◌==◌, Bool, true, false, cond, if◌then◌else◌, []}
+use Rattle.std.specs.Prelude.{◌≡◌, ◌⊎◌, ℕ, ◌+◌, ◌*◌, ◌/◌, Bool, true, false, if◌then◌else◌, []}
 use Rattle.std.specs.Prelude.{Option, Some, None, ℤ, ◌∷◌}
 use Rattle.rasn_types.specs.Bits.{Bits, width}
 use Rattle.rasn_types.specs.Variants.{Variant, aligned, unaligned}
 use Rattle.rasn_constraints.specs.Bounds.{above, holds, fits_i128, Bounds, unbounded, lower_of, upper_of, value_of}
-use Rattle.per_core.specs.Spellings.{Settings, Spelling, When, never, Field, Took, Then, exactly}
+use Rattle.per_core.specs.Spellings.{Settings, Spelling, When, never, BitField, Took, Then, exactly}
 use Rattle.per_core.specs.Basic.{IsNumberOf, IsSemiConstrainedWhole, IsUnconstrainedWhole, Octets, Marked}
 use Rattle.per_core.specs.Basic.{constrained_form}
-use Rattle.per_core.specs.FieldFaults.{Behind, IsOfField, IsOfMarked, IsOfPadded, IsOfUnconstrained, Says}
+use Rattle.per_core.specs.Counts.{by_range}
+use Rattle.per_core.specs.BitFieldFaults.{Behind, IsOfBitField, IsOfMarked, IsOfPadded, IsOfUnconstrained, Says}
 use Rattle.per_core.specs.declared.decode_error.DecodeErrorKind.{DecodeErrorKind}
 use Rattle.per_core.specs.declared.decode_error.DecodeErrorKind.TheVariants.{ValueConstraintNotSatisfied}
 use Rattle.per_core.specs.declared.decode_error.DecodeErrorKind.TheVariants.{IntegerOverflow, UnexpectedEmptyInput}
@@ -19,20 +20,19 @@ count_width n = width ((width n + 7) / 8)
 
 -- X.691 11.5.7.4: of one of n numbers in counted octets
 abbrev pub IsOfCounted : Settings → ℕ → Says
-IsOfCounted a n s k = IsOfField (count_width n) s k
-    ⊎ ((more : ℕ) × Behind (Field (count_width n) more) (IsOfPadded a (8 * (more + 1))) s k)
+IsOfCounted a n s k = IsOfBitField (count_width n) s k
+    ⊎ ((more : ℕ) × Behind (BitField (count_width n) more) (IsOfPadded a (8 * (more + 1))) s k)
 
 -- X.691 11.5.6, 11.5.7: of one of n numbers, by the variant
 abbrev pub IsOfConstrainedBy : Variant → Settings → ℕ → Says
-IsOfConstrainedBy unaligned a n = IsOfField (width n)
-IsOfConstrainedBy aligned a n = cond (nat_le n 255) (IsOfField (width n))
-    (cond (n == 256) (IsOfPadded a 8) (cond (nat_le n 65536) (IsOfPadded a 16) (IsOfCounted a n)))
+IsOfConstrainedBy unaligned a n = IsOfBitField (width n)
+IsOfConstrainedBy aligned a n = by_range n (IsOfBitField (width n)) (IsOfPadded a 8) (IsOfPadded a 16) (IsOfCounted a n)
 
 -- X.691 11.5.6, 11.5.7: of one of n numbers
 abbrev pub IsOfConstrained : Settings → ℕ → Says
 IsOfConstrained a n = IsOfConstrainedBy a.variant a n
 
--- X.691 11.5, 11.7, 11.8: a number as bounds have it written, whether it stands within them or not
+-- X.691 11.5, 11.7, 11.8: a number as bounds have it written, whether it is within them or not
 abbrev pub under_bounds : Settings → Option ℤ → Option ℤ → ℤ → Spelling
 under_bounds a None high z = IsUnconstrainedWhole a z
 under_bounds a (Some l) None z = When (le_z l z ≡ true) (IsSemiConstrainedWhole a (above l z))
@@ -42,7 +42,7 @@ under_bounds a (Some l) (Some u) z = When (le_z l z ≡ true) (constrained_form 
 abbrev pub in_i128 : ℤ → Option ℤ
 in_i128 z = if fits_i128 z then Some z else None
 
--- X.691 13.2: a number behind no extension bit 1 stands outside its bounds, which are named; it is named where an i128
+-- X.691 13.2: a number after no extension bit 1 is outside its bounds, which are named; it is named where an i128
 -- holds it
 pub record IsOutside (a : Settings) (bounds : Bounds) (mark : Bool) (named low high : Option ℤ)
     (s : Bits) : Type 0 where
@@ -62,7 +62,7 @@ no_octets a bounds = elim bounds.low [
       [ None ↦ Octets a [] | Some u ↦ never ]
 ]
 
--- a number of no octets stands there, under its bounds or behind an extension bit 1
+-- a number of no octets is there, under its bounds or after an extension bit 1
 pub record IsEmpty (a : Settings) (bounds : Bounds) (mark : Bool) (s : Bits) : Type 0 where
   pub rest : Bits
   pub took : Took (Marked mark (no_octets a) (λ b. no_octets a unbounded) bounds) s rest
@@ -82,7 +82,7 @@ IsOfForm a (Some l) (Some u) s k = IsOfConstrained a (above l u + 1) s k
 abbrev pub within_bounds : Settings → Bounds → ℤ → Spelling
 within_bounds a bounds z = When (holds bounds z ≡ true) (under_bounds a bounds.low bounds.high z)
 
--- X.691 13: a number stands within its bounds, or behind an extension bit 1, and is no number of its type's range, or
+-- X.691 13: a number is within its bounds, or after an extension bit 1, and is no number of its type's range, or
 -- under bounds none that an i128 holds
 pub record IsUnheld (a : Settings) (bounds : Bounds) (mark : Bool) (range : Bounds) (s : Bits) : Type 0 where
   pub number : ℤ
@@ -100,7 +100,7 @@ IsOfNumber a bounds mark range s k = IsOfMarked mark (IsOfForm a bounds.low boun
 
 -- X.691 11.6: a normally small number in either form, also where an i128 doesn't hold it
 abbrev pub small_form : Settings → ℕ → Spelling
-small_form a = Marked true (Field 6) (IsSemiConstrainedWhole a)
+small_form a = Marked true (BitField 6) (IsSemiConstrainedWhole a)
 
 -- X.691 11.6: the large form of no octets
 abbrev pub empty_form : Settings → Spelling

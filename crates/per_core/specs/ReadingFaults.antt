@@ -1,4 +1,4 @@
--- The fault that a refused reading names, where it stands in bits.
+-- The fault that a refused reading names, where it is in bits.
 use Rattle.std.specs.Prelude.{◌≡◌, ◌⊎◌, ℕ, Bool, true, false, List, ◌∷◌, length, Option, Some, None}
 use Rattle.rasn_types.specs.Bits.{Bits, unpack}
 use Rattle.rasn_types.specs.Values.{Value, root, added}
@@ -13,7 +13,7 @@ use Rattle.rasn_schema.specs.Schemas.{TagTree, Presence, by_tag, required, Schem
 use Rattle.per_core.specs.Spellings.{Settings, Took, NoneIn}
 use Rattle.per_core.specs.Basic.{basic, rules, Body, ExtensionBit, Flags, IsBitmap, Octets, Root}
 use Rattle.per_core.specs.IndexFaults.{IsOfIndex, index_form, IsOfExtension, IsOfItem}
-use Rattle.per_core.specs.FieldFaults.{Behind, IsOfField, IsOfUnconstrained, Says}
+use Rattle.per_core.specs.BitFieldFaults.{Behind, IsOfBitField, IsOfUnconstrained, Says}
 use Rattle.per_core.specs.SizeFaults.{IsOfList, IsOfItems, IsOfString, IsOfText}
 use Rattle.per_core.specs.TimeFaults.{IsOfIdentifier, IsOfTime, IsOfDate}
 use Rattle.per_core.specs.NumberFaults.{IsOfNumber}
@@ -37,14 +37,14 @@ abbrev pub IsOfReal : DecodeErrorKind → Type 0
 IsOfReal RealNotSupported = Unit {0}
 IsOfReal k = ⊥
 
--- X.691 19.1, 19.2: of the extension bit of a record, or of the presence bits of its root components behind that
+-- X.691 19.1, 19.2: of the extension bit of a record, or of the presence bits of its root components after that
 abbrev pub IsOfHead : Settings → Parts → Bool → Says
 IsOfHead a ps marker s k = IsOfExtension marker s k
-    ⊎ ((extends : Bool) × Behind (ExtensionBit marker extends) (IsOfField (presence_bits ps)) s k)
+    ⊎ ((extends : Bool) × Behind (ExtensionBit marker extends) (IsOfBitField (presence_bits ps)) s k)
 
 -- What a kind says of the first of bits, as a schema reads them. Kinds that no call answers yet say what never holds.
 abbrev pub IsAt : Settings → Schema → Bits → DecodeErrorKind → Type 0
-IsAt a Schema.boolean s k = IsOfField 1 s k
+IsAt a Schema.boolean s k = IsOfBitField 1 s k
 IsAt a Schema.null s k = ⊥
 IsAt a (Schema.number bounds mark range) s k = IsOfNumber a bounds mark range s k
 IsAt a (Schema.items r e ext) s k = IsOfItem a r e ext s k
@@ -71,16 +71,16 @@ pub record IsOfLacking (t : Schemas.Tag) (k : DecodeErrorKind) : Type 0 where
   pub is : k ≡ RequiredExtensionNotPresent tag
 
 mutual
-  -- The fault that a kind names stands in bits, as a schema reads them: at once, in a root component of a record, in
-  -- its bitmap or behind that, in the alternative of a choice, behind an extension marker in its open type, in octets
-  -- that contain a value, which are an open type (X.691 11.2), or in an element of a list or a bag, behind others. In a
-  -- SET it stands where it does in the SEQUENCE of its components in ascending order of their tags (X.691 21.1).
+  -- The fault that a kind names is in bits, as a schema reads them: at once, in a root component of a record, in
+  -- its bitmap or after that, in the alternative of a choice, after an extension marker in its open type, in octets
+  -- that contain a value, which are an open type (X.691 11.2), or in an element of a list or a bag, after others. In a
+  -- SET it is where it does in the SEQUENCE of its components in ascending order of their tags (X.691 21.1).
   pub data IsInBits (a : Settings) (k : DecodeErrorKind) : Schema → Bits → Type 0 where
     at_once : {c : Schema} {s : Bits} → IsAt a c s k → IsInBits a k c s
     in_root : {ps qs : Parts} {marker : Bool} {s m n : Bits} (extends : Bool) (flags : List Bool)
         → Took (ExtensionBit marker extends) s m → Took (Flags (rules a ps) flags) m n → IsInParts a k ps flags n
         → IsInBits a k (extended ps marker qs) s
-    behind_root : {ps qs : Parts} {marker : Bool} {s m n : Bits} (extends : Bool) (rs : List (Option Value))
+    after_root : {ps qs : Parts} {marker : Bool} {s m n : Bits} (extends : Bool) (rs : List (Option Value))
         → Took (ExtensionBit marker extends) s m → Took (Root (rules a ps) rs) m n
         → IsInTail a k qs (extension_of extends) n
         → IsInBits a k (extended ps marker qs) s
@@ -98,7 +98,7 @@ mutual
     in_member : {e : Schema} {size : Size} {mark : Bool} {s m : Bits} (vs : List Value)
         → Took (UpTo a size mark (basic a e) vs) s m → IsInBits a k e m → IsInBits a k (Schema.set_of e size mark) s
 
-  -- It stands in a component that its presence bit shows, behind those before it.
+  -- It is in a component that its presence bit shows, after those before it.
   pub data IsInParts (a : Settings) (k : DecodeErrorKind) : Parts → List Bool → Bits → Type 0 where
     here : {t : TagTree} {p : Presence} {c : Schema} {ps : Parts} {s : Bits} {bs : List Bool}
         → IsInBits a k c s → IsInParts a k (part t p c ps) (true ∷ bs) s
@@ -107,14 +107,14 @@ mutual
         → Took (Body (record { presence = p; spells = basic a c }) b r) s m → IsInParts a k ps bs m
         → IsInParts a k (part t p c ps) (b ∷ bs) s
 
-  -- It stands in the bitmap of additions, where that is still ahead, or behind it, in an addition (X.691 19.7 to 19.9).
+  -- It is in the bitmap of additions, where that is still ahead, or after it, in an addition (X.691 19.7 to 19.9).
   pub data IsInTail (a : Settings) (k : DecodeErrorKind) : Parts → Extension → Bits → Type 0 where
     in_bitmap : {qs : Parts} {s : Bits} → IsOfBitmap a s k → NoneIn (IsBitmap a) s → IsInTail a k qs ahead s
-    behind_bitmap : {qs : Parts} {x : Extension} {s m : Bits} (flags : List Bool) → Took (Shown a x flags) s m
+    after_bitmap : {qs : Parts} {x : Extension} {s m : Bits} (flags : List Bool) → Took (Shown a x flags) s m
         → IsInAdditions a k qs flags m
         → IsInTail a k qs x s
 
-  -- It stands in an addition, behind those before it: in one that its presence bit shows, in that a required one isn't
+  -- It is in an addition, after those before it: in one that its presence bit shows, in that a required one isn't
   -- there, or in one that the schema doesn't know (X.691 19.9).
   pub data IsInAdditions (a : Settings) (k : DecodeErrorKind) : Parts → List Bool → Bits → Type 0 where
     in_addition : {t : TagTree} {p : Presence} {c : Schema} {qs : Parts} {flags rest : List Bool} {s : Bits}
@@ -129,7 +129,7 @@ mutual
     in_unknown : {flags : List Bool} {s : Bits} → IsOfUnknown flags a s k → NoneIn (skipped_unknown flags a) s
         → IsInAdditions a k no_parts flags s
 
-  -- It stands in an open type: in its length or its octets, in the value in them, or at their end (X.691 11.1, 11.2).
+  -- It is in an open type: in its length or its octets, in the value in them, or at their end (X.691 11.1, 11.2).
   pub data IsInOpen (a : Settings) (k : DecodeErrorKind) : Schema → Bits → Type 0 where
     in_octets : {c : Schema} {s : Bits} → IsOfUnconstrained a 8 s k → NoneIn (Octets a) s → IsInOpen a k c s
     in_contents : {c : Schema} {s m : Bits} (octets : List ℕ) → Took (Octets a octets) s m

@@ -9,8 +9,9 @@ use Rattle.rasn_constraints.specs.Bounds.{allows, Size}
 use Rattle.per_core.specs.Basic.{PaddingIf, Marked, Octets}
 use Rattle.per_core.specs.Counts.{ItemKind, is_aligned, bits_of, counted_of, list_items}
 use Rattle.per_core.specs.Spellings.{Settings, Spelling, never, Took}
-use Rattle.per_core.specs.FieldFaults.{Behind, InTurn, IsOfField, IsOfMarked, IsOfPadding, IsOfUnconstrained, Says}
-use Rattle.per_core.specs.FieldFaults.{IsOfLength}
+use Rattle.per_core.specs.BitFieldFaults.{Behind, InTurn, IsOfBitField, IsOfMarked, IsOfPadding, IsOfUnconstrained}
+use Rattle.per_core.specs.BitFieldFaults.{Says}
+use Rattle.per_core.specs.BitFieldFaults.{IsOfLength}
 use Rattle.per_core.specs.Lengths.{coded, CountFrom, under_size, counted_items, LengthUpTo, UpTo}
 use Rattle.per_core.specs.NumberFaults.{IsOfConstrained}
 use Rattle.per_core.specs.declared.decode_error.DecodeErrorKind.{DecodeErrorKind}
@@ -20,7 +21,7 @@ use Rattle.per_core.specs.declared.decode_error.DecodeErrorKind.TheVariants.{Per
 use Rattle.per_core.specs.declared.decode_error.DecodeErrorKind.TheVariants.{ExceedsMaxLength}
 use Rattle.per_core.specs.declared.items.Item.TheVariants.{Character}
 
--- X.691 11.9: items behind a count n that the size, with these bounds, doesn't allow; not behind an extension bit 1
+-- X.691 11.9: items after a count n that the size, with these bounds, doesn't allow; not after an extension bit 1
 pub record Miscounted {X : Type 0} (a : Settings) (size : Size) (mark : Bool) (kind : ItemKind) (item : X → Spelling)
     (n : ℕ) (least most : Option ℕ) (s : Bits) : Type 0 where
   pub items : List X
@@ -38,15 +39,15 @@ IsOfPaddingIf false a s k = ⊥
 
 -- of w bits, and of padding before them, where a test passes
 abbrev pub IsOfBare : Bool → Settings → ℕ → Says
-IsOfBare pads a w = InTurn (IsOfPaddingIf pads a) (PaddingIf pads a) (IsOfField w)
+IsOfBare pads a w = InTurn (IsOfPaddingIf pads a) (PaddingIf pads a) (IsOfBitField w)
 
--- X.691 11.9.3.3: of items behind a count from lb on, as a constrained whole number of lb to ub
+-- X.691 11.9.3.3: of items after a count from lb on, as a constrained whole number of lb to ub
 abbrev pub IsOfBetween : Settings → ℕ → ℕ → Item → Says
 IsOfBetween a lb ub i s k = IsOfConstrained a (ub - lb + 1) s k
     ⊎ ((n : ℕ) × Behind (CountFrom a lb ub n)
     (IsOfBare (nat_lt 0 n && is_aligned (counted_of i) lb ub) a (bits_of i * n)) s k)
 
--- X.691 11.9.3.3, 11.9.4.1: of items behind their count, as a size has it written
+-- X.691 11.9.3.3, 11.9.4.1: of items after their count, as a size has it written
 abbrev pub IsOfUnder : Settings → Option ℕ → Option ℕ → Item → Says
 IsOfUnder a None most i = IsOfUnconstrained a (bits_of i)
 IsOfUnder a (Some lb) None i = IsOfUnconstrained a (bits_of i)
@@ -66,7 +67,7 @@ pub record HasUnknown (variant : Variant) (alphabet codes : List ℕ) : Type 0 w
   pub joins : codes ≡ front ++ code ∷ rest
   pub none : (c : ℕ) → char_code variant alphabet c ≡ Some code → ⊥
 
--- X.691 30.5: characters stand behind a count that their size allows, and one of their codes is that of no character
+-- X.691 30.5: characters are after a count that their size allows, and one of their codes is that of no character
 pub record IsUnpermitted (a : Settings) (alphabet : List ℕ) (size : Size) (mark : Bool) (s : Bits) : Type 0 where
   pub codes : List ℕ
   pub rest : Bits
@@ -78,7 +79,7 @@ abbrev pub IsOfString : Settings → List ℕ → Size → Bool → Bits → Dec
 IsOfString a alphabet size mark s PermittedAlphabet = IsUnpermitted a alphabet size mark s
 IsOfString a alphabet size mark s k = IsOfItems a size mark (Character (char_width a.variant alphabet)) s k
 
--- X.691 30.6: octets behind an unconstrained length that are no text of a kind
+-- X.691 30.6: octets after an unconstrained length that are no text of a kind
 pub record IsNoText (a : Settings) (kind : TextKind) (s : Bits) : Type 0 where
   pub octets : List ℕ
   pub rest : Bits
@@ -104,7 +105,7 @@ IsOfListCount a (Some lb) (Some ub) = cond (nat_lt ub 65536) (IsOfConstrained a 
 abbrev pub IsOfOpening : Settings → Size → Bool → Says
 IsOfOpening a size mark = IsOfMarked mark (IsOfListCount a size.least size.most) IsOfNone
 
--- a further item is to be read, behind as many as can be counted
+-- a further item is to be read, after as many as can be counted
 pub record AreUncounted {X : Type 0} (a : Settings) (size : Size) (mark : Bool) (item : X → Spelling)
     (s : Bits) : Type 0 where
   pub items : List X
@@ -112,12 +113,12 @@ pub record AreUncounted {X : Type 0} (a : Settings) (size : Size) (mark : Bool) 
   pub many : 2 ^ 64 ≤ length items + 1
   pub took : Took (UpTo a size mark item items) s rest
 
--- of a length, behind items in whole fragments
+-- of a length, after items in whole fragments
 abbrev pub IsOfNextLength : {X : Type 0} → Settings → Size → Bool → (X → Spelling) → Says
 IsOfNextLength {X} a size mark item s k = (xs : List X) × Behind (LengthUpTo a size mark item xs) (IsOfLength a) s k
 
 -- X.691 20: what a kind says of a list, but for its items: of its count, which the size doesn't allow; or of its
--- opening, of a length behind items in whole fragments, or in that there are more items than can be counted
+-- opening, of a length after items in whole fragments, or in that there are more items than can be counted
 abbrev pub IsOfList : {X : Type 0} → Settings → Size → Bool → (X → Spelling) → Says
 IsOfList a size mark item s (SizeConstraintNotSatisfied told) =
     Miscounted a size mark list_items item told.size told.lower told.upper s

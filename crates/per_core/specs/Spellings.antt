@@ -1,11 +1,11 @@
--- What may be read: which bits may stand from a position on, of all encodings that a basic decoder takes; and what a
+-- What may be read: which bits may be from a position on, of all encodings that a basic decoder takes; and what a
 -- reader has taken of the bits that are left.
 use Rattle.std.specs.Prelude.{ℕ, ◌≡◌, ◌⊎◌, Bool, true, false, ◌++◌, length, replicate, ◌-◌, ◌%◌}
 use Rattle.rasn_types.specs.Bits.{Bits, number_of}
 use Rattle.rasn_types.specs.Variants.{Variant}
 use Rattle.per_core.specs.Writers.{pad, after}
 
--- the bits that may stand from a position on
+-- the bits that may be from a position on
 abbrev pub Spelling : Type 1
 Spelling = ℕ → Bits → Type 0
 
@@ -13,7 +13,7 @@ Spelling = ℕ → Bits → Type 0
 abbrev pub exactly : Bits → Spelling
 exactly bs p bits = bits ≡ bs
 
--- bits of one spelling, followed by bits of another from the position behind them
+-- bits of one spelling, followed by bits of another from the position after them
 pub record Then (f g : Spelling) (p : ℕ) (bits : Bits) : Type 0 where
   pub front : Bits
   pub rest : Bits
@@ -49,20 +49,20 @@ pub record AnyPadding (a : Settings) (p : ℕ) (bits : Bits) : Type 0 where
   pub zeros : ZeroIf a.strict bits
 
 -- X.691 11.3: w bits that mean n
-pub record Field (w n p : ℕ) (bits : Bits) : Type 0 where
+pub record BitField (w n p : ℕ) (bits : Bits) : Type 0 where
   pub wide : length bits ≡ w
   pub means : number_of bits ≡ n
 
 -- the position below 8 at which the bits that are left begin, so that they end with an octet
-abbrev pub place : Bits → ℕ
-place b = (8 - length b % 8) % 8
+abbrev pub bit_offset : Bits → ℕ
+bit_offset b = (8 - length b % 8) % 8
 
 -- a front of the bits s has the spelling, and the bits t are left
 pub record Took (f : Spelling) (s t : Bits) : Type 0 where
   pub front : Bits
   pub joins : s ≡ front ++ t
-  pub spelled : f (place s) front
+  pub spelled : f (bit_offset s) front
 
--- nothing stands in some form at the front of bits
+-- nothing is in some form at the front of bits
 abbrev pub NoneIn : {X : Type 0} → (X → Spelling) → Bits → Type 0
 NoneIn {X} form s = (x : X) (t : Bits) → Took (form x) s t → ⊥

@@ -5,15 +5,15 @@ use Rattle.rasn_types.specs.Bits.{Bits}
 use Rattle.rasn_types.specs.Contents.{TimeKind, is_identifier, is_time, is_date}
 use Rattle.rasn_constraints.specs.Bounds.{any_size, between, lower_of, upper_of, value_of}
 use Rattle.per_core.specs.Basic.{Octets, String, IsConstrainedWhole, Year}
-use Rattle.per_core.specs.Spellings.{Settings, Took, Spelling, Field, Then}
-use Rattle.per_core.specs.FieldFaults.{IsOfUnconstrained, Behind, IsOfField, Says}
+use Rattle.per_core.specs.Spellings.{Settings, Took, Spelling, BitField, Then}
+use Rattle.per_core.specs.BitFieldFaults.{IsOfUnconstrained, Behind, IsOfBitField, Says}
 use Rattle.per_core.specs.SizeFaults.{IsOfString}
 use Rattle.per_core.specs.NumberFaults.{IsOfConstrained, IsOutside}
 use Rattle.per_core.specs.declared.decode_error.DecodeErrorKind.{DecodeErrorKind}
 use Rattle.per_core.specs.declared.decode_error.DecodeErrorKind.TheVariants.{Below, InvalidDate, UnexpectedEmptyInput}
 use Rattle.per_core.specs.declared.decode_error.DecodeErrorKind.TheVariants.{ValueConstraintNotSatisfied}
 
--- X.691 24: octets behind an unconstrained length that are not the contents of an object
+-- X.691 24: octets after an unconstrained length that are not the contents of an object
 pub record IsNoObject (a : Settings) (s : Bits) : Type 0 where
   pub octets : List ℕ
   pub rest : Bits
@@ -50,7 +50,7 @@ pub record IsNoDay (a : Settings) (s : Bits) : Type 0 where
   pub took : Took (numbers_form a year month day) s rest
   pub no_day : is_date year (suc month) (suc day) ≡ false
 
--- a number that is none of 1 to 12 stands behind a year, or behind its month one that is none of 1 to 31
+-- a number that is none of 1 to 12 is after a year, or after its month one that is none of 1 to 31
 pub data IsNoPart (a : Settings) (named low high : Option ℤ) (s : Bits) : Type 0 where
   no_month : {m : Bits} (year : ℤ) → Took (Year a year) s m → IsOutside a
       (between (pos 1) (pos 12)) false named low high m
@@ -62,7 +62,7 @@ pub data IsNoPart (a : Settings) (named low high : Option ℤ) (s : Bits) : Type
 -- a year that is none of a range stands as a number of no octets
 pub record IsEmptyYear (a : Settings) (s : Bits) : Type 0 where
   pub rest : Bits
-  pub took : Took (Then (Field 2 3) (Octets a [])) s rest
+  pub took : Took (Then (BitField 2 3) (Octets a [])) s rest
 
 -- of the year in a range, by the index of this
 abbrev pub IsOfYearIn : Settings → ℕ → Says
@@ -73,13 +73,13 @@ IsOfYearIn a (suc (suc (suc n))) = IsOfUnconstrained a 8
 
 -- of a year: of the index of its range, or of the year in that
 abbrev pub IsOfYearField : Settings → Says
-IsOfYearField a s k = IsOfField 2 s k ⊎ ((range : ℕ) × Behind (Field 2 range) (IsOfYearIn a range) s k)
+IsOfYearField a s k = IsOfBitField 2 s k ⊎ ((range : ℕ) × Behind (BitField 2 range) (IsOfYearIn a range) s k)
 
--- of the day behind a year and a month
+-- of the day after a year and a month
 abbrev pub IsOfLastField : Settings → Says
 IsOfLastField a m k = (month : ℕ) × Behind (IsConstrainedWhole a 12 month) (IsOfConstrained a 31) m k
 
--- of a year, of the month behind it, or of the day behind both
+-- of a year, of the month after it, or of the day after both
 abbrev pub IsOfDayField : Settings → Says
 IsOfDayField a s k = IsOfYearField a s k ⊎ (((year : ℤ) × Behind (Year a year) (IsOfConstrained a 12) s k)
     ⊎ ((year : ℤ) × Behind (Year a year) (IsOfLastField a) s k))

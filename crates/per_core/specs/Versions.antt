@@ -1,4 +1,4 @@
--- Versions of a schema behind extension markers (ITU-T X.680, 52): which is newer, and what a value of one is in the
+-- Versions of a schema after extension markers (ITU-T X.680, 52): which is newer, and what a value of one is in the
 -- other.
 use Rattle.std.specs.Prelude.{ℕ, zero, suc, ◌≤◌, ◌≡◌, Bool, true, false, if◌then◌else◌, nat_lt, List, [], ◌∷◌, Option}
 use Rattle.std.specs.Prelude.{Some, None}
@@ -178,7 +178,7 @@ NewerPresence s' s _ _ = ⊥
 
 mutual
   -- X.680 52: the first schema is a newer version of the second: the same tree, in which more additions, alternatives
-  -- and items may stand behind an extension marker
+  -- and items may be after an extension marker
   pub data Newer : Schema → Schema → Type 0 where
     unchanged : {s : Schema} → IsPlain s → Newer s s
     more_items : {r e e' : ℕ} → e ≤ e' → Newer (Schema.items r e' true) (Schema.items r e true)

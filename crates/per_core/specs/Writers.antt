@@ -4,7 +4,7 @@ use Rattle.std.specs.Prelude.{Option, Some, None}
 use Rattle.rasn_types.specs.Bits.{Bits, pack}
 use Rattle.rasn_types.specs.Variants.{Variant, aligned, unaligned}
 
--- X.691 11.1: how many bits stand between position p and the next octet, in ALIGNED alone
+-- X.691 11.1: how many bits are between position p and the next octet, in ALIGNED alone
 abbrev pub pad : Variant → ℕ → ℕ
 pad aligned p = (8 - p % 8) % 8
 pad unaligned p = 0
@@ -21,7 +21,7 @@ just bs p = Some bs
 abbrev pub refused : Writer
 refused p = None
 
--- the position behind some bits, below 8
+-- the position after some bits, below 8
 abbrev pub after : ℕ → Bits → ℕ
 after p b = (p + length b) % 8
 
@@ -30,12 +30,12 @@ abbrev pub join : Bits → Option Bits → Option Bits
 join b None = None
 join b (Some c) = Some (b ++ c)
 
--- the first bits with what g writes behind them
+-- the first bits with what g writes after them
 abbrev pub go_on : Option Bits → Writer → Writer
 go_on None g p = None
 go_on (Some b) g p = join b (g (after p b))
 
--- one writer and then another, from the position behind the first
+-- one writer and then another, from the position after the first
 infixr 30 ◌▹◌
 abbrev pub ◌▹◌ : Writer → Writer → Writer
 (f ▹ g) p = go_on (f p) g p

@@ -1,4 +1,4 @@
--- The fault that a refused writing names, where it stands in a value.
+-- The fault that a refused writing names, where it is in a value.
 use Rattle.std.specs.Prelude.{ℕ, ◌≡◌, ◌<◌, Bool, true, false, ◌||◌, List, ◌∷◌, length, get_or, Option, Some, None}
 use Rattle.std.specs.Prelude.{is_some, MatchOption, ℤ}
 use Rattle.rasn_types.specs.Alphabets.{index_of, visible}
@@ -105,15 +105,15 @@ IsOther s v = is_of_kind s v ≡ false
 pub data HasPart (s : Schema) (v : Value) : Parts → List (Option Value) → Type 0 where
   part_here : {t : TagTree} {p : Presence} {ps : Parts} {rs : List (Option Value)} → shown p (Some v) ≡ Some true
       → HasPart s v (part t p s ps) (Some v ∷ rs)
-  part_behind : {t : TagTree} {p : Presence} {c : Schema} {r : Option Value} {ps : Parts} {rs : List (Option Value)}
+  part_after : {t : TagTree} {p : Presence} {c : Schema} {r : Option Value} {ps : Parts} {rs : List (Option Value)}
       → HasPart s v ps rs → HasPart s v (part t p c ps) (r ∷ rs)
 
 -- an element of a list, or a member of a bag
 pub data HasElement (v : Value) : List Value → Type 0 where
   element_here : {vs : List Value} → HasElement v (v ∷ vs)
-  element_behind : {w : Value} {vs : List Value} → HasElement v vs → HasElement v (w ∷ vs)
+  element_after : {w : Value} {vs : List Value} → HasElement v vs → HasElement v (w ∷ vs)
 
--- a fault stands in a value: at once, in a component, an addition, an element or a member of it, in its alternative, or
+-- a fault is in a value: at once, in a component, an addition, an element or a member of it, in its alternative, or
 -- in the value that octets contain
 pub data StandsIn (fault : Schema → Value → Type 0) : Schema → Value → Type 0 where
   at_once : {s : Schema} {v : Value} → fault s v → StandsIn fault s v
@@ -136,7 +136,7 @@ pub data StandsIn (fault : Schema → Value → Type 0) : Schema → Value → T
       → alternative_in (choice_schema ps marker qs) d k ≡ Some s → StandsIn fault s v
       → StandsIn fault (choice_schema ps marker qs) (alternative d k v)
 
--- Where a kind's fault stands in a value. No list of additions is longer than its schema's, and no choice that a lawful
+-- Where a kind's fault is in a value. No list of additions is longer than its schema's, and no choice that a lawful
 -- type writes has a tag of none of its alternatives; want of memory and an earlier refusal are none of a value.
 abbrev pub IsInValue : EncodeErrorKind → Schema → Value → Type 0
 IsInValue (SizeConstraintNotSatisfied told) s v = StandsIn (IsOutOfSize told.size told.lower told.upper) s v

@@ -7,7 +7,7 @@ pub enum Surplus {
     Missing(u128),
     /// The one octet of a value of no bits isn't zero.
     NonzeroOctet,
-    /// The spare bits behind a value aren't zero, where they must be.
+    /// The spare bits after a value aren't zero, where they must be.
     NonzeroSpareBits,
     /// Whole octets are left over: their number.
     ExtraOctets(u128),

@@ -8,7 +8,7 @@ ghost use Rattle.rasn_types.specs.Variants.{unaligned};
 ghost use Rattle.rasn_schema.specs.Schemas.{Schema};
 ghost use Rattle.per_core.specs.Basic.{basic};
 ghost use Rattle.per_core.specs.Spellings.{Settings};
-ghost use Rattle.per_core.specs.FewItems.{item_count, most_items, HasAtMost};
+ghost use Rattle.per_core.specs.ItemCounts.{item_count, most_items, HasAtMost};
 ghost use Rattle.per_core.specs.Nulls.{any_nulls, nulls, sized_nulls};
 
 /// A value has at most 65535 items, and 8192 for each bit of a basic encoding of it; and so has each value within it,

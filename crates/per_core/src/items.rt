@@ -26,7 +26,7 @@ impl Item {
         }
     }
 
-    /// Whether items begin on an octet in the aligned variant, behind a count above 0 from `least` to `most`
+    /// Whether items begin on an octet in the aligned variant, after a count above 0 from `least` to `most`
     /// (X.691 16.9 to 16.11, 17.6 to 17.8, 30.5.6, 30.5.7).
     pub fn is_aligned(self, least: usize, most: usize) -> bool
         ensures { result ≡ is_aligned (counted_of self) least most }

@@ -37,7 +37,7 @@ impl Length {
         }
     }
 
-    /// Whether a further length stands behind them.
+    /// Whether a further length is after them.
     pub fn is_followed(self) -> bool
         ensures { result ≡ is_followed self }
     {

@@ -42,7 +42,7 @@ pub fn canonical_bytes_are_decoded()
         bytes a.variant s v ≡ Some octets → fills a s v octets }
 {}
 
-/// The canonical bytes of a value, with any octets behind them, are read as that value and those octets, and as
+/// The canonical bytes of a value, with any octets after them, are read as that value and those octets, and as
 /// nothing else.
 pub fn canonical_bytes_are_decoded_with_remainder()
     ensures { (a : Settings) (s : Schema) (v : Value) (octets rest : List ℕ) →

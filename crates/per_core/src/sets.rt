@@ -13,8 +13,8 @@ ghost use Rattle.rasn_schema.specs.Schemas.{Schema, Parts, count, tags, by_tag, 
 ghost use Rattle.per_core.specs.Basic.{basic_in};
 ghost use Rattle.per_core.specs.Canon.{canon, members};
 ghost use Rattle.per_core.specs.Spellings.{Settings};
-ghost use Rattle.per_core.specs.Listed.{listed_slots, AsListed, InOrder};
-ghost use Rattle.per_core.specs.Placed.{placed_set};
+ghost use Rattle.per_core.specs.ListedParts.{listed_slots, AsListed, InOrder};
+ghost use Rattle.per_core.specs.PlacedSets.{placed_set};
 
 /// Of parts in order, how they are written, their tags, how many they are and how many presence bits they have are
 /// those of the parts, in order.

@@ -7,22 +7,22 @@ use Rattle.rasn_schema.specs.Schemas.{Schema, Parts, no_parts, part, count}
 use Rattle.rasn_traits.specs.AdditionsRead.{ReadsNoAddition}
 use Rattle.per_core.specs.Basic.{Fills, Octets, Unknown, basic}
 use Rattle.per_core.specs.Spellings.{Took, NoneIn}
-use Rattle.per_core.proofs.Took.{then_took, took_agree, took_then}
-use Rattle.per_core.specs.FieldFaults.{IsOfUnconstrained}
+use Rattle.per_core.proofs.TakenInTurn.{then_took, took_agree, took_then}
+use Rattle.per_core.specs.BitFieldFaults.{IsOfUnconstrained}
 use Rattle.per_read.proofs.OfFields.{unconstrained_tested}
 use Rattle.per_core.specs.declared.decode_error.DecodeError.{DecodeError}
 use Rattle.per_core.specs.declared.decode_error.DecodeErrorKind.{DecodeErrorKind}
 use Rattle.per_core.specs.declared.decode_error.DecodeErrorKind.TheVariants.{MissingTag, OutOfMemory}
 use Rattle.per_core.specs.AdditionFaults.{IsOfUnknown, skipped_unknown, Shown, Extension, ahead}
 use Rattle.per_read.proofs.Opened.{no_open}
-use Rattle.per_decoding.specs.Laws.Additions.{of_next}
+use Rattle.per_decoding.proofs.Scoping.Additions.{of_next}
 use Rattle.per_decoding.specs.Additions.{Adds, Asks, OpensAddition, OpensContents, OutsideAddition}
-use Rattle.per_core.specs.ReadingFaults.{IsInTail, behind_bitmap, in_bitmap, in_octets, in_unknown}
+use Rattle.per_core.specs.ReadingFaults.{IsInTail, after_bitmap, in_bitmap, in_octets, in_unknown}
 use Rattle.per_decoding.specs.Faults.{in_open, refusal, unread, unskipped, IsOfNext, Unended}
 use Rattle.per_decoding.specs.Rules.{plain_rules}
 use Rattle.per_decoding.specs.Scopes.{Closes, OutsideRecord, with_outside_record}
 use Rattle.per_decoding.specs.State.{State, settings_of, with_bits}
-use Rattle.per_decoding.specs.Laws.Tails.{asks_agree, shown_agree, tested_new}
+use Rattle.per_decoding.proofs.Scoping.Tails.{asks_agree, shown_agree, tested_new}
 use Rattle.per_decoding.specs.Sources.{flags_in}
 use Rattle.per_de.specs.Steps.{IsOfBitmap, IsOfOctets, IsUnskipped, RefusedAs, SkipsRest, SkipsUnknown, TakesFlags, Unasked}
 use Rattle.per_decoding.specs.declared.source.Flags.{Flags}
@@ -42,7 +42,7 @@ root_unread s w e i none = inr ((λ u h. none h.done), subst (λ z. Unended z s)
 pub addition_unread : (s : State) (w : OutsideRecord) (e : DecodeError) → e ≡ refusal MissingTag s → (s.expected ≡ 0 → ⊥) → Endless s w e
 addition_unread s w e i none = inr ((λ u h. none h.none), subst (λ z. Unended z s) (sym i) (record { codec = refl; stands = unread refl (λ p q. none q) }))
 
--- no bitmap stands where one is ahead
+-- no bitmap is where one is ahead
 bitmap_unread : (s t : State) (w : OutsideRecord) (e : DecodeError) → s.presences ≡ [] → s.expected ≡ 0 → s.extension ≡ ahead → RefusedAs (IsOfBitmap s) s e t → Endless s w e
 bitmap_unread s t w e done none x r = go r.kind r.is r.because
   where
@@ -64,10 +64,10 @@ unknown_unread s t w e done none r =
       (λ u c. let q = then_took c.skipped in
           let g = took_agree (shown_agree (settings_of s) s.extension c.flags h.flags) q.1 h.shows in
           h.none tt u.bits (subst (λ z. Took (Unknown (settings_of s) z) h.left u.bits) g.0 (subst (λ z. Took (Unknown (settings_of s) c.flags) z u.bits) g.1 q.2))),
-      subst (λ z. Unended z s) (sym r.is) (record { codec = refl; stands = unskipped done none (behind_bitmap h.flags h.shows (in_unknown h.says h.none)) }),
+      subst (λ z. Unended z s) (sym r.is) (record { codec = refl; stands = unskipped done none (after_bitmap h.flags h.shows (in_unknown h.says h.none)) }),
     )
 
--- what is left of the additions, behind the presence bits that are shown
+-- what is left of the additions, after the presence bits that are shown
 pub rest_skipped : (s n : State) (flags : Flags) (t : State) (result : Result (Unit {0}) DecodeError) → TakesFlags s (Ok flags) n → SkipsUnknown (flags_in n.source.bits flags) n result t → SkipsRest s result t
 rest_skipped s n flags t result h r = go result r
   where
@@ -120,7 +120,7 @@ no_addition s e (inr h) = inr (record { nothing = λ c r t a. go c r t a; stands
     go c None t (inl a) = h.none (Some false) t a
     go c None t (inr a) = h.none None t a
 
--- no open type stands where one is shown
+-- no open type is where one is shown
 pub no_contents : (s m : State) (e : DecodeError) (t : State) → Asks s (Some true) m → RefusedAs (IsOfOctets m) m e t → (e ≡ refusal OutOfMemory s) ⊎ ReadsNoAddition plain_rules e s
 no_contents s m e t asks h = go h.kind h.is h.because
   where

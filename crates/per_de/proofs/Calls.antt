@@ -12,7 +12,7 @@ use Rattle.rasn_schema.specs.Schemas.{Parts, Schema}
 use Rattle.rasn_traits.specs.Calls.{Answers, Behaves, Reads, Refuses, freely_read, takes_none}
 use Rattle.per_core.specs.Spellings.{Settings, Spelling, Took, NoneIn}
 use Rattle.per_core.specs.Basic.{basic, basic_in, bit, IsNumberOf}
-use Rattle.per_core.proofs.Took.{took_map}
+use Rattle.per_core.proofs.TakenInTurn.{took_map}
 use Rattle.per_core.specs.declared.items.Item.TheVariants.{Bit, Character, Octet}
 use Rattle.per_core.specs.SizeFaults.{IsOfList}
 use Rattle.per_read.specs.Kinds.{Faulty}
@@ -22,7 +22,7 @@ use Rattle.per_core.specs.declared.decode_error.DecodeErrorKind.{DecodeErrorKind
 use Rattle.per_core.specs.declared.decode_error.DecodeErrorKind.TheVariants.{AlreadyFailed, ExceedsMaxLength}
 use Rattle.per_core.specs.declared.decode_error.DecodeErrorKind.TheVariants.{ExceedsMaxParseDepth, Incomplete}
 use Rattle.per_core.specs.declared.decode_error.DecodeErrorKind.TheVariants.{OutOfMemory, RealNotSupported}
-use Rattle.per_read.specs.State.{State as Taking}
+use Rattle.per_read.specs.ReaderState.{ReaderState as Taking}
 use Rattle.per_read.specs.Takes.{Reason, Takes}
 use Rattle.per_read.proofs.Calls.{of_short}
 use Rattle.per_read.proofs.OfFields.{constrained_tested, counted_items_tested, length_tested, marked_tested, unconstrained_tested}
@@ -31,7 +31,7 @@ use Rattle.per_read.proofs.Refusals.{faulty_map}
 use Rattle.per_decoding.proofs.DatesRead.{year_tested}
 use Rattle.per_decoding.proofs.Enumerations.{places_tested}
 use Rattle.per_core.specs.TimeFaults.{IsOfDayField}
-use Rattle.per_decoding.specs.Laws.Spelled.{spelled}
+use Rattle.per_decoding.proofs.Scoping.Spelled.{spelled}
 use Rattle.per_decoding.specs.State.{State, Spells, reader_of, settings_of}
 use Rattle.per_decoding.specs.Faults.{Answered, Fault, IsOf, refusal}
 use Rattle.per_core.specs.ReadingFaults.{IsAt, IsOfHead, at_once}
@@ -39,7 +39,7 @@ use Rattle.per_decoding.specs.Rules.{plain_rules}
 use Rattle.per_de.specs.Steps.{TakesBit}
 use Rattle.per_decoding.proofs.Spans.{bit_lacking, none_left, with_rest}
 
--- no more bits are left behind what was taken than before
+-- no more bits are left after what was taken than before
 pub no_more_left : {f : Spelling} {s t : Bits} → Took f s t → length t ≤ length s
 no_more_left {t = t} a = omega (arith, ap length a.joins, length-append a.front t)
 

@@ -3,34 +3,34 @@ use Rattle.std.proofs.Common.{◌≡◌, ◌⊎◌, inl, inr, refl, sym, ◌∙�
 use Rattle.std.specs.Prelude.{Err}
 use Rattle.rasn_types.specs.Bits.{Bits}
 use Rattle.rasn_types.specs.Values.{Side, root, added}
-use Rattle.rasn_schema.specs.Choices.{AreVariants, VariantShape, go_by, one_level_in, place_of, variants_behind}
+use Rattle.rasn_schema.specs.Choices.{AreVariants, VariantShape, go_by, one_level_in, place_of, variants_after}
 use Rattle.rasn_schema.specs.Choices.{variants_on}
 use Rattle.rasn_schema.specs.Structures.{alternative_at, choice_schema, tags_of}
 use Rattle.rasn_schema.specs.Schemas
 use Rattle.rasn_schema.specs.Schemas.{Schema, Parts, no_parts, part}
-use Rattle.rasn_schema.proofs.Both.{distinct_before, distinct_behind}
+use Rattle.rasn_schema.proofs.DistinctAlternatives.{distinct_before, distinct_after}
 use Rattle.rasn_schema.proofs.Places.{found_at}
 use Rattle.rasn_schema.specs.declared.items.Place.{Place}
 use Rattle.rasn_traits.specs.Calls.{DecoderRules, Refuses}
 use Rattle.rasn_traits.specs.Choices.{IsAlternative, IsChosen, index_in, side_of}
 use Rattle.per_core.specs.Basic.{Octets}
 use Rattle.per_core.specs.Spellings.{Settings, Took, NoneIn}
-use Rattle.per_core.proofs.Took.{then_took}
+use Rattle.per_core.proofs.TakenInTurn.{then_took}
 use Rattle.per_core.specs.IndexFaults.{IsOfIndex, index_form}
-use Rattle.per_core.specs.FieldFaults.{IsOfUnconstrained}
+use Rattle.per_core.specs.BitFieldFaults.{IsOfUnconstrained}
 use Rattle.per_read.proofs.OfFields.{unconstrained_tested}
 use Rattle.per_core.specs.declared.decode_error.DecodeError.{DecodeError}
 use Rattle.per_core.specs.declared.decode_error.DecodeErrorKind.{DecodeErrorKind}
 use Rattle.per_core.specs.declared.decode_error.DecodeErrorKind.TheVariants.{OutOfMemory}
-use Rattle.per_decoding.specs.Laws.Choices.{no_contents, no_index}
+use Rattle.per_decoding.proofs.Scoping.Choices.{no_contents, no_index}
 use Rattle.per_decoding.specs.Choices.{OpensChoice, StandsFrom}
 use Rattle.per_decoding.specs.Faults.{Fault, refusal}
 use Rattle.per_core.specs.ReadingFaults.{in_added_alternative, in_octets}
-use Rattle.per_decoding.specs.Laws.Records.{of_bits}
-use Rattle.per_decoding.specs.Laws.Tails.{tested_new}
+use Rattle.per_decoding.proofs.Scoping.Records.{of_bits}
+use Rattle.per_decoding.proofs.Scoping.Tails.{tested_new}
 use Rattle.per_decoding.specs.Scopes.{Enters, OutsideRecord, no_record, with_outside_record, outside_record as in_state}
 use Rattle.per_decoding.specs.State.{State, Spells, settings_of, with_bits}
-use Rattle.per_de.specs.Outsides.{outside_choice_of, outside_contents_of, outside_record_of, source_behind}
+use Rattle.per_de.specs.Outsides.{outside_choice_of, outside_contents_of, outside_record_of, source_after}
 use Rattle.per_de.specs.Steps.{IsOfOctets, RefusedAs, TakesIndex}
 use Rattle.per_de.specs.declared.Addition.{Addition}
 use Rattle.per_de.specs.declared.Scope.{Scope}
@@ -59,8 +59,8 @@ there_at (part t p s ps) (suc i) h = there_at ps i (omega arith)
 
 -- the place of the tag at an index
 pub place_found : (vs : List VariantShape) (xs : Option (List VariantShape)) (d : Side) (i : ℕ) (t : Schemas.Tag) → AreVariants vs xs → slice_get (go_by (variants_on d vs xs)) i ≡ Some t → place_of t (variants_on d vs xs) ≡ Some i
-place_found vs xs root i t v e = found_at (go_by vs) i 0 t (distinct_before (go_by vs) (go_by (variants_behind xs)) v.distinct) e ∙ ap Some (let n : 0 + i ≡ i = omega arith in n)
-place_found vs xs added i t v e = found_at (go_by (variants_behind xs)) i 0 t (distinct_behind (go_by vs) (go_by (variants_behind xs)) v.distinct) e ∙ ap Some (let n : 0 + i ≡ i = omega arith in n)
+place_found vs xs root i t v e = found_at (go_by vs) i 0 t (distinct_before (go_by vs) (go_by (variants_after xs)) v.distinct) e ∙ ap Some (let n : 0 + i ≡ i = omega arith in n)
+place_found vs xs added i t v e = found_at (go_by (variants_after xs)) i 0 t (distinct_after (go_by vs) (go_by (variants_after xs)) v.distinct) e ∙ ap Some (let n : 0 + i ≡ i = omega arith in n)
 
 -- the alternative at a place is the one that goes by the tag there
 pub goes_by : {E S O : Type 0} (rules : DecoderRules E S) (opens : Schema → Side → ℕ → S → O → S → Type 0) (choice : ℕ → Schema) (vs : List VariantShape) (xs : Option (List VariantShape)) (t : Schemas.Tag) (p : Place) (s : S) (o : O) (i : S)
@@ -76,7 +76,7 @@ goes_by rules opens choice vs xs t p s o i v e h = record {
 }
 
 -- the bits outside of an alternative's open type are those in front of it
-outer_source : (d : Side) (u i : State) (o : Option Addition) → StandsFrom d u (outside_contents_of i.source o) i → source_behind i.source o ≡ u.source
+outer_source : (d : Side) (u i : State) (o : Option Addition) → StandsFrom d u (outside_contents_of i.source o) i → source_after i.source o ≡ u.source
 outer_source root u i None f = ap (λ z. z.source) f
 outer_source root u i (Some o) f = absurd f
 outer_source added u i None f = absurd f
@@ -103,14 +103,14 @@ module _ (ps : Parts) (marker : Bool) (qs : Parts) (r e : ℕ) (few : r ≡ leng
       refuses (choice_schema ps marker qs) s h.kind err (h.is ∙ ap (λ z. refusal h.kind z) start) says
       (no_index (settings_of s) ps marker qs (λ y u k. h.because.1 y u (index_back y u k)))
 
-  -- a level is entered behind it
+  -- a level is entered after it
   module _ (d : Side) (k m : ℕ) (t u : State) (inside : OutsideRecord) (o : Scope) (live : s.failed ≡ false) (deeper : s.levels ≡ suc m) (none : inside ≡ no_record m)
       (index : Took (index_form (settings_of x) r e marker (d, k)) x.bits t.bits × (t ≡ with_bits x t.bits)) (enters : Enters inside t (outside_record_of u.source o) u) where
-    behind_index : t ≡ with_bits s t.bits
-    behind_index = index.1 ∙ ap (λ z. with_bits z t.bits) start
+    after_index : t ≡ with_bits s t.bits
+    after_index = index.1 ∙ ap (λ z. with_bits z t.bits) start
 
     entered : u ≡ with_outside_record (with_bits s t.bits) (no_record m)
-    entered = enters.same ∙ ap (λ z. with_outside_record t z) none ∙ ap (λ z. with_outside_record z (no_record m)) behind_index
+    entered = enters.same ∙ ap (λ z. with_outside_record t z) none ∙ ap (λ z. with_outside_record z (no_record m)) after_index
 
     bits_left : u.bits ≡ t.bits
     bits_left = ap (λ z. z.bits) entered
@@ -125,13 +125,13 @@ module _ (ps : Parts) (marker : Bool) (qs : Parts) (r e : ℕ) (few : r ≡ leng
       deeper = deeper ∙ ap suc (sym (ap (λ z. z.levels) entered));
       took = index_taken;
       enters = record {
-        waits = ap (λ z. outside_record_of z o) (outer_source d u i held f) ∙ enters.waits ∙ ap (λ z. in_state z) behind_index;
+        waits = ap (λ z. outside_record_of z o) (outer_source d u i held f) ∙ enters.waits ∙ ap (λ z. in_state z) after_index;
         same = entered ∙ ap (λ z. with_outside_record (with_bits s z) (no_record m)) (sym bits_left) ∙ ap (λ l. with_outside_record (with_bits s u.bits) (no_record l)) (sym (ap (λ z. z.levels) entered));
       };
       stands = f;
     }
 
-    -- where it would stand in an open type, none is read
+    -- where it would be in an open type, none is read
     pub refused_contents : (err : DecodeError) (i : State) → d ≡ added → RefusedAs (IsOfOctets u) u err i
         → (err ≡ refusal OutOfMemory s) ⊎ Refuses (Spells (choice_schema ps marker qs)) (Fault (choice_schema ps marker qs)) err s
     refused_contents err i side h = go h.kind h.is h.because

@@ -13,16 +13,16 @@ use Rattle.per_core.specs.declared.decode_error.DecodeErrorKind.TheVariants.{Out
 use Rattle.per_read.proofs.Opened.{no_open}
 use Rattle.per_decoding.specs.Faults.{Fault, refusal}
 use Rattle.per_core.specs.ReadingFaults.{in_containing, in_octets}
-use Rattle.per_decoding.specs.Laws.Contents.{took_containing}
-use Rattle.per_decoding.specs.Laws.Records.{of_bits}
-use Rattle.per_decoding.specs.Laws.Tails.{tested_new}
+use Rattle.per_decoding.proofs.Scoping.Contents.{took_containing}
+use Rattle.per_decoding.proofs.Scoping.Records.{of_bits}
+use Rattle.per_decoding.proofs.Scoping.Tails.{tested_new}
 use Rattle.per_decoding.specs.Rules.{plain_rules}
 use Rattle.per_decoding.specs.State.{State, Spells, settings_of}
 use Rattle.per_de.specs.InTurn.{Owes, are_open}
 use Rattle.per_de.specs.Steps.{EntersOpen, IsOfOctets, RefusedAs}
 use Rattle.per_de.specs.declared.Addition.{Addition}
 
--- no octets stand at the front
+-- no octets are at the front
 pub no_octets : (s : State) (e : DecodeError) (t : State) → RefusedAs (IsOfOctets s) s e t
     → (e ≡ refusal OutOfMemory s) ⊎ ((c : Schema) → Refuses (Spells (Schema.containing c)) (Fault (Schema.containing c)) e s)
 no_octets s e t h = go h.kind h.is h.because

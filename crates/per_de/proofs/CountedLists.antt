@@ -14,7 +14,7 @@ use Rattle.per_core.specs.declared.decode_error.DecodeError.{DecodeError}
 use Rattle.per_core.specs.declared.decode_error.DecodeErrorKind.{DecodeErrorKind}
 use Rattle.per_core.specs.declared.decode_error.DecodeErrorKind.TheVariants.{AlreadyFailed}
 use Rattle.per_decoding.specs.Faults.{Fault, IsOf}
-use Rattle.per_decoding.specs.Laws.InTurn.{awaits_values_live, contradicts, fault_at, spells_at}
+use Rattle.per_decoding.proofs.Scoping.InTurn.{awaits_values_live, contradicts, fault_at, spells_at}
 use Rattle.per_decoding.specs.Rules.{AwaitsValues, decoder_rules, plain_rules}
 use Rattle.per_decoding.specs.Scopes.{no_record, outside_record, OutsideRecord, with_outside_record}
 use Rattle.per_decoding.specs.State.{noting, Spells, State, with_turn}
@@ -80,7 +80,7 @@ opened_awaits size mark m n t i o f g h =
       expected = ap (λ z. z.expected) k.same ∙ ap (λ z. z.expected) f;
     })
 
--- what stands in an open list here
+-- what is in an open list here
 pub counted_here : {e : Schema} {size : Size} {mark : Bool} {s : State} {vs : List Value} {l : Around OpenedList} (i : State) → IsCountedList e size mark s vs l i
     → IsOpenList e size mark (closed_off (with_turn i.turn s)) vs l.scope.list i
 counted_here i a = list_turned i.turn a.list

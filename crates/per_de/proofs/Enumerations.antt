@@ -5,7 +5,7 @@ use Rattle.rasn_types.specs.Values.{Value}
 use Rattle.rasn_schema.specs.Schemas
 use Rattle.per_core.specs.Basic.{basic, basic_in}
 use Rattle.per_core.specs.Spellings.{Settings, Took, NoneIn}
-use Rattle.per_core.proofs.Took.{took_map}
+use Rattle.per_core.proofs.TakenInTurn.{took_map}
 use Rattle.per_decoding.specs.Enumerations.{item_form}
 
 pub reads_item : (a : Settings) (r e : ℕ) (ext : Bool) (v : Value) {s t : Bits} → Took (item_form a r e ext v) s t → Took (basic a (Schemas.items r e ext) v) s t

@@ -22,14 +22,14 @@ use Rattle.per_core.specs.declared.decode_error.DecodeErrorKind.TheVariants.{Alr
 use Rattle.per_decoding.specs.Additions.{ClosesAddition, OpensAddition, OpensContaining, OpensContents, OutsideAddition}
 use Rattle.per_decoding.specs.Choices.{ClosesChoice, EndsFrom, OpensChoice, OutsideChoice, StandsFrom}
 use Rattle.per_decoding.specs.Faults.{Fault, refusal}
-use Rattle.per_decoding.specs.InTurn.{AddsInTurn, ChoosesInTurn, ContainsInTurn, Enters, Leaves, Unfinished}
-use Rattle.per_decoding.specs.Laws.InTurn.{awaits_live, contradicts, fault_at, marks_at, spells_at, turned}
+use Rattle.per_decoding.specs.InTurn.{AddsInTurn, ChoosesInTurn, ContainsInTurn, Enters, Leaves, OpensUncounted, Unfinished}
+use Rattle.per_decoding.proofs.Scoping.InTurn.{awaits_live, contradicts, fault_at, marks_at, spells_at, turned, uncounted_live}
 use Rattle.per_decoding.specs.Rules.{Amidst, Awaits, decoder_rules, plain_rules}
 use Rattle.per_decoding.specs.Scopes.{Closes, Opens, OutsideRecord}
-use Rattle.per_decoding.specs.Laws.Spelled.{spelled}
+use Rattle.per_decoding.proofs.Scoping.Spelled.{spelled}
 use Rattle.per_decoding.specs.State.{Marks, State, Spells, noting, noting_bit, settings_of, with_turn}
-use Rattle.per_decoding.specs.Turns.{CountsAs, Turn, awaiting, in_list, is_complete, misplaced, next, uncounted, within_list}
-use Rattle.per_de.specs.InTurn.{LeavesChoice, LeavesOpen, LeavesRecord, are_in_turn, are_open, is_addition_in_turn, is_addition_open, is_choice_in_turn, is_choice_open, is_open_in_turn}
+use Rattle.per_decoding.specs.Turns.{Turn, awaiting, in_list, is_complete, misplaced, next, uncounted, within_list}
+use Rattle.per_de.specs.InTurn.{LeavesChoice, LeavesOpen, LeavesRecord, are_in_turn, are_open, is_addition_in_turn, is_addition_open, is_choice_in_turn, is_choice_open, is_open_due, is_open_in_turn}
 use Rattle.per_de.specs.Outsides.{outside_addition_of, outside_choice_of}
 use Rattle.per_de.specs.Lending.{AreLent, ComeAlone, TakesOctets}
 use Rattle.per_de.specs.declared.taken_octets.TakenOctets.{TakenOctets}
@@ -50,7 +50,7 @@ pub still : (s : State) {m : State} → m ≡ noting s → s.failed ≡ false �
 still s e live = ap (λ z. z.failed) e ∙ live
 
 module _ {T : Type 0} {c : Schema} {value : T → Value} {s m : State} {t : State} where
-  -- what is read behind the note
+  -- what is read after the note
   pub begun : (r : Result T DecodeError) → m ≡ noting s → Reads plain_rules c value m r t → Reads decoder_rules c value s r t
   begun r e h = go r (subst (λ z. Reads plain_rules c value z r t) e h)
     where
@@ -81,17 +81,17 @@ unread : {c : Schema} (s : State) {e : DecodeError} → (e ≡ refusal OutOfMemo
 unread s (inl o) = inl o
 unread s (inr n) = inr (record { nothing = n.nothing; stands = n.stands })
 
--- what a step owes, behind the note
+-- what a step owes, after the note
 pub behaves_noted : {T : Type 0} {s m : State} {r : Result T DecodeError} {t : State} → m ≡ noting s
     → Behaves plain_rules.already plain_rules.failed plain_rules.codec m r t → Behaves decoder_rules.already decoder_rules.failed decoder_rules.codec s r t
 behaves_noted {s = s} {r = r} {t = t} e h =
     let k = subst (λ z. Behaves plain_rules.already plain_rules.failed plain_rules.codec z r t) e h in
     record { again = k.again; fails = k.fails; kept = k.kept }
 
--- a scope is entered that counts so many components
-entered : (opens : State → State → Type 0) → ((a b : State) → opens a b → b.turn ≡ a.turn) → (n : ℕ) (around : Turn) (s m t : State) (x waits : Turn)
-    → m ≡ with_turn around s → waits ≡ m.turn → CountsAs n x → opens m t → Enters opens n around s waits (with_turn x t)
-entered opens keeps n around s m t x waits e w c h =
+-- a scope is entered in which so much is to come
+entered : (opens : State → State → Type 0) → ((a b : State) → opens a b → b.turn ≡ a.turn) → (due around : Turn) (s m t : State) (x waits : Turn)
+    → m ≡ with_turn around s → waits ≡ m.turn → x ≡ due → opens m t → Enters opens due around s waits (with_turn x t)
+entered opens keeps due around s m t x waits e w c h =
     let k = subst (λ z. opens z t) e h in
     record {
       opened = subst (λ z. opens (with_turn around s) z) (sym (turned t (keeps (with_turn around s) t k))) k;
@@ -117,14 +117,14 @@ stands_keeps added m (Some w) i h = ap (λ z. z.turn) h.enters.same
 choice_keeps : (c : Schema) (d : Side) (k : ℕ) (w : OutsideChoice) (s i : State) → OpensChoice c d k s w i → i.turn ≡ s.turn
 choice_keeps c d k w s i h = stands_keeps d h.middle w.contents i h.stands ∙ ap (λ z. z.turn) h.enters.same
 
--- a record is opened
-pub record_opened : (parts additions : ℕ → Parts) (marker : Bool) (s m t i : State) (o : Scope) (turn : Kept.Turn) (x : Turn) → m ≡ noting s → turn_of turn ≡ m.turn → i ≡ with_turn x t
-    → ((n : ℕ) → CountsAs (count (parts n)) x) → OpenedToRead plain_rules is_open parts marker additions m (Ok o) t
-    → OpenedToRead decoder_rules is_open_in_turn parts marker additions s (Ok (record { scope = o; turn = turn })) i
-record_opened parts additions marker s m t i o turn x e w f c h =
-    subst (λ z. OpenedToRead decoder_rules is_open_in_turn parts marker additions s (Ok (record { scope = o; turn = turn })) z) (sym f) (
+-- a record is opened, in which so much is to come for so many root components
+pub record_opened : (due : ℕ → Turn) (parts additions : ℕ → Parts) (marker : Bool) (s m t i : State) (o : Scope) (turn : Kept.Turn) (x : Turn) → m ≡ noting s → turn_of turn ≡ m.turn → i ≡ with_turn x t
+    → ((n : ℕ) → x ≡ due (count (parts n))) → OpenedToRead plain_rules is_open parts marker additions m (Ok o) t
+    → OpenedToRead decoder_rules (is_open_due due) parts marker additions s (Ok (record { scope = o; turn = turn })) i
+record_opened due parts additions marker s m t i o turn x e w f c h =
+    subst (λ z. OpenedToRead decoder_rules (is_open_due due) parts marker additions s (Ok (record { scope = o; turn = turn })) z) (sym f) (
       ap (λ z. z.levels) (sym e) ∙ h.0,
-      entered _ (λ a b. record_keeps (extended (parts t.levels) marker (additions t.levels)) _ a b) (count (parts t.levels)) (next s.turn) s m t x (turn_of turn) e w (c t.levels) h.1,
+      entered _ (λ a b. record_keeps (extended (parts t.levels) marker (additions t.levels)) _ a b) (due (count (parts t.levels))) (next s.turn) s m t x (turn_of turn) e w (c t.levels) h.1,
     )
 
 -- it isn't
@@ -160,7 +160,7 @@ pub addition_opened : (s t i : State) (o : Addition) (turn : Kept.Turn) → turn
     → AddsInTurn s (outside_addition_of i.source o) (turn_of turn) i
 addition_opened s t i o turn w f h =
     subst (λ z. AddsInTurn s (outside_addition_of z.source o) (turn_of turn) z) (sym f)
-    (entered _ (λ a b. addition_keeps _ a b) 1 s.turn s s t (awaiting 1) (turn_of turn) refl w refl h)
+    (entered _ (λ a b. addition_keeps _ a b) (awaiting 1) s.turn s s t (awaiting 1) (turn_of turn) refl w refl h)
 
 pub addition_awaits : (s : State) (w : OutsideAddition) (t i : State) → OpensAddition s w t → i ≡ with_turn (awaiting 1) t → Awaits one_value i
 addition_awaits s w t i h f =
@@ -179,7 +179,7 @@ pub contents_opened : (s m t i : State) (o : Addition) (turn : Kept.Turn) → m 
     → ContainsInTurn s (outside_addition_of i.source o) (turn_of turn) i
 contents_opened s m t i o turn e w f h =
     subst (λ z. ContainsInTurn s (outside_addition_of z.source o) (turn_of turn) z) (sym f)
-    (entered _ (λ a b. containing_keeps _ a b) 1 (next s.turn) s m t (awaiting 1) (turn_of turn) e w refl h)
+    (entered _ (λ a b. containing_keeps _ a b) (awaiting 1) (next s.turn) s m t (awaiting 1) (turn_of turn) e w refl h)
 
 pub contents_awaits : (s : State) (w : OutsideAddition) (t i : State) → OpensContaining s w t → i ≡ with_turn (awaiting 1) t → Awaits one_value i
 contents_awaits s w t i h f =
@@ -195,20 +195,20 @@ contents_unopened s m t i e f h = go (subst (λ z. OpenedContentsToRead plain_ru
     go (inr n) = inr (λ c. record { nothing = (n c).nothing; stands = (n c).stands })
 
 -- A scope is left, or can't be.
-module _ (unended : DecodeError → State → Type 0) (closes : State → State → Type 0) (waits : Turn) (s : State) where
-  pub left : (t i : State) → is_complete s.turn ≡ true → t.turn ≡ s.turn → closes s t → i ≡ with_turn waits t → Leaves closes s waits i
-  left t i c k h f = subst (λ z. Leaves closes s waits z) (sym f) (record { complete = c; closed = subst (λ z. closes s z) (sym (turned t k)) h; back = refl })
+module _ (ends : Turn → Bool) (unended : DecodeError → State → Type 0) (closes : State → State → Type 0) (waits : Turn) (s : State) where
+  pub left : (t i : State) → ends s.turn ≡ true → t.turn ≡ s.turn → closes s t → i ≡ with_turn waits t → Leaves ends closes s waits i
+  left t i c k h f = subst (λ z. Leaves ends closes s waits z) (sym f) (record { complete = c; closed = subst (λ z. closes s z) (sym (turned t k)) h; back = refl })
 
   pub unleft : (e : DecodeError) → (e ≡ refusal OutOfMemory s) ⊎ (((u : State) → closes s u → ⊥) × unended e s)
-      → (e ≡ refusal OutOfMemory s) ⊎ (((u : State) → Leaves closes s waits u → ⊥) × Unfinished unended e s)
+      → (e ≡ refusal OutOfMemory s) ⊎ (((u : State) → Leaves ends closes s waits u → ⊥) × Unfinished ends unended e s)
   unleft e (inl m) = inl m
   unleft e (inr h) = inr ((λ u l. h.0 (with_turn s.turn u) l.closed), inr h.1)
 
-  -- not as much came as is due
-  pub incomplete : (e : DecodeError) (t : State) → IsComplete s (Err e) t → s.failed ≡ false
-      → (e ≡ refusal OutOfMemory s) ⊎ (((u : State) → Leaves closes s waits u → ⊥) × Unfinished unended e s)
-  incomplete e t (inl h) live = contradicts live h.0
-  incomplete e t (inr h) live = inr ((λ u l. contradicts h.1 l.complete), inl (h.2, h.1))
+-- not as much came as is due
+pub incomplete : (unended : DecodeError → State → Type 0) (closes : State → State → Type 0) (waits : Turn) (s : State) (e : DecodeError) (t : State) → IsComplete s (Err e) t → s.failed ≡ false
+    → (e ≡ refusal OutOfMemory s) ⊎ (((u : State) → Leaves is_complete closes s waits u → ⊥) × Unfinished is_complete unended e s)
+incomplete unended closes waits s e t (inl h) live = contradicts live h.0
+incomplete unended closes waits s e t (inr h) live = inr ((λ u l. contradicts h.1 l.complete), inl (h.2, h.1))
 
 pub incomplete_untimely : (due : Amount) (s : State) (e : DecodeError) (t : State) → IsComplete s (Err e) t → (i : State) (came : Amount) → Awaits due i → CameRead decoder_rules came i s
     → e ≡ refusal MissingTag s
@@ -219,10 +219,20 @@ pub incomplete_in_list : (s : State) (e : DecodeError) (t : State) → IsComplet
 incomplete_in_list s e t (inl h) m a = contradicts a.live h.0
 incomplete_in_list s e t (inr h) m a = h.2
 
+pub incomplete_in_fields : (s : State) (e : DecodeError) (t : State) → IsComplete s (Err e) t
+    → {c : Schema} {m i : State} {w : OutsideRecord} {around : Turn} {came : Amount} → OpensUncounted c m w around i → CameRead decoder_rules came i s → e ≡ refusal MissingTag s
+incomplete_in_fields s e t (inl h) a k = contradicts (uncounted_live a k) h.0
+incomplete_in_fields s e t (inr h) a k = h.2
+
 pub incomplete_behaves : (s : State) (e : DecodeError) (t : State) → IsComplete s (Err e) t
     → Behaves decoder_rules.already decoder_rules.failed decoder_rules.codec s (failing (Unit {0}) e) t
 incomplete_behaves s e t (inl h) = record { again = λ f. h.1; fails = ap (λ z. z.failed) h.2 ∙ h.0; kept = ap (λ z. z.codec) h.2 }
 incomplete_behaves s e t (inr h) = record { again = λ f. contradicts h.0 f; fails = ap (λ z. z.failed) h.3; kept = ap (λ z. z.codec) h.3 }
+
+-- a step that was answered hadn't failed before
+pub unfailed : (b : Bool) → (b ≡ true → ⊥) → b ≡ false
+unfailed true h = absurd (h refl)
+unfailed false h = refl
 
 -- a step that leaves a scope where all came
 pub record_here : (o : Scope) {s m : State} {r : Result (Unit {0}) DecodeError} {t : State} → m ≡ s → LeavesRecord o m r t → LeavesRecord o s r t
@@ -385,7 +395,7 @@ pub list_refused : {e : Schema} {size : Size} {mark : Bool} (s : State) (x : Tur
 list_refused s x d (inl o) = inl o
 list_refused s x d (inr n) = inr (record { nothing = λ v t b. n.nothing v (with_turn x t) (spells_at x b); stands = fault_at (next s.turn) d (with_turn x s) n.stands })
 
--- what stands in an open list here
+-- what is in an open list here
 pub still_open : {e : Schema} {size : Size} {mark : Bool} {s : State} {vs : List Value} {l : Around OpenedList} (i : State) → IsListInTurn e size mark s vs l i
     → IsOpenList e size mark (with_turn i.turn s) vs l.scope.list i
 still_open i a = list_turned i.turn a.list
@@ -396,7 +406,7 @@ pub placed_opened : (choice : ℕ → Schema) (s m t i : State) (p : Place) (o :
     → PlacedToRead decoder_rules is_choice_in_turn choice s (Ok (p, record { scope = o; turn = turn })) i
 placed_opened choice s m t i p o turn e w f h =
     subst (λ z. PlacedToRead decoder_rules is_choice_in_turn choice s (Ok (p, record { scope = o; turn = turn })) z) (sym f)
-    (entered _ (λ a b. choice_keeps (choice t.levels) (side_of p) (index_in p) _ a b) 1 (next s.turn) s m t (awaiting 1) (turn_of turn) e w refl h)
+    (entered _ (λ a b. choice_keeps (choice t.levels) (side_of p) (index_in p) _ a b) (awaiting 1) (next s.turn) s m t (awaiting 1) (turn_of turn) e w refl h)
 
 pub placed_unopened : (choice : ℕ → Schema) (s m t i : State) (e : DecodeError) → m ≡ noting s → PlacedToRead plain_rules is_choice_open choice m (Err e) t
     → PlacedToRead decoder_rules is_choice_in_turn choice s (Err e) i

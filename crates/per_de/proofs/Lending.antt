@@ -15,17 +15,17 @@ use Rattle.rasn_schema.specs.Schemas
 use Rattle.rasn_traits.specs.Calls.{Reads}
 use Rattle.per_core.specs.Basic.{InFragments, Counted, OneByOne, UnconstrainedLength, length_form, octet}
 use Rattle.per_core.specs.Counts.{octet_items}
-use Rattle.per_core.specs.Spellings.{Settings, Spelling, Then, Took, place}
+use Rattle.per_core.specs.Spellings.{Settings, Spelling, Then, Took, bit_offset}
 use Rattle.per_core.specs.declared.items.Item.TheVariants.{Octet}
 use Rattle.per_core.proofs.Readings.{one_reading}
-use Rattle.per_core.proofs.Took.{took_agree}
+use Rattle.per_core.proofs.TakenInTurn.{took_agree}
 use Rattle.per_read.specs.Items.{HasCount}
 use Rattle.per_core.specs.SizeFaults.{IsOfItems}
-use Rattle.per_read.specs.State.{State as Taking, settings_of as read_by}
+use Rattle.per_read.specs.ReaderState.{ReaderState as Taking, settings_of as read_by}
 use Rattle.per_read.specs.Takes.{Takes, memory_or}
 use Rattle.per_core.specs.declared.decode_error.DecodeError.{DecodeError}
 use Rattle.per_core.specs.declared.decode_error.DecodeErrorKind.{DecodeErrorKind}
-use Rattle.per_read.specs.Stands.{LastTaken}
+use Rattle.per_read.specs.TakenPositions.{LastTaken}
 use Rattle.per_decoding.specs.Faults.{refusal}
 use Rattle.per_decoding.specs.Rules.{plain_rules}
 use Rattle.per_decoding.specs.State.{State, reader_of, refused, settings_of, with_last}
@@ -97,7 +97,7 @@ module _ (a : Settings) (os : List ℕ) where
     marked : {s t : Bits} → Took (Counted a size true octet_items octet os) s t → ComeAlone size true s (length os) → LastTaken (8 * length os) (unpack os) s t × AreOctets os
     marked {s} {t} h l = go h.spelled l
       where
-        go : Counted a size true octet_items octet os (place s) h.front → ComeAlone size true s (length os) → LastTaken (8 * length os) (unpack os) s t × AreOctets os
+        go : Counted a size true octet_items octet os (bit_offset s) h.front → ComeAlone size true s (length os) → LastTaken (8 * length os) (unpack os) s t × AreOctets os
         go (inl x) l = some_end h.joins (behind os x (λ q c y. under size.least size.most q c y.spelled (without s true l)))
         go (inr x) (inl l) = some_end h.joins (behind os x (λ q c y. free q c y.spelled l))
         go (inr x) (inr e) =
@@ -107,7 +107,7 @@ module _ (a : Settings) (os : List ℕ) where
 
     -- what comes alone was taken last
     pub alone_last : (mark : Bool) {s t : Bits} → Took (Counted a size mark octet_items octet os) s t → ComeAlone size mark s (length os) → LastTaken (8 * length os) (unpack os) s t × AreOctets os
-    alone_last false {s} h l = some_end h.joins (under size.least size.most (place s) h.front h.spelled.spelled (without s false l))
+    alone_last false {s} h l = some_end h.joins (under size.least size.most (bit_offset s) h.front h.spelled.spelled (without s false l))
     alone_last true h l = marked h l
 
 -- octets of the same bits
@@ -229,7 +229,7 @@ module _ (s : State) (size : Size) (mark : Bool) (left : ℕ) (t : State) (live 
       let rest : length t.bits ≡ left = ap length w.1 ∙ sym g.behind in
       ((λ b. absurd (owned_not v o b)), λ a. absurd (none (subst (λ (k : ℕ). AreLent size mark s left k) many (subst (λ (k : ℕ). AreLent size mark s k (length (cow_slice_items v))) rest a))))
 
-  -- what comes alone stands in front of the bits that are left
+  -- what comes alone is in front of the bits that are left
   between_these : ComeAlone size mark s.bits n → unpack g.items ≡ between (length s.bits - left - 8 * n) (length s.bits - left) s.bits
   between_these c =
       let h = (last c).0 in
@@ -240,7 +240,7 @@ module _ (s : State) (size : Size) (mark : Bool) (left : ℕ) (t : State) (live 
       let many : length (unpack g.items) ≡ m = omega (arith, all, g.behind, h.wide, g.many) in
       sym (ap (λ z. take m z) (ap (λ z. drop k z) h.joins ∙ drop_at h.before (unpack g.items ++ g.rest) k first) ∙ take_at (unpack g.items) g.rest m many)
 
-  -- how many bits stand in front of the last ones
+  -- how many bits are in front of the last ones
   pub ends_there : (span : Span) (source : Source) → up_to span source ≡ s.source → IsWithin span (bits_of source) → left ≤ span.end → left ≤ length s.bits → t ≡ with_last s left → in_front t ≡ span.end - left
   ends_there span source e h l few a =
       let rest : length t.bits ≡ left = ap (λ z. length z.bits) a ∙ length-drop (length s.bits - left) s.bits ∙ omega (arith, few) in
@@ -270,7 +270,7 @@ module _ (s : State) (size : Size) (mark : Bool) (left : ℕ) (t : State) (live 
         in_front = ((λ x. (subst (λ (m : ℕ). ComeAlone size mark s.bits m) (sym g.many) alone, on)), (λ x. tt));
       }
 
-  -- what is copied comes in fragments, or doesn't stand on octets
+  -- what is copied comes in fragments, or isn't on octets
   pub taken_copy : (v : Vec ℕ Global) → Reads plain_rules (Schemas.octet_string size mark) (λ (v : Vec ℕ Global). octets v.items) s (Ok v) t → left ≤ length s.bits
       → (ComeAlone size mark s.bits n → place_left (with_last s left) ≡ 0 → ⊥) → TakenAs plain_rules size mark s (Copied v) t
   taken_copy v h few none =
@@ -279,10 +279,10 @@ module _ (s : State) (size : Size) (mark : Bool) (left : ℕ) (t : State) (live 
       let many : length v.items ≡ n = ap length same ∙ g.many in
       let rest : length t.bits ≡ length (with_last s left).bits = ap length w.1 ∙ sym g.behind ∙ omega (arith, length-drop (length s.bits - left) s.bits, few) in
       let from : t.source ≡ s.source = ap (λ z. z.source) h.law.same in
-      let place : place_left t ≡ place_left (with_last s left) = ap₂ (λ z (k : ℕ). (z.place + (length z.bits - (z.behind + k))) % 8) from rest in
+      let bit_offset : place_left t ≡ place_left (with_last s left) = ap₂ (λ z (k : ℕ). (z.place + (length z.bits - (z.behind + k))) % 8) from rest in
       record {
         items = v.items;
         are = refl;
         read = reads_ok v v.items refl h;
-        in_front = ((λ x. absurd x), (λ x. absurd (none (subst (λ (m : ℕ). ComeAlone size mark s.bits m) many x.0) (sym place ∙ x.1))));
+        in_front = ((λ x. absurd x), (λ x. absurd (none (subst (λ (m : ℕ). ComeAlone size mark s.bits m) many x.0) (sym bit_offset ∙ x.1))));
       }

@@ -3,7 +3,7 @@ pub mod Calls
 pub mod Choosing
 pub mod Containing
 pub mod Enumerations
-pub mod FewBefore
+pub mod ElementCounts
 pub mod Listing
 pub mod Opening
 pub mod StringCalls

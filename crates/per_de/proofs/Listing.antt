@@ -11,25 +11,25 @@ use Rattle.rasn_schema.specs.Schemas.{Schema}
 use Rattle.rasn_traits.specs.Lists.{HasElement, ListOpenedToRead, ListUnread}
 use Rattle.per_core.specs.Basic.{basic, basic_in}
 use Rattle.per_core.specs.Spellings.{Settings, Took, NoneIn}
-use Rattle.per_core.proofs.Took.{took_map}
+use Rattle.per_core.proofs.TakenInTurn.{took_map}
 use Rattle.per_read.specs.Lists.{AreOpenItems, AwaitsItem, Leaves, NextRead, OpensList, ReadsNext, RefusesList, list_form, list_rule}
 use Rattle.per_core.specs.SizeFaults.{IsOfList}
-use Rattle.per_read.specs.State.{State as Taking}
+use Rattle.per_read.specs.ReaderState.{ReaderState as Taking}
 use Rattle.per_core.specs.declared.decode_error.DecodeError.{DecodeError}
 use Rattle.per_core.specs.declared.decode_error.DecodeErrorKind.{DecodeErrorKind}
 use Rattle.per_core.specs.declared.decode_error.DecodeErrorKind.TheVariants.{AlreadyFailed, OutOfMemory}
 use Rattle.per_read.specs.declared.lists.UnreadElements.{UnreadElements}
 use Rattle.per_read.proofs.OfLists.{of_list, opening_tested}
-use Rattle.per_decoding.specs.Laws.Contents.{moved}
+use Rattle.per_decoding.proofs.Scoping.Contents.{moved}
 use Rattle.per_decoding.specs.Faults.{Answered, IsOf, refusal}
 use Rattle.per_core.specs.ReadingFaults.{in_element}
 use Rattle.per_de.specs.Lists.{IsOpenList}
 use Rattle.per_decoding.specs.Rules.{plain_rules}
-use Rattle.per_decoding.specs.Laws.Spelled.{spelled}
+use Rattle.per_decoding.proofs.Scoping.Spelled.{spelled}
 use Rattle.per_decoding.specs.State.{State, Spells, reader_of, settings_of, with_bits, with_last}
 use Rattle.per_de.specs.declared.ListScope.{ListScope}
 use Rattle.per_de.proofs.Calls.{refuses}
-use Rattle.per_de.proofs.FewBefore.{one_more_few, took_up_to_few}
+use Rattle.per_de.proofs.ElementCounts.{one_more_few, took_up_to_few}
 use Rattle.per_de.proofs.Opening.{answered_ok, answered_err}
 use Rattle.per_decoding.proofs.Spans.{with_rest}
 
@@ -97,7 +97,7 @@ module _ {e : Schema} {size : Size} {mark : Bool} {s : State} {vs : List Value} 
       subst (λ z. NextRead (list_rule z size mark e) s.bits vs taken m y.bits) same_settings
       (went.law size mark e s.bits vs (subst (λ z. AreOpenItems (list_rule z size mark e) s.bits vs l i.bits) (sym same_settings) a.items))
 
-  -- behind what was taken
+  -- after what was taken
   on : (b : Bool) (t : State) → left ≡ length y.bits → Answered taken left i (Ok b) t → t ≡ record s { bits = y.bits; levels = i.levels }
   on b t n c =
       let r = answered_ok taken left i b t c in
@@ -125,7 +125,7 @@ module _ {e : Schema} {size : Size} {mark : Bool} {s : State} {vs : List Value} 
   of_element AlreadyFailed w g = ap (λ z. z.failed) (sym a.same) ∙ g
   of_element _ w g = in_element vs w.behind (moved same_settings g)
 
-  -- a further element stands here
+  -- a further element is here
   pub element_follows : (t : State) → left ≡ length y.bits → Answered taken left i (Ok true) t → HasElement plain_rules IsOpenList e size mark s vs (record { list = m; levels = o }) t
   element_follows t n b =
       let r = answered_ok taken left i true t b in

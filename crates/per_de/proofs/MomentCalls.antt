@@ -10,7 +10,7 @@ use Rattle.rasn_traits.specs.Calls.{Reads, Refuses}
 use Rattle.rasn_traits.specs.Moments.{date_at}
 use Rattle.per_core.specs.Basic.{basic, basic_in}
 use Rattle.per_core.specs.Spellings.{Settings, Took, NoneIn}
-use Rattle.per_core.proofs.Took.{took_map}
+use Rattle.per_core.proofs.TakenInTurn.{took_map}
 use Rattle.per_read.specs.Kinds.{Faulty}
 use Rattle.per_core.specs.TimeFaults.{IsOfIdentifier, IsOfTime}
 use Rattle.per_decoding.specs.Times.{identifier_form, time_form}

@@ -8,14 +8,14 @@ use Rattle.rasn_schema.specs.Records.{record_at}
 use Rattle.rasn_traits.specs.Calls.{Refuses}
 use Rattle.per_core.specs.Basic.{ExtensionBit}
 use Rattle.per_core.specs.Spellings.{Took}
-use Rattle.per_core.proofs.Took.{then_took, took_agree}
+use Rattle.per_core.proofs.TakenInTurn.{then_took, took_agree}
 use Rattle.rasn_constraints.specs.Bounds.{count_of}
 use Rattle.per_core.specs.declared.decode_error.DecodeError.{DecodeError}
 use Rattle.per_core.specs.declared.decode_error.DecodeErrorKind.{DecodeErrorKind}
 use Rattle.per_core.specs.declared.decode_error.DecodeErrorKind.TheVariants.{Incomplete, OutOfMemory}
 use Rattle.per_decoding.specs.Faults.{Answered, Fault, refusal}
-use Rattle.per_decoding.specs.Laws.Records.{flags_bits}
-use Rattle.per_decoding.specs.Laws.Scopes.{bit_agree, took_record}
+use Rattle.per_decoding.proofs.Scoping.Records.{flags_bits}
+use Rattle.per_decoding.proofs.Scoping.Scopes.{bit_agree, took_record}
 use Rattle.per_decoding.specs.Scopes.{Enters, Opens, OutsideRecord, is_extensible, outside_record, with_outside_record}
 use Rattle.per_decoding.specs.State.{State, Spells, settings_of, with_bits, with_last}
 use Rattle.per_core.specs.AdditionFaults.{extension_of}
@@ -37,14 +37,14 @@ module _ (flag : Bool) (count : ℕ) (s t u : State) (m : ℕ) (b : Bool) (deepe
   bit_took : Took (ExtensionBit flag b) s.bits u.bits
   bit_took = subst (λ z. Took (ExtensionBit flag b) z.bits u.bits) start bit.0
 
-  behind_bit : u ≡ with_bits s u.bits
-  behind_bit = bit.1 ∙ ap (λ z. with_bits z u.bits) start
+  after_bit : u ≡ with_bits s u.bits
+  after_bit = bit.1 ∙ ap (λ z. with_bits z u.bits) start
 
   -- a scope is entered with the presence bits that were taken
   pub opens_record : (c : Schema) (asked : Span) (v : State) (inside w : OutsideRecord) (i : State) → s.failed ≡ false → flag ≡ is_extensible c → count ≡ presence_bits (root_of c) → TakesPresences count u (Ok asked) v
       → inside ≡ record { levels = m; presences = span_of asked v.source.bits; extension = extension_of b; expected = part_count (additions_of c) } → Enters inside v w i → Opens c s w i
   opens_record c asked v inside w i live e n p is enters =
-      let same : v ≡ with_bits s v.bits = p.1 ∙ ap (λ z. with_bits z v.bits) behind_bit in
+      let same : v ≡ with_bits s v.bits = p.1 ∙ ap (λ z. with_bits z v.bits) after_bit in
       let q = span_of asked u.source.bits in
       let source : v.source ≡ u.source = ap (λ z. z.source) p.1 in
       let within : OutsideRecord = record { levels = m; presences = q; extension = extension_of b; expected = part_count (additions_of c) } in
@@ -68,7 +68,7 @@ module _ (flag : Bool) (count : ℕ) (s t u : State) (m : ℕ) (b : Bool) (deepe
   no_front parts additions marker e v f i h =
       let c = extended (parts m) marker (additions m) in
       inr (subst (λ l. Refuses (Spells (record_at listed parts marker additions l)) (Fault (record_at listed parts marker additions l)) e s) (sym deeper)
-      (refuses c s (Incomplete (count_of (count - length u.bits))) e (h.1 ∙ ap (λ z. refusal (Incomplete (count_of (count - length u.bits))) z) behind_bit) (inr (b, (u.bits, subst (λ (z : Bool). Took (ExtensionBit z b) s.bits u.bits) f bit_took, record { short = omega (arith, h.0, i); missing = ap (λ (n : ℕ). Incomplete (count_of (n - length u.bits))) i })))
+      (refuses c s (Incomplete (count_of (count - length u.bits))) e (h.1 ∙ ap (λ z. refusal (Incomplete (count_of (count - length u.bits))) z) after_bit) (inr (b, (u.bits, subst (λ (z : Bool). Took (ExtensionBit z b) s.bits u.bits) f bit_took, record { short = omega (arith, h.0, i); missing = ap (λ (n : ℕ). Incomplete (count_of (n - length u.bits))) i })))
       (λ w y d. let q = took_record (settings_of s) (parts m) marker (additions m) w s.bits y d in
       let g = took_agree (bit_agree marker b q.extends) (subst (λ (z : Bool). Took (ExtensionBit z b) s.bits u.bits) f bit_took) q.bit in
       let r = then_took (record { front = q.root.front; joins = q.root.joins; spelled = q.root.spelled.spelled }) in

@@ -9,10 +9,10 @@ use Rattle.per_core.specs.Spellings.{Settings, Spelling, Took, NoneIn}
 use Rattle.rasn_constraints.specs.Bounds.{count_of}
 use Rattle.per_core.specs.IndexFaults.{IsOfIndex, index_form, IsOfExtension}
 use Rattle.per_decoding.specs.ChoiceIndexes.{index_of}
-use Rattle.per_core.specs.FieldFaults.{IsOfField, IsOfUnconstrained, Says}
+use Rattle.per_core.specs.BitFieldFaults.{IsOfBitField, IsOfUnconstrained, Says}
 use Rattle.per_read.specs.Kinds.{Faulty}
 use Rattle.per_read.specs.Lists.{Leaves}
-use Rattle.per_read.specs.State.{State as Taking}
+use Rattle.per_read.specs.ReaderState.{ReaderState as Taking}
 use Rattle.per_read.specs.Takes.{Reason, Takes, itself, telling}
 use Rattle.per_core.specs.declared.decode_error.DecodeError.{DecodeError}
 use Rattle.per_core.specs.declared.decode_error.DecodeErrorKind.{DecodeErrorKind}
@@ -23,16 +23,16 @@ use Rattle.per_read.specs.Bitmaps.{large_fragments_of}
 use Rattle.per_read.specs.Flags.{HasFlags}
 use Rattle.per_read.specs.OpenTypes.{HasOctets, fragments_of}
 use Rattle.per_read.specs.Reasons.{gathering}
-use Rattle.per_read.specs.Stands.{LastTaken}
+use Rattle.per_read.specs.TakenPositions.{LastTaken}
 use Rattle.per_read.specs.declared.bitmaps.PresenceBits.{PresenceBits}
 use Rattle.per_read.specs.declared.bitmaps.PresenceBits.TheVariants as Taken
 use Rattle.per_read.specs.declared.open_types.Contents.{Contents}
 use Rattle.per_read.specs.declared.open_types.Contents.TheVariants as Open
-use Rattle.per_decoding.specs.Laws.Additions.{of_next}
+use Rattle.per_decoding.proofs.Scoping.Additions.{of_next}
 use Rattle.per_decoding.specs.Additions.{EntersContents, OpensContents, OutsideAddition}
 use Rattle.per_decoding.specs.Faults.{Answered, IsOfNext, at_bitmap, refusal}
 use Rattle.per_decoding.specs.State.{State, reader_of, refused, settings_of, with_bits}
-use Rattle.per_decoding.specs.Laws.Tails.{tested_new}
+use Rattle.per_decoding.proofs.Scoping.Tails.{tested_new}
 use Rattle.per_read.proofs.OfBitmaps.{bitmap_tested}
 use Rattle.per_decoding.specs.Sources.{flags_in, span_of, IsWithin}
 use Rattle.per_de.specs.Steps.{AsksNext, IsOfBitmap, IsOfOctets, RefusedAs, SkipsUnknown, TakesBit, TakesBitmap, TakesExtensionBit, TakesFlags, TakesIndex, Unasked}
@@ -197,7 +197,7 @@ module _ (s : State) {x y : Taking} (left : ℕ) (t : State) {taken : Result Con
 pub whole_octets : (count : ℕ) (octets : List ℕ) → count ≡ length (unpack octets) → count % 8 ≡ 0
 whole_octets count octets e = omega (arith, e, length-unpack octets)
 
--- contents that are entered behind their length
+-- contents that are entered after their length
 pub opened : (s t : State) (octets : List ℕ) (w : OutsideAddition) (i : State) (contents : Bits) → Took (Octets (settings_of s) octets) s.bits t.bits → t ≡ with_bits s t.bits → contents ≡ unpack octets
     → EntersContents contents t w i → OpensContents s w i
 opened s t octets w i contents k e c h =

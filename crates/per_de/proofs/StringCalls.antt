@@ -8,8 +8,8 @@ use Rattle.rasn_schema.specs.Schemas
 use Rattle.per_core.specs.Basic.{basic, basic_in, Octets, Counted, String, Proper, octet, bit}
 use Rattle.per_core.specs.Counts.{octet_items, bit_items}
 use Rattle.per_core.specs.Spellings.{Settings, Took, NoneIn}
-use Rattle.per_core.proofs.Took.{took_map}
-use Rattle.per_core.specs.FieldFaults.{IsOfUnconstrained}
+use Rattle.per_core.proofs.TakenInTurn.{took_map}
+use Rattle.per_core.specs.BitFieldFaults.{IsOfUnconstrained}
 use Rattle.per_read.specs.Kinds.{Faulty}
 use Rattle.per_core.specs.SizeFaults.{IsOfItems, IsOfString, IsOfText}
 use Rattle.per_core.specs.declared.items.Item.TheVariants.{Octet, Bit}

@@ -1,13 +1,12 @@
--- Scopes that count what comes in them, and the steps by which they are entered and left, which count nothing.
+-- Scopes that count what comes in them, records in which nothing is counted, and the steps by which they are entered
+-- and left, which count nothing.
 use Rattle.std.specs.Prelude.{◌≡◌, ◌<◌, ℕ, suc, Bool, true, false, [], Result, IfOk, IsErrAnd, OnOk, List, Option}
 use Rattle.rasn_types.specs.Values.{Side, Value}
 use Rattle.rasn_constraints.specs.Bounds.{Size}
 use Rattle.rasn_schema.specs.Structures.{presence_bits}
 use Rattle.rasn_schema.specs.Schemas.{Parts, Schema, count}
-use Rattle.rasn_schema.specs.declared.items.ItemCounts.{ItemCounts}
-use Rattle.rasn_schema.specs.declared.items.Place.{Place}
 use Rattle.rasn_traits.specs.Calls.{Behaves}
-use Rattle.rasn_traits.specs.Counted.{AreCounted, IsChoiceOf, PlacedToRead, stands_in}
+use Rattle.rasn_traits.specs.Counted.{AreCounted}
 use Rattle.rasn_traits.specs.Lists.{ElementFound}
 use Rattle.rasn_traits.specs.Scopes.{ClosedRead, OpensInTurn as OpensRecordInTurn, OpensToRead}
 use Rattle.per_read.specs.Lists.{most}
@@ -16,10 +15,11 @@ use Rattle.per_core.specs.declared.decode_error.DecodeErrorKind.TheVariants.{Mis
 use Rattle.per_decoding.specs.Additions.{ClosesAddition, OpensAddition, OpensContaining}
 use Rattle.per_decoding.specs.Choices.{ClosesChoice, OpensChoice, UnendedChoice}
 use Rattle.per_decoding.specs.Faults.{Unended, UnendedAddition, refusal}
-use Rattle.per_decoding.specs.InTurn.{AddsInTurn, ChoosesInTurn, ContainsInTurn, Leaves, OpensInTurn, Unfinished}
+use Rattle.per_decoding.specs.InTurn.{AddsInTurn, ChoosesInTurn, ContainsInTurn, Leaves, OpensDue, Unfinished}
 use Rattle.per_decoding.specs.Rules.{decoder_rules, plain_rules}
 use Rattle.per_decoding.specs.Scopes.{Closes}
 use Rattle.per_decoding.specs.State.{State}
+use Rattle.per_decoding.specs.Turns.{Turn, awaiting, is_complete, is_uncounted, uncounted}
 use Rattle.per_de.specs.Lists.{IsOpenList}
 use Rattle.per_de.specs.Openings.{is_open}
 use Rattle.per_de.specs.Outsides.{outside_addition_of, outside_choice_of, outside_record_of}
@@ -67,17 +67,37 @@ LeavesOpen o s result t = Owes (s.failed ≡ false
     → ClosedRead plain_rules (λ o e s. UnendedAddition (outside_addition_of s.source o) e s)
     (λ s o t. ClosesAddition s (outside_addition_of s.source o) t) o s result t) s result t
 
--- a record is open that counts what comes in it, or doesn't, and what waits outside
+-- a record is open in which so much is to come for so many root components, and what waits outside
+abbrev pub is_open_due : (ℕ → Turn) → Schema → State → Around Scope → State → Type 0
+is_open_due due c s o i = OpensDue due c s (outside_record_of i.source o.scope) (turn_of o.turn) i
+
+-- it is closed, where it can end by what came
+abbrev pub closes_at : (Turn → Bool) → State → Around Scope → State → Type 0
+closes_at ends s o t = Leaves ends (λ a b. Closes a (outside_record_of s.source o.scope) b) s (turn_of o.turn) t
+
+-- a record is open that counts what comes in it
 abbrev pub is_open_in_turn : Schema → State → Around Scope → State → Type 0
-is_open_in_turn c s o i = OpensInTurn c s (outside_record_of i.source o.scope) (turn_of o.turn) i
+is_open_in_turn = is_open_due awaiting
 
 -- it is closed
 abbrev pub closes_in_turn : State → Around Scope → State → Type 0
-closes_in_turn s o t = Leaves (λ a b. Closes a (outside_record_of s.source o.scope) b) s (turn_of o.turn) t
+closes_in_turn = closes_at is_complete
 
 -- it can't end
 abbrev pub unended_in_turn : Around Scope → DecodeError → State → Type 0
-unended_in_turn o e s = Unfinished Unended e s
+unended_in_turn o e s = Unfinished is_complete Unended e s
+
+-- a record is open in which nothing is counted
+abbrev pub is_open_uncounted : Schema → State → Around Scope → State → Type 0
+is_open_uncounted = is_open_due (λ n. uncounted)
+
+-- it is closed
+abbrev pub closes_uncounted : State → Around Scope → State → Type 0
+closes_uncounted = closes_at is_uncounted
+
+-- it can't end
+abbrev pub unended_uncounted : Around Scope → DecodeError → State → Type 0
+unended_uncounted o e s = Unfinished is_uncounted Unended e s
 
 -- A call that opens a record of as many root components, and as many of them with presence bits, as these, and counts
 -- them.
@@ -86,17 +106,6 @@ pub record OpensCounted (parts : ℕ → Parts) (marker : Bool) (additions : ℕ
   pub in_turn : (ps : ℕ → Parts) → ((n : ℕ) → presence_bits (ps n) ≡ presence_bits (parts n))
       → ((n : ℕ) → count (ps n) ≡ count (parts n))
       → OpensRecordInTurn decoder_rules is_open_in_turn ps marker additions s result t
-
--- A step that reads the index of any choice of so many alternatives, and enters the open type of one behind the
--- extension marker.
-pub record EntersPlaced (alternatives : ItemCounts) (s : State) (result : Result (Place × Alternative) DecodeError)
-    (t : State) : Type 0 where
-  pub opened : (choice : ℕ → Schema) → ((n : ℕ) → IsChoiceOf alternatives (choice n))
-      → PlacedToRead plain_rules is_choice_open choice s result t
-  pub place : IfOk result (λ r. stands_in alternatives r.0 ≡ true)
-  pub deeper : IfOk result (λ r. s.levels ≡ suc t.levels)
-  pub empty : IfOk result (λ r. (t.failed ≡ false) × (t.presences ≡ []) × (t.expected ≡ 0))
-  pub behaves : Behaves plain_rules.already plain_rules.failed plain_rules.codec s result t
 
 -- A step before each element of an open list, and at its end.
 pub record GoesOn (l : ListScope) (i : State) (result : Result Bool DecodeError) (m : ListScope) (j : State)
@@ -117,7 +126,7 @@ pub record EntersRecord (bits : ℕ) (added : Option ℕ) (s : State) (result : 
   pub live : OnOk result (t.failed ≡ false)
   pub behaves : Behaves plain_rules.already plain_rules.failed plain_rules.codec s result t
 
--- a choice is open in which one value is due, or nothing is counted, and what waits outside
+-- a choice is open in which one value is due, and what waits outside
 abbrev pub is_choice_in_turn : Schema → Side → ℕ → State → Around Alternative → State → Type 0
 is_choice_in_turn c d k s o i = ChoosesInTurn c d k s (outside_choice_of i.source o.scope) (turn_of o.turn) i
 

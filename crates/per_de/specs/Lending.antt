@@ -16,13 +16,13 @@ use Rattle.per_decoding.specs.Sources.{place_left, AreOctetsOf}
 use Rattle.per_de.specs.declared.taken_octets.TakenOctets.{TakenOctets}
 use Rattle.per_de.specs.declared.taken_octets.TakenOctets.TheVariants.{InFront, Copied}
 
--- X.691 11.9.3.3, 11.9.4.1: whether a size with these bounds has octets behind a constrained count, or behind none
+-- X.691 11.9.3.3, 11.9.4.1: whether a size with these bounds has octets after a constrained count, or behind none
 -- where the bounds are one number
 abbrev pub is_counted_once : Option ℕ → Option ℕ → Bool
 is_counted_once (Some lb) (Some ub) = nat_lt ub 65536
 is_counted_once least most = false
 
--- X.691 17.3: whether an extension bit 1 stands in front, where there is an extension marker
+-- X.691 17.3: whether an extension bit 1 is in front, where there is an extension marker
 abbrev pub is_extended : Bool → Bits → Bool
 is_extended false s = false
 is_extended true [] = false
@@ -33,24 +33,24 @@ abbrev pub AreCountedOnce : Size → Bool → Bits → Type 0
 AreCountedOnce size mark s = (is_counted_once size.least size.most ≡ true) × (is_extended mark s ≡ false)
 
 -- X.691 11.9.3.5 to 11.9.3.8: n octets at the front of bits come with one count alone, or with none. From 16384 on
--- those behind an unconstrained length stand in fragments, each of which a further count follows; fewer don't.
+-- those after an unconstrained length stand in fragments, each of which a further count follows; fewer don't.
 abbrev pub ComeAlone : Size → Bool → Bits → ℕ → Type 0
 ComeAlone size mark s n = (n < 16384) ⊎ AreCountedOnce size mark s
 
--- Of the bits that are left, n octets can be lent that stand in front of the last `left` bits: at least one, on octets
+-- Of the bits that are left, n octets can be lent that are in front of the last `left` bits: at least one, on octets
 -- of the input. So the input's octets end where these bits do.
 pub record CanBeLent (s : State) (left n : ℕ) : Type 0 where
   pub some : 0 < n
   pub lends : s.source.lends ≡ true
   pub on_octets : (s.source.place + (length s.source.bits - (s.source.behind + left))) % 8 ≡ 0
 
--- Of the bits that are left, n octets under a size were taken that stand in front of the last `left` bits: at least
+-- Of the bits that are left, n octets under a size were taken that are in front of the last `left` bits: at least
 -- one, with one count alone or with none, on octets of the input. So the input's octets end where these bits do.
 pub record AreLent (size : Size) (mark : Bool) (s : State) (left n : ℕ) : Type 0 where
   pub alone : ComeAlone size mark s.bits n
   pub lent : CanBeLent s left n
 
--- n octets of an OCTET STRING under a size are read, and `left` bits are left behind them (X.691 17)
+-- n octets of an OCTET STRING under a size are read, and `left` bits are left after them (X.691 17)
 pub record AreRead (size : Size) (mark : Bool) (s : State) (n left : ℕ) : Type 0 where
   pub items : List ℕ
   pub rest : Bits
@@ -58,7 +58,7 @@ pub record AreRead (size : Size) (mark : Bool) (s : State) (n left : ℕ) : Type
   pub behind : left ≡ length rest
   pub took : Took (Counted (settings_of s) size mark octet_items octet items) s.bits rest
 
--- A call that answers how many octets an OCTET STRING has, and how many bits are left behind it, or refuses to read it.
+-- A call that answers how many octets an OCTET STRING has, and how many bits are left after it, or refuses to read it.
 -- All bits stay left.
 pub record SkipsOctets (size : Size) (mark : Bool) (s : State) (result : Result (ℕ × ℕ) DecodeError) (t : State)
     : Type 0 where

@@ -8,7 +8,7 @@ use Rattle.per_read.specs.Lists.{AreOpenItems, list_rule}
 use Rattle.per_decoding.specs.State.{Source, State, settings_of, with_turn}
 use Rattle.per_decoding.specs.Scopes.{OutsideRecord, no_record, outside_record, with_outside_record}
 use Rattle.per_decoding.specs.Turns.{in_list, next, uncounted, within_list}
-use Rattle.per_core.specs.FewItems.{most_items}
+use Rattle.per_core.specs.ItemCounts.{most_items}
 use Rattle.per_de.specs.Outsides.{outside_record_of}
 use Rattle.per_de.specs.Turns.{turn_of}
 use Rattle.per_de.specs.declared.OpenedList.{OpenedList}

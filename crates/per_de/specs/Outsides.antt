@@ -37,20 +37,20 @@ outside_addition_of source o = let outer = source_of source o.bits o.source in r
   total = o.total;
 }
 
--- what waits outside the open type of an alternative, where it stands in one
+-- what waits outside the open type of an alternative, where it is in one
 abbrev pub outside_contents_of : State.Source → Option Addition → Option OutsideAddition
 outside_contents_of source None = None
 outside_contents_of source (Some o) = Some (outside_addition_of source o)
 
 -- the source outside of it
-abbrev pub source_behind : State.Source → Option Addition → State.Source
-source_behind source None = source
-source_behind source (Some o) = source_of source o.bits o.source
+abbrev pub source_after : State.Source → Option Addition → State.Source
+source_after source None = source
+source_after source (Some o) = source_of source o.bits o.source
 
 -- what waits outside a choice
 abbrev pub outside_choice_of : State.Source → Alternative → OutsideChoice
 outside_choice_of source o = record {
-  outer = outside_record_of (source_behind source o.contents) o.scope;
+  outer = outside_record_of (source_after source o.contents) o.scope;
   contents =
       outside_contents_of source o.contents;
 }

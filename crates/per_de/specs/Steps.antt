@@ -10,7 +10,7 @@ use Rattle.per_core.specs.Spellings.{Then, Took, NoneIn}
 use Rattle.rasn_constraints.specs.Bounds.{count_of}
 use Rattle.per_core.specs.IndexFaults.{IsOfIndex, index_form, IsOfExtension}
 use Rattle.per_decoding.specs.ChoiceIndexes.{index_of}
-use Rattle.per_core.specs.FieldFaults.{IsOfUnconstrained}
+use Rattle.per_core.specs.BitFieldFaults.{IsOfUnconstrained}
 use Rattle.per_read.specs.Kinds.{Faulty}
 use Rattle.per_read.specs.Takes.{Front}
 use Rattle.per_core.specs.declared.decode_error.DecodeError.{DecodeError}
@@ -62,11 +62,11 @@ TakesExtensionBit marker s (Ok b) t = Took (ExtensionBit marker b) s.bits t.bits
 TakesExtensionBit marker s (Err e) t = RefusedAs (λ k. IsOfExtension marker s.bits k
     × NoneIn (ExtensionBit marker) s.bits) s e t
 
--- want of memory, or what a kind says of a bitmap, where none stands at the front (X.691 19.7)
+-- want of memory, or what a kind says of a bitmap, where none is at the front (X.691 19.7)
 abbrev pub IsOfBitmap : State → DecodeErrorKind → Type 0
 IsOfBitmap s = Faulty (Bitmaps.IsOfBitmap (settings_of s) s.bits) (NoneIn (IsBitmap (settings_of s)) s.bits)
 
--- want of memory, or what a kind says of octets behind their length, where none stand at the front (X.691 11.2)
+-- want of memory, or what a kind says of octets after their length, where none stand at the front (X.691 11.2)
 abbrev pub IsOfOctets : State → DecodeErrorKind → Type 0
 IsOfOctets s = Faulty (IsOfUnconstrained (settings_of s) 8 s.bits) (NoneIn (Octets (settings_of s)) s.bits)
 
@@ -94,7 +94,7 @@ abbrev pub AsksNext : State → Result (Option Bool) DecodeError → State → T
 AsksNext s (Ok flag) t = Asks s flag t
 AsksNext s (Err e) t = ((e ≡ refusal OutOfMemory s) ⊎ Unasked e s) × (t.failed ≡ true) × (t.codec ≡ s.codec)
 
--- Ok is inside an open type, and Err comes only where none stands at the front, or for want of memory.
+-- Ok is inside an open type, and Err comes only where none is at the front, or for want of memory.
 abbrev pub EntersOpen : State → Result Addition DecodeError → State → Type 0
 EntersOpen s (Ok o) i = OpensContents s (outside_addition_of i.source o) i
 EntersOpen s (Err e) i = RefusedAs (IsOfOctets s) s e i
@@ -106,7 +106,7 @@ SkipsUnknown flags s (Err e) t = RefusedAs (λ k. IsOfUnknown flags (settings_of
     × NoneIn (skipped_unknown flags (settings_of s)) s.bits) s e t
 
 -- Presence bits of additions are left, or a bitmap with them is taken off the bits left, and an addition that they show
--- isn't there behind it, which the schema doesn't know (X.691 19.9).
+-- isn't there after it, which the schema doesn't know (X.691 19.9).
 pub record IsUnskipped (s : State) (k : DecodeErrorKind) : Type 0 where
   pub flags : List Bool
   pub left : Bits
@@ -141,7 +141,7 @@ TakesIndex r e ext s (Err err) t =
     RefusedAs (λ k. IsOfIndex (settings_of s) r e ext s.bits k × NoneIn
     (index_form (settings_of s) r e ext) s.bits) s err t
 
--- Ok is where an alternative of a list is read, and Err comes only where it would stand in an open type, and none is at
+-- Ok is where an alternative of a list is read, and Err comes only where it would be in an open type, and none is at
 -- the front, or for want of memory (X.691 23.7, 23.8).
 abbrev pub EntersAlternative : Side → State → Result (Option Addition) DecodeError → State → Type 0
 EntersAlternative d s (Ok o) i = StandsFrom d s (outside_contents_of i.source o) i

@@ -7,7 +7,7 @@ use Rattle.per_decoding.specs.State.{State, refused}
 use Rattle.per_decoding.specs.Turns as Counting
 use Rattle.per_decoding.specs.Turns.{is_between, is_complete}
 use Rattle.per_de.specs.declared.turns.Mode.{Mode}
-use Rattle.per_de.specs.declared.turns.Mode.TheVariants.{Live, Failed}
+use Rattle.per_de.specs.declared.turns.Mode.TheVariants as Now
 use Rattle.per_de.specs.declared.turns.Turn.{Turn}
 use Rattle.per_de.specs.declared.turns.Turn.TheVariants.{Uncounted, Awaiting, InList, Misplaced}
 
@@ -20,13 +20,19 @@ turn_of Misplaced = Counting.misplaced
 
 -- whether a call has refused
 abbrev pub is_failed : Mode → Bool
-is_failed (Live turn) = false
-is_failed Failed = true
+is_failed Now.Uncounted = false
+is_failed (Now.Awaiting n) = false
+is_failed (Now.InList n) = false
+is_failed Now.Misplaced = false
+is_failed Now.Failed = true
 
 -- how many components are still to come, where none has refused
 abbrev pub turn_in : Mode → Counting.Turn
-turn_in (Live turn) = turn_of turn
-turn_in Failed = Counting.uncounted
+turn_in Now.Uncounted = Counting.uncounted
+turn_in (Now.Awaiting n) = Counting.awaiting n
+turn_in (Now.InList n) = Counting.in_list n
+turn_in Now.Misplaced = Counting.misplaced
+turn_in Now.Failed = Counting.uncounted
 
 -- Ok says that no call has refused and that all came that is due in the open scope; where not as much came, or too
 -- much, it is refused.

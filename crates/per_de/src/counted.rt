@@ -4,7 +4,7 @@ ghost use Rattle.rasn_schema.specs.Enumerations.{addeds_of, is_extensible, items
 ghost use Rattle.rasn_traits.specs.Calls.{Reads, freely_read};
 ghost use Rattle.rasn_traits.specs.Counted.{OpensPlacedToRead, item_at};
 ghost use Rattle.per_decoding.specs.Rules.{decoder_rules, plain_rules};
-ghost use Rattle.per_de.specs.InTurn.{EntersPlaced, EntersRecord, is_choice_in_turn};
+ghost use Rattle.per_de.specs.InTurn.{EntersRecord, is_choice_in_turn};
 ghost use Rattle.per_de.specs.Steps.{TakesIndex};
 
 use crate::turns::{Around, Turn};
@@ -58,7 +58,7 @@ impl<'input> CountedDecoder for Decoder<'input> {
     }
 
     fn close_fields_of(&mut self, outside: Around<Scope>) -> Result<(), DecodeError> {
-        self.close_in_turn(outside)
+        self.close_uncounted(outside)
     }
 
     fn open_alternative_of(
@@ -112,7 +112,7 @@ impl<'input> Decoder<'input> {
         self.answer(taken, left)
     }
 
-    /// Enters a record of which so many root components have a presence bit, and that has so many additions behind its
+    /// Enters a record of which so many root components have a presence bit, and that has so many additions after its
     /// extension marker, where it has one, whatever was counted.
     #[inline(always)]
     fn enter_record(
@@ -135,7 +135,7 @@ impl<'input> Decoder<'input> {
     }
 
     /// Reads the index of a CHOICE of so many alternatives, a component of what is around it, and enters the open type
-    /// of one behind the extension marker: one value is to come.
+    /// of one after the extension marker: one value is to come. What waits outside is made once, at its end.
     #[inline(always)]
     pub(crate) fn begin_alternative(
         &mut self,
@@ -145,25 +145,12 @@ impl<'input> Decoder<'input> {
     {
         self.begin_value()?;
         let turn = self.turn();
-        let (place, scope) = self.enter_alternative(alternatives)?;
-        self.set_turn(Turn::Awaiting(1));
-        Ok((place, Around { scope, turn }))
-    }
-
-    /// Reads the index of a CHOICE of so many alternatives, and enters the open type of one behind the extension
-    /// marker, whatever was counted.
-    #[inline(always)]
-    fn enter_alternative(
-        &mut self,
-        alternatives: ItemCounts,
-    ) -> Result<(Place, Alternative<'input>), DecodeError>
-        ensures { EntersPlaced alternatives self.old result self.new }
-    {
-        self.check_unfailed()?;
         let levels = self.level_inside()?;
         let place = self.take_place(alternatives)?;
         let scope = self.enter(Scope::without_record(levels));
         let contents = Decoder::open_alternative(self, place)?;
-        Ok((place, Alternative { scope, contents }))
+        self.set_turn(Turn::Awaiting(1));
+        let scope = Alternative { scope, contents };
+        Ok((place, Around { scope, turn }))
     }
 }

@@ -1,8 +1,7 @@
 //! The decoder of the packed encoding rules: it reads every basic encoding.
 #![tactic(auto)]
 
-ghost use Rattle.std.specs.Prelude.{◌≡◌, ◌<◌, ◌≤◌, ◌-◌, true, false, length, Some};
-ghost use Rattle.std.specs.Prelude.{OnOk, OnErr, IfErr};
+ghost use Rattle.std.specs.Prelude.{◌≡◌, ◌≤◌, true, false, length, OnOk, OnErr, IfErr};
 ghost use Rattle.rasn_types.specs.Bits.{unpack};
 ghost use Rattle.rasn_types.specs.Values.{octets, whole};
 ghost use Rattle.rasn_types.specs.declared.types.Codec.TheVariants.{Aper, Uper};
@@ -10,51 +9,27 @@ ghost use Rattle.rasn_schema.specs.Forms.{number_schema};
 ghost use Rattle.rasn_schema.specs.Schemas.{Schema};
 ghost use Rattle.rasn_traits.specs.Calls.{Reads, freely_read};
 ghost use Rattle.per_core.specs.declared.decode_error.DecodeErrorKind.TheVariants.{AlreadyFailed};
-ghost use Rattle.per_read.specs.Lists.{most};
-ghost use Rattle.per_decoding.specs.Additions.{ClosesAddition};
-ghost use Rattle.per_decoding.specs.Choices.{ClosesChoice, UnendedChoice};
-ghost use Rattle.per_decoding.specs.Faults.{refusal, Answered, Unended, UnendedAddition};
-ghost use Rattle.per_decoding.specs.Rules.{AwaitsValues, decoder_rules, plain_rules};
-ghost use Rattle.per_decoding.specs.InTurn.{AddsInTurn, ChoosesInTurn, ContainsInTurn, Leaves, OpensInTurn, Unfinished};
-ghost use Rattle.per_decoding.specs.Laws.InTurn.{additions_well, bags_well, choices_well, contents_well, decodes_well};
-ghost use Rattle.per_decoding.specs.Laws.InTurn.{errors_well, scopes_well, sets_well};
-ghost use Rattle.per_decoding.specs.Scopes.{Closes, Enters, LevelInside, no_record, with_outside_record};
+ghost use Rattle.per_decoding.specs.Faults.{refusal, Answered};
+ghost use Rattle.per_decoding.specs.Rules.{plain_rules};
+ghost use Rattle.per_decoding.specs.Scopes.{Enters, LevelInside, no_record, with_outside_record};
 ghost use Rattle.per_decoding.specs.State.{State, Options, fresh, fresh_of, from_octet, reader_of, refused, with_last};
-ghost use Rattle.per_de.specs.Lists.{IsCountedList, IsListInTurn};
-ghost use Rattle.per_de.specs.Laws.{elements_well, lists_well};
-ghost use Rattle.per_de.specs.Outsides.{outside_choice_of, outside_record_of, outside_addition_of};
-ghost use Rattle.per_de.specs.Lending.{AreLent};
-ghost use Rattle.per_decoding.specs.Sources.{bits_of, extension_in, place_left, span_of, up_to, unread_of};
-ghost use Rattle.per_decoding.specs.Sources.{IsWithin};
+ghost use Rattle.per_de.specs.Outsides.{outside_record_of};
+ghost use Rattle.per_decoding.specs.Sources.{bits_of, extension_in, place_left, span_of, up_to, unread_of, IsWithin};
 ghost use Rattle.per_de.specs.Steps.{HasTwoLevels};
-ghost use Rattle.per_de.specs.Turns.{is_failed, turn_in, turn_of};
+ghost use Rattle.per_de.specs.Turns.{is_failed, turn_in};
 
 use per_bits::{BitList, BitReader};
-use per_decoding::dates::take_date;
-use per_decoding::enumerated::{take_enumerated, take_root_item};
-use per_decoding::identifiers::take_object_identifier;
-use per_decoding::integers::{take_integer, take_short_integer};
-use per_decoding::times::{take_generalized_time, take_utc_time};
+use per_decoding::enumerated::take_enumerated;
+use per_decoding::integers::take_integer;
 pub use per_read::error;
 pub use per_read::error::{DecodeError, DecodeErrorKind, ParserFailCause};
 use per_read::lists::UnreadElements;
-use per_read::open_types::Contents;
 use per_read::{Reader, ReaderOptions};
-use rasn_schema::choices::Choice;
 use rasn_schema::constraints::Constraints;
 use rasn_schema::enumerated::Enumerated;
-use rasn_schema::fields::Constructed;
-use rasn_schema::items::Place;
 use rasn_schema::schema::IntegerType;
-use rasn_strings::civil::{CivilDate, GeneralizedMoment, UtcMoment};
-use rasn_strings::strings::StaticPermittedAlphabet;
-use rasn_traits::counted::alternative_counts;
-use rasn_traits::decoder;
-use rasn_types::bit_string::BitString;
-use rasn_types::octet_strings::{Any, GeneralString, GraphicString, TeletexString, Utf8String};
-use rasn_types::types::{Codec, Tag};
+use rasn_types::types::Codec;
 use std::alloc::{Allocator, Global};
-use std::borrow::CowSlice;
 use std::marker::Model;
 use std::mem;
 
@@ -68,13 +43,13 @@ mod records;
 mod scopes;
 pub mod taken_octets;
 pub mod turns;
+mod typed;
 
-use choices::tag_at;
 use open_types::WholeOctets;
 use per_decoding::source::{Extension, Source, Span};
-use turns::{Around, Mode, Turn};
+use turns::Mode;
 
-/// What a decoder is told: the variant of the rules, how deep values may stand inside one another, and whether padding
+/// What a decoder is told: the variant of the rules, how deep values may be inside one another, and whether padding
 /// must be zero.
 #[derive(Clone, Copy, Debug)]
 pub struct DecoderOptions {
@@ -230,7 +205,7 @@ impl<'input> Decoder<'input> {
             options: options.reader(),
             alloc,
             levels: options.levels,
-            mode: Mode::Live(Turn::Uncounted),
+            mode: Mode::Uncounted,
         }
     }
 
@@ -287,6 +262,7 @@ impl<'input> Decoder<'input> {
     }
 
     /// An error of a kind, with the variant in use.
+    #[inline(always)]
     fn error(&self, kind: DecodeErrorKind) -> DecodeError
         ensures { result ≡ refusal kind self.now }
     {
@@ -304,12 +280,13 @@ impl<'input> Decoder<'input> {
         ensures failed { OnErr result (self.now.failed ≡ true) }
     {
         match self.mode {
-            Mode::Live(_) => Ok(()),
             Mode::Failed => Err(self.error(DecodeErrorKind::AlreadyFailed)),
+            _ => Ok(()),
         }
     }
 
     /// The error of a refused call, after which every call is refused.
+    #[inline(always)]
     fn refuse(&mut self, kind: DecodeErrorKind) -> DecodeError
         ensures error { result ≡ refusal kind self.old }
         ensures state { self.new ≡ refused self.old }
@@ -406,7 +383,7 @@ impl<'input> Decoder<'input> {
 /// SEQUENCE there.
 #[derive(Drop)]
 pub struct Scope {
-    // the wide ones first, so that no padding stands between them
+    // the wide ones first, so that no padding is between them
     presences: Span,
     extension: Extension,
     expected: usize,
@@ -428,7 +405,7 @@ impl Scope {
     }
 }
 
-/// What waits outside while the open type of an addition is open, or octets that contain a value: the bits behind it,
+/// What waits outside while the open type of an addition is open, or octets that contain a value: the bits after it,
 /// and what is still to be read of the SEQUENCE there.
 #[derive(Drop)]
 pub struct Addition<'input> {
@@ -443,7 +420,7 @@ pub struct Addition<'input> {
 }
 
 /// What waits outside while a CHOICE is open: the levels that may be entered there, and what waits outside the open
-/// type of an alternative behind the extension marker.
+/// type of an alternative after the extension marker.
 #[derive(Drop)]
 pub struct Alternative<'input> {
     scope: Scope,
@@ -463,433 +440,4 @@ pub struct ListScope {
 pub struct OpenedList {
     list: ListScope,
     outer: Option<Scope>,
-}
-
-impl<'input> decoder::Decoder for Decoder<'input> {
-    type Error = DecodeError;
-
-    type Octets = CowSlice<'input, u8>;
-
-    type Scope = Around<Scope>;
-
-    type List = Around<OpenedList>;
-
-    type Addition = Around<Addition<'input>>;
-
-    type Alternative = Around<Alternative<'input>>;
-
-    type Contents = Around<Addition<'input>>;
-
-    ghost rules = { decoder_rules };
-
-    ghost opens = { λ c s o i. OpensInTurn c s (outside_record_of i.source o.scope) (turn_of o.turn) i };
-
-    ghost closes = { λ s o t. Leaves (λ a b. Closes a (outside_record_of s.source o.scope) b) s (turn_of o.turn) t };
-
-    ghost unended = { λ o e s. Unfinished Unended e s };
-
-    ghost opens_addition = { λ s o i. AddsInTurn s (outside_addition_of i.source o.scope) (turn_of o.turn) i };
-
-    ghost closes_addition = { λ s o t.
-        Leaves (λ a b. ClosesAddition a (outside_addition_of s.source o.scope) b) s (turn_of o.turn) t };
-
-    ghost unended_addition = { λ o e s. Unfinished (UnendedAddition (outside_addition_of s.source o.scope)) e s };
-
-    ghost opens_choice = { λ c d k s o i.
-        ChoosesInTurn c d k s (outside_choice_of i.source o.scope) (turn_of o.turn) i };
-
-    ghost closes_choice = { λ s o t.
-        Leaves (λ a b. ClosesChoice a (outside_choice_of s.source o.scope) b) s (turn_of o.turn) t };
-
-    ghost unended_choice = { λ o e s.
-        Unfinished (UnendedChoice (outside_choice_of s.source o.scope).contents) e s };
-
-    ghost opens_contents = { λ s o i. ContainsInTurn s (outside_addition_of i.source o.scope) (turn_of o.turn) i };
-
-    ghost closes_contents = { λ s o t.
-        Leaves (λ a b. ClosesAddition a (outside_addition_of s.source o.scope) b) s (turn_of o.turn) t };
-
-    ghost unended_contents = { λ o e s. Unfinished (UnendedAddition (outside_addition_of s.source o.scope)) e s };
-
-    ghost amid = { IsCountedList };
-
-    ghost amid_elements = { IsListInTurn };
-
-    ghost most = { λ l. most l.scope.list.list };
-
-    ghost awaits_values = { AwaitsValues };
-
-    ghost lends = { λ size mark s t n. AreLent size mark s (length t.bits) n };
-
-    fn codec(&self) -> Codec {
-        Decoder::codec(self)
-    }
-
-    fn alloc(&self) -> Global {
-        self.alloc
-    }
-
-    fn out_of_memory(&mut self) -> DecodeError {
-        self.refuse(DecodeErrorKind::OutOfMemory)
-    }
-
-    #[inline(always)]
-    fn decode_bool(&mut self, _tag: Tag) -> Result<bool, DecodeError> {
-        self.begin_value()?;
-        self.take_bit()
-    }
-
-    #[inline(always)]
-    fn decode_integer<I: IntegerType>(
-        &mut self,
-        _tag: Tag,
-        constraints: &Constraints,
-    ) -> Result<I, DecodeError> {
-        self.begin_value()?;
-        let mut reader = self.reader();
-        let taken = take_short_integer(&mut reader, constraints);
-        let left = reader.bits().len();
-        let Some(number) = taken else {
-            return self.read_integer(constraints);
-        };
-        self.advance(left);
-        Ok(number)
-    }
-
-    fn decode_real(&mut self, _tag: Tag, _constraints: &Constraints) -> Result<(), DecodeError> {
-        self.begin_value()?;
-        Err(self.refuse(DecodeErrorKind::RealNotSupported))
-    }
-
-    #[inline(always)]
-    fn decode_null(&mut self, _tag: Tag) -> Result<(), DecodeError> {
-        self.begin_value()
-    }
-
-    fn decode_enumerated<E: Enumerated>(&mut self, _tag: Tag) -> Result<E, DecodeError> {
-        self.begin_value()?;
-        let mut reader = self.reader();
-        let taken = take_root_item(&mut reader);
-        let left = reader.bits().len();
-        let Some(item) = taken else {
-            return self.read_enumerated();
-        };
-        self.advance(left);
-        Ok(item)
-    }
-
-    fn decode_any(&mut self, _tag: Tag) -> Result<Any, DecodeError> {
-        self.begin_value()?;
-        let mut reader = self.reader();
-        let taken = reader.take_octets();
-        let left = reader.bits().len();
-        let octets = self.answer(taken, left)?;
-        Ok(Any::new(octets))
-    }
-
-    #[inline(always)]
-    fn decode_octet_string(
-        &mut self,
-        tag: Tag,
-        constraints: &Constraints,
-    ) -> Result<CowSlice<'input, u8>, DecodeError> {
-        Decoder::decode_octet_string(self, tag, constraints)
-    }
-
-    fn decode_bit_string(
-        &mut self,
-        _tag: Tag,
-        constraints: &Constraints,
-    ) -> Result<BitString, DecodeError> {
-        self.begin_value()?;
-        let mut reader = self.reader();
-        let taken = reader.take_bit_string(constraints);
-        let left = reader.bits().len();
-        self.answer(taken, left)
-    }
-
-    fn decode_named_bits(
-        &mut self,
-        _tag: Tag,
-        constraints: &Constraints,
-    ) -> Result<BitString, DecodeError> {
-        self.begin_value()?;
-        let mut reader = self.reader();
-        let named = reader.take_bit_string(constraints);
-        let left = reader.bits().len();
-        self.answer(named, left)
-    }
-
-    #[inline(always)]
-    fn decode_known_multiplier_string<S: StaticPermittedAlphabet>(
-        &mut self,
-        _tag: Tag,
-        constraints: &Constraints,
-    ) -> Result<S, DecodeError> {
-        self.begin_value()?;
-        let mut reader = self.reader();
-        let taken = reader.take_characters(constraints);
-        let left = reader.bits().len();
-        self.answer(taken, left)
-    }
-
-    fn decode_utf8_string(
-        &mut self,
-        _tag: Tag,
-        _constraints: &Constraints,
-    ) -> Result<Utf8String, DecodeError> {
-        self.begin_value()?;
-        let mut reader = self.reader();
-        let taken = reader.take_utf8();
-        let left = reader.bits().len();
-        self.answer(taken, left)
-    }
-
-    fn decode_general_string(
-        &mut self,
-        _tag: Tag,
-        _constraints: &Constraints,
-    ) -> Result<GeneralString, DecodeError> {
-        self.begin_value()?;
-        let mut reader = self.reader();
-        let taken = reader.take_octets();
-        let left = reader.bits().len();
-        let octets = self.answer(taken, left)?;
-        Ok(GeneralString::new(octets))
-    }
-
-    fn decode_graphic_string(
-        &mut self,
-        _tag: Tag,
-        _constraints: &Constraints,
-    ) -> Result<GraphicString, DecodeError> {
-        self.begin_value()?;
-        let mut reader = self.reader();
-        let taken = reader.take_octets();
-        let left = reader.bits().len();
-        let octets = self.answer(taken, left)?;
-        Ok(GraphicString::new(octets))
-    }
-
-    fn decode_teletex_string(
-        &mut self,
-        _tag: Tag,
-        _constraints: &Constraints,
-    ) -> Result<TeletexString, DecodeError> {
-        self.begin_value()?;
-        let mut reader = self.reader();
-        let taken = reader.take_octets();
-        let left = reader.bits().len();
-        let octets = self.answer(taken, left)?;
-        Ok(TeletexString::new(octets))
-    }
-
-    fn decode_object_identifier(&mut self, _tag: Tag) -> Result<Vec<u32>, DecodeError> {
-        self.begin_value()?;
-        let mut reader = self.reader();
-        let taken = take_object_identifier(&mut reader);
-        let left = reader.bits().len();
-        self.answer(taken, left)
-    }
-
-    fn decode_utc_time<M: UtcMoment>(&mut self, _tag: Tag) -> Result<M, DecodeError> {
-        self.begin_value()?;
-        let mut reader = self.reader();
-        let taken = take_utc_time(&mut reader);
-        let left = reader.bits().len();
-        self.answer(taken, left)
-    }
-
-    fn decode_generalized_time<M: GeneralizedMoment>(
-        &mut self,
-        _tag: Tag,
-    ) -> Result<M, DecodeError> {
-        self.begin_value()?;
-        let mut reader = self.reader();
-        let taken = take_generalized_time(&mut reader);
-        let left = reader.bits().len();
-        self.answer(taken, left)
-    }
-
-    fn decode_date<D: CivilDate>(&mut self, _tag: Tag) -> Result<D, DecodeError> {
-        self.begin_value()?;
-        self.check_date_levels()?;
-        let mut reader = self.reader();
-        let taken = take_date(&mut reader);
-        let left = reader.bits().len();
-        self.answer(taken, left)
-    }
-
-    #[inline(always)]
-    fn open_sequence<C: Constructed>(&mut self, _tag: Tag) -> Result<Around<Scope>, DecodeError> {
-        self.open_counted::<C>()
-    }
-
-    fn open_set<C: Constructed>(&mut self, _tag: Tag) -> Result<Around<Scope>, DecodeError> {
-        self.open_counted::<C>()
-    }
-
-    #[inline(always)]
-    fn close_sequence(&mut self, outside: Around<Scope>) -> Result<(), DecodeError> {
-        self.close_in_turn(outside)
-    }
-
-    #[inline(always)]
-    fn open_fields<C: Constructed>(&mut self, _tag: Tag) -> Result<Around<Scope>, DecodeError> {
-        self.begin_value()?;
-        let turn = self.turn();
-        let scope = self.open_record::<C>()?;
-        self.set_turn(Turn::Uncounted);
-        Ok(Around { scope, turn })
-    }
-
-    #[inline(always)]
-    fn close_fields<C: Constructed>(&mut self, outside: Around<Scope>) -> Result<(), DecodeError> {
-        self.close_in_turn(outside)
-    }
-
-    #[inline(always)]
-    fn open_addition(&mut self) -> Result<Option<Around<Addition<'input>>>, DecodeError> {
-        let turn = self.turn();
-        let Some(scope) = self.enter_addition()? else {
-            return Ok(None);
-        };
-        self.set_turn(Turn::Awaiting(1));
-        Ok(Some(Around { scope, turn }))
-    }
-
-    #[inline(always)]
-    fn close_addition(&mut self, outside: Around<Addition<'input>>) -> Result<(), DecodeError> {
-        self.check_complete()?;
-        self.leave_open(outside.scope)?;
-        self.set_turn(outside.turn);
-        Ok(())
-    }
-
-    #[inline(always)]
-    fn open_choice<C: Choice>(
-        &mut self,
-    ) -> Result<(Tag, Around<Alternative<'input>>), DecodeError> {
-        let (place, outside) = self.begin_alternative(alternative_counts::<C>())?;
-        Ok((tag_at::<C>(place), outside))
-    }
-
-    #[inline(always)]
-    fn open_alternative<C: Choice>(
-        &mut self,
-    ) -> Result<(Place, Around<Alternative<'input>>), DecodeError> {
-        self.begin_alternative(alternative_counts::<C>())
-    }
-
-    #[inline(always)]
-    fn close_choice(&mut self, outside: Around<Alternative<'input>>) -> Result<(), DecodeError> {
-        self.check_complete()?;
-        self.leave_choice(outside.scope)?;
-        self.set_turn(outside.turn);
-        Ok(())
-    }
-
-    fn open_contents(&mut self, _tag: Tag) -> Result<Around<Addition<'input>>, DecodeError> {
-        self.begin_value()?;
-        let turn = self.turn();
-        let scope = self.enter_containing()?;
-        self.set_turn(Turn::Awaiting(1));
-        Ok(Around { scope, turn })
-    }
-
-    fn close_contents(&mut self, outside: Around<Addition<'input>>) -> Result<(), DecodeError> {
-        self.check_complete()?;
-        self.leave_open(outside.scope)?;
-        self.set_turn(outside.turn);
-        Ok(())
-    }
-
-    fn open_list(
-        &mut self,
-        _tag: Tag,
-        constraints: &Constraints,
-    ) -> Result<Around<OpenedList>, DecodeError> {
-        self.begin_value()?;
-        let turn = self.turn();
-        let outer = self.enter(Scope::without_record(self.levels));
-        let list = self.enter_list(constraints)?;
-        self.set_turn(Turn::InList(0));
-        Ok(Around {
-            scope: OpenedList {
-                list,
-                outer: Some(outer),
-            },
-            turn,
-        })
-    }
-
-    fn next_element(&mut self, outside: &mut Around<OpenedList>) -> Result<bool, DecodeError> {
-        self.check_between()?;
-        let follows = self.next_item(&mut outside.scope.list)?;
-        if follows {
-            self.set_turn(Turn::InList(1));
-        } else {
-            self.end_list(outside);
-        }
-        Ok(follows)
-    }
-
-    fn open_elements(
-        &mut self,
-        _tag: Tag,
-        constraints: &Constraints,
-    ) -> Result<Around<OpenedList>, DecodeError> {
-        self.begin_value()?;
-        let turn = self.turn();
-        let list = self.enter_list(constraints)?;
-        self.set_turn(turn.within_list());
-        Ok(Around {
-            scope: OpenedList { list, outer: None },
-            turn,
-        })
-    }
-
-    fn next_element_in_turn(
-        &mut self,
-        outside: &mut Around<OpenedList>,
-    ) -> Result<bool, DecodeError> {
-        let follows = self.next_item(&mut outside.scope.list)?;
-        if !follows {
-            self.set_turn(outside.turn);
-        }
-        Ok(follows)
-    }
-
-    #[inline(always)]
-    fn next_presence(&mut self) -> Result<bool, DecodeError> {
-        let bit = self.take_presence()?;
-        if !bit {
-            self.note();
-        }
-        Ok(bit)
-    }
-
-    fn fail(&mut self) {
-        self.mode = Mode::Failed;
-    }
-
-    ghost lawful = { decodes_well };
-
-    ghost errors = { errors_well };
-
-    ghost scopes = { scopes_well (λ b o. outside_record_of b o.scope) (λ o. turn_of o.turn) };
-
-    ghost additions = { additions_well (λ b o. outside_addition_of b o.scope) (λ o. turn_of o.turn) };
-
-    ghost contents = { contents_well (λ b o. outside_addition_of b o.scope) (λ o. turn_of o.turn) };
-
-    ghost choices = { choices_well (λ b o. outside_choice_of b o.scope) (λ o. turn_of o.turn) };
-
-    ghost lists = { lists_well };
-
-    ghost elements = { elements_well };
-
-    ghost sets = { sets_well };
-
-    ghost bags = { bags_well };
 }

@@ -1,7 +1,6 @@
-//! OCTET STRING (X.691 17): its octets are lent where they stand on octets of what is read.
+//! OCTET STRING (X.691 17): its octets are lent where they are on octets of what is read.
 
-ghost use Rattle.std.specs.Prelude.{◌≡◌, ◌<◌, ◌≤◌, ◌+◌, ◌-◌, ◌*◌, true, false, length, Some};
-ghost use Rattle.std.specs.Prelude.{◌↔◌, IfOk};
+ghost use Rattle.std.specs.Prelude.{◌≡◌, ◌≤◌, ◌+◌, ◌-◌, ◌*◌, ◌↔◌, true, false, length, IfOk};
 ghost use Rattle.std.specs.Cow.{cow_slice_items, IsBorrowedSlice, IsOwnedSlice};
 ghost use Rattle.rasn_types.specs.Values.{octets};
 ghost use Rattle.rasn_schema.specs.Forms.{octet_schema, size_of, is_size_marked};
@@ -13,7 +12,6 @@ ghost use Rattle.per_decoding.specs.Sources.{AreOctetsOf};
 use crate::Decoder;
 use per_bits::BitReader;
 use per_core::lengths::FRAGMENT;
-use per_read::error;
 use per_read::error::{DecodeError, DecodeErrorKind};
 use rasn_schema::constraints::Constraints;
 use rasn_types::types::Tag;
@@ -24,6 +22,7 @@ impl<'input> Decoder<'input> {
     /// Reads an OCTET STRING under constraints (X.691 17), as the call of the trait does. The octets are `Borrowed`
     /// exactly where they are octets of the input, at least one, and come with one count alone or with none; they may
     /// be kept as long as the input. Those of an open type in fragments are `Owned`.
+    #[inline(always)]
     pub fn decode_octet_string(
         &mut self,
         _tag: Tag,
@@ -39,7 +38,7 @@ impl<'input> Decoder<'input> {
         self.read_octet_string(constraints)
     }
 
-    /// What `decode_octet_string` answers, behind what it notes.
+    /// What `decode_octet_string` answers, after what it notes.
     #[inline(always)]
     pub(crate) fn read_octet_string(
         &mut self,
@@ -64,7 +63,7 @@ impl<'input> Decoder<'input> {
         Ok(octets)
     }
 
-    /// How many octets an OCTET STRING has, and how many bits are left behind it. They are still left here.
+    /// How many octets an OCTET STRING has, and how many bits are left after it. They are still left here.
     #[inline(always)]
     pub(crate) fn skip_octets(
         &mut self,
@@ -100,7 +99,7 @@ impl<'input> Decoder<'input> {
         }
     }
 
-    /// Whether so many octets under a size, which stand at the front of the bits that are left, come with one count
+    /// Whether so many octets under a size, which are at the front of the bits that are left, come with one count
     /// alone or with none (X.691 11.9.3.3 to 11.9.3.8).
     #[inline(always)]
     pub(crate) fn come_alone(&self, constraints: &Constraints, count: usize) -> bool
@@ -141,7 +140,7 @@ impl<'input> Decoder<'input> {
     }
 }
 
-/// Whether octets under a size, which stand at the front of bits, come with one count or with none, however many they
+/// Whether octets under a size, which are at the front of bits, come with one count or with none, however many they
 /// are (X.691 11.9.3.3, 11.9.4.1, 17.3).
 pub(crate) fn are_counted_once(constraints: &Constraints, bits: &BitReader<'_>) -> bool
     ensures { let size = size_of constraints.now in let mark = is_size_marked constraints.now in

@@ -12,7 +12,7 @@ ghost use Rattle.per_decoding.specs.State.{State};
 ghost use Rattle.per_de.specs.Lists.{IsListInTurn};
 ghost use Rattle.per_de.specs.declared.OpenedList.{OpenedList};
 ghost use Rattle.per_de.specs.declared.turns.Around.{Around};
-ghost use Rattle.per_core.specs.FewItems.{most_items};
+ghost use Rattle.per_core.specs.ItemCounts.{most_items};
 
 /// A list under a lawful size that a decoder has open, as `open_list`, `next_element` and the calls that read its
 /// elements leave it, has at most 65535 elements, and 8192 for each bit that was taken since it began; and so it has

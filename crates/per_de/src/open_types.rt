@@ -3,15 +3,10 @@
 ghost use Rattle.std.specs.Prelude.{◌≡◌, ◌<◌, ◌-◌, ◌*◌, ◌%◌, false, length, Some};
 ghost use Rattle.rasn_types.specs.Bits.{unpack};
 ghost use Rattle.rasn_types.specs.Values.{octets, whole};
-ghost use Rattle.per_decoding.specs.Additions.{EntersContents};
-ghost use Rattle.per_decoding.specs.Additions.{with_outside_addition};
-ghost use Rattle.per_decoding.specs.InTurn.{Leaves};
-ghost use Rattle.per_decoding.specs.Scopes.{Enters};
+ghost use Rattle.per_decoding.specs.Additions.{EntersContents, with_outside_addition};
 ghost use Rattle.per_de.specs.Outsides.{outside_addition_of};
-ghost use Rattle.per_decoding.specs.Sources.{span_of};
-ghost use Rattle.per_decoding.specs.Sources.{IsWithin};
-ghost use Rattle.per_de.specs.Steps.{EndsContents, EntersOpen};
-ghost use Rattle.per_de.specs.Steps.{ClosesContents};
+ghost use Rattle.per_decoding.specs.Sources.{IsWithin, span_of};
+ghost use Rattle.per_de.specs.Steps.{ClosesContents, EndsContents, EntersOpen};
 
 use crate::{Addition, Decoder};
 use per_decoding::source::{Extension, Source, Span};
@@ -60,7 +55,7 @@ impl WholeOctets {
 }
 
 impl<'input> Decoder<'input> {
-    /// Enters contents that stand in the source, and answers what waits outside.
+    /// Enters contents that are in the source, and answers what waits outside.
     #[inline(always)]
     pub(crate) fn enter_contents(&mut self, contents: Span, total: WholeOctets) -> Addition<'input>
         requires within { IsWithin contents self.old.source.bits }

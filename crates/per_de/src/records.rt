@@ -1,14 +1,14 @@
 //! SEQUENCE and SET (X.691 19, 21): the extension bit, the presence bits, and the bitmap of the additions.
 
 ghost use Rattle.std.specs.Prelude.{◌≡◌, ◌<◌, ◌-◌, false, length, slice_get, Some};
-ghost use Rattle.rasn_schema.specs.Extensions.{fields_behind};
+ghost use Rattle.rasn_schema.specs.Extensions.{fields_after};
 ghost use Rattle.per_de.specs.Openings.{OpensRecord};
-ghost use Rattle.per_de.specs.Steps.{AsksNext, IsRootRead};
-ghost use Rattle.per_de.specs.Steps.{TakesBit, TakesBitmap, TakesExtensionBit, TakesFlags, TakesPresences};
+ghost use Rattle.per_de.specs.Steps.{AsksNext, IsRootRead, TakesBit, TakesBitmap, TakesExtensionBit};
+ghost use Rattle.per_de.specs.Steps.{TakesFlags, TakesPresences};
 
 use crate::{Decoder, Scope};
 use per_decoding::source::{Extension, Flags, Span};
-use per_read::bitmaps::{PresenceBits, take_bitmap};
+use per_read::bitmaps::{PresenceBits, take_bitmap, take_short_bitmap};
 use per_read::error::{DecodeError, DecodeErrorKind};
 use rasn_constraints::count::Count;
 use rasn_schema::fields::Constructed;
@@ -24,6 +24,7 @@ impl<'input> Decoder<'input> {
     }
 
     /// Takes so many presence bits off the bits left, and answers where they stand. Where fewer are left it refuses.
+    #[inline(always)]
     pub(crate) fn take_presences(&mut self, count: u128) -> Result<Span, DecodeError>
         ensures { TakesPresences count self.old result self.new }
     {
@@ -89,6 +90,22 @@ impl<'input> Decoder<'input> {
     {
         let outer = self.bits;
         let mut reader = self.reader();
+        let taken = take_short_bitmap(&mut reader);
+        let left = reader.bits().len();
+        let Some(count) = taken else {
+            return self.take_any_flags();
+        };
+        self.advance(left);
+        Ok(Flags::InPlace(outer.in_front(left, count)))
+    }
+
+    /// Takes a bitmap in whichever form it is written.
+    #[inline(never)]
+    fn take_any_flags(&mut self) -> Result<Flags, DecodeError>
+        ensures { TakesBitmap self.old result self.new }
+    {
+        let outer = self.bits;
+        let mut reader = self.reader();
         let taken = take_bitmap(&mut reader);
         let left = reader.bits().len();
         match self.answer(taken, left)? {
@@ -143,7 +160,7 @@ impl<'input> Decoder<'input> {
 /// How many additions a type has.
 #[inline(always)]
 pub(crate) fn addition_count<C: Constructed>() -> usize
-    ensures { result ≡ length (fields_behind C.EXTENDED_FIELDS) }
+    ensures { result ≡ length (fields_after C.EXTENDED_FIELDS) }
 {
     match C::EXTENDED_FIELDS {
         Some(fields) => fields.len(),

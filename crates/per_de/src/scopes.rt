@@ -1,17 +1,19 @@
 //! Scopes as they are entered and left where nothing is counted, and those of records that count their components.
 
-ghost use Rattle.std.specs.Prelude.{◌≡◌, false};
+ghost use Rattle.std.specs.Prelude.{◌≡◌, false, true};
 ghost use Rattle.rasn_schema.specs.Forms.{is_size_marked, size_of};
 ghost use Rattle.rasn_traits.specs.AdditionsRead.{AdditionOpenedToRead};
 ghost use Rattle.rasn_traits.specs.Contents.{OpenedContentsToRead};
 ghost use Rattle.rasn_traits.specs.Lists.{ListOpenedToRead};
 ghost use Rattle.rasn_traits.specs.Optionals.{ReadsBit};
-ghost use Rattle.rasn_traits.specs.Scopes.{ClosesRead};
+ghost use Rattle.rasn_traits.specs.Scopes.{ClosesRead, ClosesReadInTurn};
 ghost use Rattle.per_decoding.specs.Rules.{decoder_rules, plain_rules};
 ghost use Rattle.per_decoding.specs.Scopes.{with_outside_record};
 ghost use Rattle.per_decoding.specs.State.{with_turn};
+ghost use Rattle.per_decoding.specs.Turns.{is_uncounted};
 ghost use Rattle.per_de.specs.InTurn.{GoesOn, LeavesChoice, LeavesOpen, LeavesRecord, OpensCounted, Owes, are_open};
-ghost use Rattle.per_de.specs.InTurn.{closes_in_turn, is_addition_open, unended_in_turn};
+ghost use Rattle.per_de.specs.InTurn.{closes_in_turn, closes_uncounted, is_addition_open, is_open_uncounted};
+ghost use Rattle.per_de.specs.InTurn.{unended_in_turn, unended_uncounted};
 ghost use Rattle.per_de.specs.Lists.{IsOpenList, outer_of};
 ghost use Rattle.per_decoding.specs.Sources.{flags_in};
 ghost use Rattle.per_de.specs.Steps.{SkipsRest, SkipsUnknown};
@@ -42,11 +44,24 @@ impl<'input> Decoder<'input> {
     /// Closes a record in which all came that is due.
     #[inline(always)]
     pub(crate) fn close_in_turn(&mut self, outside: Around<Scope>) -> Result<(), DecodeError>
-        ensures { ClosesRead decoder_rules unended_in_turn closes_in_turn outside self.old result self.new }
+        ensures { ClosesReadInTurn decoder_rules is_open_uncounted unended_in_turn closes_in_turn outside
+            self.old result self.new }
     {
         self.check_complete()?;
         self.leave_record(outside.scope)?;
         self.set_turn(outside.turn);
+        Ok(())
+    }
+
+    /// Closes a record in which nothing was counted.
+    #[inline(always)]
+    pub(crate) fn close_uncounted(&mut self, outside: Around<Scope>) -> Result<(), DecodeError>
+        requires { is_uncounted self.old.turn ≡ true }
+        ensures { ClosesRead decoder_rules unended_uncounted closes_uncounted outside self.old result self.new }
+    {
+        let turn = outside.turn;
+        self.leave_record(outside.scope)?;
+        self.set_turn(turn);
         Ok(())
     }
 
@@ -100,7 +115,7 @@ impl<'input> Decoder<'input> {
         let scope = alternative.scope;
         let contents = alternative.contents;
         if let Some(contents) = contents {
-            self.close_open_type(contents)?;
+            self.close_added(contents)?;
         }
         self.leave(scope);
         Ok(())
@@ -178,7 +193,7 @@ impl<'input> Decoder<'input> {
         self.answer(taken, left)
     }
 
-    /// Skips what is left of the open SEQUENCE's additions, which its type doesn't know, behind their bitmap where that
+    /// Skips what is left of the open SEQUENCE's additions, which its type doesn't know, after their bitmap where that
     /// is still ahead (X.691 19.7 to 19.9).
     fn skip_left(&mut self) -> Result<(), DecodeError>
         ensures { SkipsRest self.old result self.new }

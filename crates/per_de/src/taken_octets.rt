@@ -26,7 +26,7 @@ pub enum TakenOctets {
 
 impl<'input> Decoder<'input> {
     /// Reads an OCTET STRING under constraints (X.691 17) as `decode_octet_string` does, and copies its octets only
-    /// where they come in fragments, or don't stand on octets of what is read: the input, or the contents of an open
+    /// where they come in fragments, or aren't on octets of what is read: the input, or the contents of an open
     /// type that came in fragments, which the decoder owns. Else `octets_in_front` lends them.
     pub fn take_octet_string(
         &mut self,
@@ -40,7 +40,7 @@ impl<'input> Decoder<'input> {
         self.take_octets(constraints)
     }
 
-    /// What `take_octet_string` answers, behind what it notes.
+    /// What `take_octet_string` answers, after what it notes.
     fn take_octets(&mut self, constraints: &Constraints) -> Result<TakenOctets, DecodeError>
         requires { self.old.failed ≡ false }
         ensures { TakesOctets plain_rules (size_of constraints.now) (is_size_marked constraints.now)

@@ -24,7 +24,7 @@ pub enum Turn {
 }
 
 impl Turn {
-    /// What is still to come behind one component more.
+    /// What is still to come after one component more.
     pub(crate) fn next(self) -> Turn
         ensures { turn_of result ≡ next (turn_of self) }
     {
@@ -42,14 +42,13 @@ impl Turn {
         }
     }
 
-    /// Whether all came that is due, or nothing is counted.
+    /// Whether all came that is due, where what comes is counted.
     pub(crate) fn is_complete(self) -> bool
         ensures { result ≡ is_complete (turn_of self) }
     {
         match self {
-            Turn::Uncounted => true,
             Turn::Awaiting(left) => left == 0,
-            Turn::InList(_) | Turn::Misplaced => false,
+            Turn::Uncounted | Turn::InList(_) | Turn::Misplaced => false,
         }
     }
 
@@ -76,12 +75,13 @@ impl Turn {
     }
 }
 
-/// Whether a decoder reads on, and what its open scope counts; or whether a call has refused.
+/// How many components are still to come in the open scope, as `Turn` has it, or that a call has refused.
 #[derive(Clone, Copy, Debug)]
 pub(crate) enum Mode {
-    /// It reads on.
-    Live(Turn),
-    /// A call has refused.
+    Uncounted,
+    Awaiting(usize),
+    InList(usize),
+    Misplaced,
     Failed,
 }
 
@@ -102,28 +102,22 @@ impl<'input> Decoder<'input> {
         ensures failed { OnErr result (self.old.failed ≡ true) }
         ensures stays { OnErr result (self.new ≡ self.old) }
     {
-        match self.mode {
-            Mode::Live(Turn::Uncounted) => Ok(()),
-            Mode::Live(Turn::Awaiting(1)) => {
-                self.mode = Mode::Live(Turn::Awaiting(0));
-                Ok(())
-            }
-            _ => self.begin_counted(),
+        if let Mode::Uncounted = self.mode {
+            return Ok(());
         }
+        self.check_unfailed()?;
+        self.note_counted();
+        Ok(())
     }
 
-    /// What `begin_value` does, also where something is counted.
+    /// What `note` does, also where something is counted.
     #[inline(never)]
-    pub(crate) fn begin_counted(&mut self) -> Result<(), DecodeError>
-        ensures ok { OnOk result (self.old.failed ≡ false) }
-        ensures noted { OnOk result (self.new ≡ noting self.old) }
-        ensures err { IfErr result (λ e. e ≡ refusal AlreadyFailed self.old) }
-        ensures failed { OnErr result (self.old.failed ≡ true) }
-        ensures stays { OnErr result (self.new ≡ self.old) }
+    fn note_counted(&mut self)
+        requires { self.old.failed ≡ false }
+        ensures { self.new ≡ noting self.old }
     {
-        self.check_unfailed()?;
-        self.note();
-        Ok(())
+        let turn = self.turn();
+        self.set_turn(turn.next());
     }
 
     /// Notes a component.
@@ -132,11 +126,10 @@ impl<'input> Decoder<'input> {
         requires { self.old.failed ≡ false }
         ensures { self.new ≡ noting self.old }
     {
-        if let Mode::Live(Turn::Uncounted) = self.mode {
+        if let Mode::Uncounted = self.mode {
             return;
         }
-        let turn = self.turn();
-        self.set_turn(turn.next());
+        self.note_counted();
     }
 
     /// How many components are still to come in the open scope.
@@ -145,8 +138,10 @@ impl<'input> Decoder<'input> {
         ensures { turn_of result ≡ self.now.turn }
     {
         match self.mode {
-            Mode::Live(turn) => turn,
-            Mode::Failed => Turn::Uncounted,
+            Mode::Uncounted | Mode::Failed => Turn::Uncounted,
+            Mode::Awaiting(left) => Turn::Awaiting(left),
+            Mode::InList(left) => Turn::InList(left),
+            Mode::Misplaced => Turn::Misplaced,
         }
     }
 
@@ -156,7 +151,12 @@ impl<'input> Decoder<'input> {
         requires { self.old.failed ≡ false }
         ensures { self.new ≡ with_turn (turn_of turn) self.old }
     {
-        self.mode = Mode::Live(turn);
+        self.mode = match turn {
+            Turn::Uncounted => Mode::Uncounted,
+            Turn::Awaiting(left) => Mode::Awaiting(left),
+            Turn::InList(left) => Mode::InList(left),
+            Turn::Misplaced => Mode::Misplaced,
+        };
     }
 
     /// Refuses where a call has refused before, and where an open list can't be gone on in.
@@ -170,18 +170,19 @@ impl<'input> Decoder<'input> {
         Ok(())
     }
 
-    /// Refuses where a call has refused before, and where not as much came in the open scope as is due.
+    /// Refuses where a call has refused before, where not as much came in the open scope as is due, and where nothing
+    /// is counted there.
     #[inline(always)]
     pub(crate) fn check_complete(&mut self) -> Result<(), DecodeError>
         ensures { IsComplete self.old result self.new }
     {
         match self.mode {
-            Mode::Live(Turn::Uncounted | Turn::Awaiting(0)) => Ok(()),
+            Mode::Awaiting(0) => Ok(()),
             _ => self.check_counted(),
         }
     }
 
-    /// What `check_complete` does, also where something is counted.
+    /// What `check_complete` does, also where it refuses.
     #[inline(never)]
     pub(crate) fn check_counted(&mut self) -> Result<(), DecodeError>
         ensures { IsComplete self.old result self.new }

@@ -10,12 +10,12 @@ use Rattle.rasn_constraints.specs.Ranges.{unsigned_range}
 use Rattle.std.specs.Prelude.{Result, Ok, Err, IfOk}
 use Rattle.rasn_schema.specs.Schemas.{Schema}
 use Rattle.per_core.specs.Basic.{IsConstrainedWhole, IsNumberOf, Year, YearIn, basic, basic_in, constrained_by, constrained_form, year_form}
-use Rattle.per_core.specs.Spellings.{Settings, Field, Then, Took, NoneIn}
-use Rattle.per_core.proofs.Agree.{Agree, field_agree, never_agree, then_agree, weaken}
+use Rattle.per_core.specs.Spellings.{Settings, BitField, Then, Took, NoneIn}
+use Rattle.per_core.proofs.SpellingsAgree.{Agree, field_agree, never_agree, then_agree, weaken}
 use Rattle.per_core.proofs.LengthForms.{and_left, and_right, bounded_agree}
-use Rattle.per_core.proofs.Took.{then_took, took_agree, took_map, took_then}
+use Rattle.per_core.proofs.TakenInTurn.{then_took, took_agree, took_map, took_then}
 use Rattle.per_core.proofs.Unique.{in_whole_agree}
-use Rattle.per_core.specs.FieldFaults.{IsOfField}
+use Rattle.per_core.specs.BitFieldFaults.{IsOfBitField}
 use Rattle.per_read.specs.Kinds.{Faulty, IsTested}
 use Rattle.per_core.specs.NumberFaults.{IsEmpty, IsOfConstrained, IsOfNumber, IsOutside, IsUnheld, under_bounds}
 use Rattle.per_core.specs.NumberFaults.{within_bounds}
@@ -31,7 +31,7 @@ use Rattle.per_core.specs.TimeFaults.{IsOfDate, IsOfYearField, IsOfYearIn, no_da
 use Rattle.per_decoding.specs.Years
 use Rattle.per_decoding.specs.Years.{IsOfYear}
 use Rattle.per_core.proofs.Fits.{fits_small}
-use Rattle.per_decoding.proofs.Within.{number_within}
+use Rattle.per_decoding.proofs.NumbersWithin.{number_within}
 
 -- a number under both bounds is one of so many
 module _ (a : Settings) (l u n : ℕ) (range : Bounds) where
@@ -106,7 +106,7 @@ not_outside a l u n named low high s e o full h = go h.number h.outside h.took
         true≢false (sym within ∙ out)
     go (negsuc v) out b = let w : false ≡ true = (when_took b).0 in absurd cc
 
--- one year stands in bits
+-- one year is in bits
 year_in_agree : (a : Settings) (low n : ℕ) (y z : ℤ) → Agree (y ≡ z) (YearIn a low n y) (YearIn a low n z)
 year_in_agree a low n y z = record {
   agree = λ p b c s t u v e.
@@ -138,23 +138,23 @@ year_tested a s k (inr (suc (suc (suc n)), (m, b, h))) = unconstrained_tested k 
 
 -- a year by the index of its range
 module _ (a : Settings) where
-  year_of_range : (i : ℕ) (z : ℤ) {s m t : Bits} → Took (Field 2 i) s m → Took (year_form a i z) m t → Took (Year a z) s t
+  year_of_range : (i : ℕ) (z : ℤ) {s m t : Bits} → Took (BitField 2 i) s m → Took (year_form a i z) m t → Took (Year a z) s t
   year_of_range i z b c = took_map (λ p d x. record { range = i; spelled = x }) (took_then b c)
 
-  range_of_year : (z : ℤ) {s t : Bits} → Took (Year a z) s t → (i : ℕ) × (m : Bits) × Took (Field 2 i) s m × Took (year_form a i z) m t
+  range_of_year : (z : ℤ) {s t : Bits} → Took (Year a z) s t → (i : ℕ) × (m : Bits) × Took (BitField 2 i) s m × Took (year_form a i z) m t
   range_of_year z {s} {t} b =
-      let c : Took (Then (Field 2 b.spelled.range) (year_form a b.spelled.range z)) s t = record { front = b.front; joins = b.joins; spelled = b.spelled.spelled } in
+      let c : Took (Then (BitField 2 b.spelled.range) (year_form a b.spelled.range z)) s t = record { front = b.front; joins = b.joins; spelled = b.spelled.spelled } in
       let q = then_took c in (b.spelled.range, q.0, q.1, q.2)
 
-  -- too few bits for an index, and what a kind says behind it
-  pub short_year : (s : Bits) (k : DecodeErrorKind) → IsOfField 2 s k → IsOfYear a s k
+  -- too few bits for an index, and what a kind says after it
+  pub short_year : (s : Bits) (k : DecodeErrorKind) → IsOfBitField 2 s k → IsOfYear a s k
   short_year s UnexpectedEmptyInput h = absurd (let i : IsTested UnexpectedEmptyInput = of_short UnexpectedEmptyInput h in i)
   short_year s _ h = inl h
 
-  pub no_index : {s : Bits} → NoneIn (Field 2) s → NoneIn (Year a) s
+  pub no_index : {s : Bits} → NoneIn (BitField 2) s → NoneIn (Year a) s
   no_index none z t b = let q = range_of_year z b in none q.0 q.1 q.2
 
-  no_year : (i : ℕ) {s m : Bits} → Took (Field 2 i) s m → NoneIn (year_form a i) m → NoneIn (Year a) s
+  no_year : (i : ℕ) {s m : Bits} → Took (BitField 2 i) s m → NoneIn (year_form a i) m → NoneIn (Year a) s
   no_year i {m = m} b none z t c =
       let q = range_of_year z c in
       let r = took_agree (field_agree 2 q.0 i) q.2 b in
@@ -168,48 +168,48 @@ module _ (a : Settings) where
     no_year_in : {m : Bits} → NoneIn (IsNumberOf a (between (pos l) (pos u)) false unbounded) m → NoneIn (YearIn a l n) m
     no_year_in none z t b = none_of a l u n unbounded e o few (λ k h. refl) none b.spelled.past t (record { front = b.front; joins = b.joins; spelled = b.spelled.spelled })
 
-    year_kind : (i : ℕ) (s m : Bits) → Took (Field 2 i) s m → ((k : DecodeErrorKind) → IsOfConstrained a n m k → IsOfYearIn a i m k) → ((p : ℕ) (t : Bits) → Took (constrained_form a n p) m t → p < n) → (k : DecodeErrorKind) → IsOfNumber a (between (pos l) (pos u)) false unbounded m k → IsOfYear a s k
+    year_kind : (i : ℕ) (s m : Bits) → Took (BitField 2 i) s m → ((k : DecodeErrorKind) → IsOfConstrained a n m k → IsOfYearIn a i m k) → ((p : ℕ) (t : Bits) → Took (constrained_form a n p) m t → p < n) → (k : DecodeErrorKind) → IsOfNumber a (between (pos l) (pos u)) false unbounded m k → IsOfYear a s k
     year_kind i s m b says full UnexpectedEmptyInput h = absurd (not_empty a (pos l) (pos u) m h)
     year_kind i s m b says full (ValueConstraintNotSatisfied told) h = absurd (not_outside a l u n (value_of told) (lower_of told) (upper_of told) m e o full h)
     year_kind i s m b says full (IntegerOverflow width) h = absurd (not_unheld a l u unbounded m few (λ v i. refl) h)
     year_kind i s m b says full k h = inr (i, (m, b, says k (subst (λ (c : ℕ). IsOfConstrained a c m k) e h)))
 
-  -- no year between two others stands there, for a reason
+  -- no year between two others is there, for a reason
   abbrev NoYear : ℕ → ℕ → Bits → DecodeErrorKind → Type 0
   NoYear l u m k = Faulty (IsOfNumber a (between (pos l) (pos u)) false unbounded m) (NoneIn (IsNumberOf a (between (pos l) (pos u)) false unbounded) m) k
 
-  pub first_year : (z : ℤ) {s m t : Bits} → Took (Field 2 0) s m → Took (IsNumberOf a (between (pos 2005) (pos 2020)) false unbounded z) m t → Took (Year a z) s t
+  pub first_year : (z : ℤ) {s m t : Bits} → Took (BitField 2 0) s m → Took (IsNumberOf a (between (pos 2005) (pos 2020)) false unbounded z) m t → Took (Year a z) s t
   first_year z b c = year_of_range 0 z b (year_took 2005 2020 16 refl (omega arith) (omega arith) z c)
 
-  pub later_year : (z : ℤ) {s m t : Bits} → Took (Field 2 1) s m → Took (IsNumberOf a (between (pos 2021) (pos 2276)) false unbounded z) m t → Took (Year a z) s t
+  pub later_year : (z : ℤ) {s m t : Bits} → Took (BitField 2 1) s m → Took (IsNumberOf a (between (pos 2021) (pos 2276)) false unbounded z) m t → Took (Year a z) s t
   later_year z b c = year_of_range 1 z b (year_took 2021 2276 256 refl (omega arith) (omega arith) z c)
 
-  pub earlier_year : (z : ℤ) {s m t : Bits} → Took (Field 2 2) s m → Took (IsNumberOf a (between (pos 1749) (pos 2004)) false unbounded z) m t → Took (Year a z) s t
+  pub earlier_year : (z : ℤ) {s m t : Bits} → Took (BitField 2 2) s m → Took (IsNumberOf a (between (pos 1749) (pos 2004)) false unbounded z) m t → Took (Year a z) s t
   earlier_year z b c = year_of_range 2 z b (year_took 1749 2004 256 refl (omega arith) (omega arith) z c)
 
-  pub any_year : (z : ℤ) {s m t : Bits} → Took (Field 2 3) s m → Took (IsNumberOf a unbounded false unbounded z) m t → Took (Year a z) s t
+  pub any_year : (z : ℤ) {s m t : Bits} → Took (BitField 2 3) s m → Took (IsNumberOf a unbounded false unbounded z) m t → Took (Year a z) s t
   any_year z b c = year_of_range 3 z b (took_map (λ p d x. x.spelled.spelled) c)
 
-  pub no_first_year : {s m : Bits} (k : DecodeErrorKind) → Took (Field 2 0) s m → NoYear 2005 2020 m k → Faulty (IsOfYear a s) (NoneIn (Year a) s) k
+  pub no_first_year : {s m : Bits} (k : DecodeErrorKind) → Took (BitField 2 0) s m → NoYear 2005 2020 m k → Faulty (IsOfYear a s) (NoneIn (Year a) s) k
   no_first_year {s} {m} k b =
       faulty_map k (year_kind 2005 2020 16 refl (omega arith) (omega arith) 0 s m b (λ k h. h) (λ p t c. full16 a.variant a p c) k) (λ none. no_year 0 b (no_year_in 2005 2020 16 refl (omega arith) (omega arith) none))
 
-  pub no_later_year : {s m : Bits} (k : DecodeErrorKind) → Took (Field 2 1) s m → NoYear 2021 2276 m k → Faulty (IsOfYear a s) (NoneIn (Year a) s) k
+  pub no_later_year : {s m : Bits} (k : DecodeErrorKind) → Took (BitField 2 1) s m → NoYear 2021 2276 m k → Faulty (IsOfYear a s) (NoneIn (Year a) s) k
   no_later_year {s} {m} k b =
       faulty_map k (year_kind 2021 2276 256 refl (omega arith) (omega arith) 1 s m b (λ k h. h) (λ p t c. full256 a.variant a p c) k) (λ none. no_year 1 b (no_year_in 2021 2276 256 refl (omega arith) (omega arith) none))
 
-  pub no_earlier_year : {s m : Bits} (k : DecodeErrorKind) → Took (Field 2 2) s m → NoYear 1749 2004 m k → Faulty (IsOfYear a s) (NoneIn (Year a) s) k
+  pub no_earlier_year : {s m : Bits} (k : DecodeErrorKind) → Took (BitField 2 2) s m → NoYear 1749 2004 m k → Faulty (IsOfYear a s) (NoneIn (Year a) s) k
   no_earlier_year {s} {m} k b =
       faulty_map k (year_kind 1749 2004 256 refl (omega arith) (omega arith) 2 s m b (λ k h. h) (λ p t c. full256 a.variant a p c) k) (λ none. no_year 2 b (no_year_in 1749 2004 256 refl (omega arith) (omega arith) none))
 
-  any_kind : {s m : Bits} (k : DecodeErrorKind) → Took (Field 2 3) s m → IsOfNumber a unbounded false unbounded m k → IsOfYear a s k
+  any_kind : {s m : Bits} (k : DecodeErrorKind) → Took (BitField 2 3) s m → IsOfNumber a unbounded false unbounded m k → IsOfYear a s k
   any_kind UnexpectedEmptyInput b h = record { rest = h.rest; took = took_then b h.took }
   any_kind (ValueConstraintNotSatisfied told) b h = absurd (let i : true ≡ false = h.outside in cc)
   any_kind (IntegerOverflow width) b h =
       absurd (h.none (took_map (λ p c x. record { in_range = refl; spelled = record { within = refl; spelled = x.1 } }) h.took))
   any_kind {m = m} _ b h = inr (3, (m, b, h))
 
-  pub no_number_year : {s m : Bits} (k : DecodeErrorKind) → Took (Field 2 3) s m → Faulty (IsOfNumber a unbounded false unbounded m) (NoneIn (IsNumberOf a unbounded false unbounded) m) k
+  pub no_number_year : {s m : Bits} (k : DecodeErrorKind) → Took (BitField 2 3) s m → Faulty (IsOfNumber a unbounded false unbounded m) (NoneIn (IsNumberOf a unbounded false unbounded) m) k
       → Faulty (IsOfYear a s) (NoneIn (Year a) s) k
   no_number_year k b = faulty_map k (any_kind k b) (λ none. no_year 3 b (λ z t c. none z t (took_map (λ p d x. record { in_range = refl; spelled = record { within = refl; spelled = x } }) c)))
 
@@ -267,7 +267,7 @@ module _ (a : Settings) where
   day_kind y j {n = n} InvalidDate by bm h = absurd (constrained_tested a 31 n InvalidDate h)
   day_kind y j {m = m} {n = n} _ by bm h = inr (inr (y, (m, by, (j, (n, bm, h)))))
 
-  -- no month stands behind a year
+  -- no month is after a year
   no_months : (y : ℤ) {s m : Bits} → Took (Year a y) s m → NoneIn (IsConstrainedWhole a 12) m → NoneIn (basic a Schema.date) s
   no_months y by none v t b =
       let q = numbers_of v b in
@@ -276,7 +276,7 @@ module _ (a : Settings) where
       let n = then_took r.2 in
       none q.0.1 n.0 (subst (λ (w : Bits). Took (IsConstrainedWhole a 12 q.0.1) w n.0) e n.1)
 
-  -- no day stands behind a year and a month
+  -- no day is after a year and a month
   no_days : (y : ℤ) (j : ℕ) {s m n : Bits} → Took (Year a y) s m → Took (IsConstrainedWhole a 12 j) m n → NoneIn (IsConstrainedWhole a 31) n → NoneIn (basic a Schema.date) s
   no_days y j by bm none v t b =
       let q = numbers_of v b in
@@ -301,7 +301,7 @@ module _ (a : Settings) where
   numbers_agree : (y z : ℤ) (i j k l : ℕ) → Agree ((y ≡ z) × (i ≡ j) × (k ≡ l)) (numbers_form a y i k) (numbers_form a z j l)
   numbers_agree y z i j k l = weaken (λ h. (h.0, h.1.0, h.1.1)) (then_agree (year_agree a y z) (λ e. then_agree (bounded_agree a 12 i j) (λ f. bounded_agree a 31 k l)))
 
-  -- only one day's numbers stand there
+  -- only one day's numbers are there
   no_other_day : (y : ℤ) (j k : ℕ) {s t : Bits} → Took (numbers_form a y j k) s t → is_date y (suc j) (suc k) ≡ false → NoneIn (basic a Schema.date) s
   no_other_day y j k b none v u c =
       let q = numbers_of v c in

@@ -5,19 +5,19 @@ use Rattle.rasn_types.specs.Bits.{Bits, width, width_from}
 use Rattle.rasn_types.specs.Values.{Value, item, Side, root, added}
 use Rattle.rasn_types.specs.Variants.{Variant, aligned, unaligned}
 use Rattle.per_core.specs.Basic.{ExtensionBit, Item, IsSemiConstrainedWhole, Small, constrained_by, constrained_form}
-use Rattle.per_core.specs.Spellings.{Settings, Spelling, When, Field, Took, NoneIn}
-use Rattle.per_core.proofs.Agree.{Agree, field_agree}
+use Rattle.per_core.specs.Spellings.{Settings, Spelling, When, BitField, Took, NoneIn}
+use Rattle.per_core.proofs.SpellingsAgree.{Agree, field_agree}
 use Rattle.per_core.proofs.LengthForms.{bounded_form_agree}
-use Rattle.per_core.proofs.Took.{took_then, then_took, took_map, took_agree, nothing_took}
+use Rattle.per_core.proofs.TakenInTurn.{took_then, then_took, took_map, took_agree, nothing_took}
 use Rattle.per_core.proofs.Unique.{in_natural_agree, marked_agree}
 use Rattle.per_decoding.specs.Enumerations.{IsMissing, IsOfPlace, IsThere, item_form, root_in_field, side_of}
 use Rattle.per_core.specs.IndexFaults.{IsOfExtension, IsOfItem, IsOfPlaces, IsPlace, count_of, place_form}
-use Rattle.per_core.specs.FieldFaults.{IsOfField, IsOfMarked, IsOfUnconstrained}
+use Rattle.per_core.specs.BitFieldFaults.{IsOfBitField, IsOfMarked, IsOfUnconstrained}
 use Rattle.per_read.specs.Kinds.{IsTested}
 use Rattle.per_core.specs.NumberFaults.{IsOfConstrained, IsOfConstrainedBy, small_form}
 use Rattle.per_read.specs.Numbers.{in_one_field}
 use Rattle.per_read.specs.SmallNumbers.{OfIndex}
-use Rattle.per_read.specs.State.{State, settings_of}
+use Rattle.per_read.specs.ReaderState.{ReaderState, settings_of}
 use Rattle.per_read.specs.Takes.{Takes, tested}
 use Rattle.per_core.specs.declared.decode_error.DecodeErrorKind.{DecodeErrorKind}
 use Rattle.per_core.specs.declared.decode_error.DecodeErrorKind.TheVariants.{EnumerationIndexNotFound, IntegerOverflow}
@@ -28,12 +28,12 @@ use Rattle.per_read.proofs.OfFields.{constrained_tested, marked_tested, unconstr
 use Rattle.per_read.proofs.SmallForms.{small_took, took_small}
 
 -- what a kind says of an extension bit and a place, which tests show too
-pub small_tested : (a : Settings) (s : Bits) (k : DecodeErrorKind) → IsOfMarked true (IsOfField 6) (IsOfUnconstrained a 8) s k → IsTested k
-small_tested a s k h = marked_tested (IsOfField 6) (IsOfUnconstrained a 8) true s k (λ t x. of_short k x) (λ t x. unconstrained_tested k x) h
+pub small_tested : (a : Settings) (s : Bits) (k : DecodeErrorKind) → IsOfMarked true (IsOfBitField 6) (IsOfUnconstrained a 8) s k → IsTested k
+small_tested a s k h = marked_tested (IsOfBitField 6) (IsOfUnconstrained a 8) true s k (λ t x. of_short k x) (λ t x. unconstrained_tested k x) h
 
 pub places_tested : (a : Settings) (r : ℕ) (ext : Bool) (s : Bits) (k : DecodeErrorKind) → IsOfPlaces a r ext s k → IsTested k
 places_tested a r ext s k h =
-    marked_tested (IsOfConstrained a r) (IsOfMarked true (IsOfField 6) (IsOfUnconstrained a 8)) ext s k (λ t x. constrained_tested a r t k x) (λ t x. small_tested a t k x) h
+    marked_tested (IsOfConstrained a r) (IsOfMarked true (IsOfBitField 6) (IsOfUnconstrained a 8)) ext s k (λ t x. constrained_tested a r t k x) (λ t x. small_tested a t k x) h
 
 pub of_extension : (a : Settings) (r : ℕ) (ext : Bool) (s : Bits) (k : DecodeErrorKind) → IsOfExtension ext s k → IsOfPlaces a r ext s k
 of_extension a r true s k h = inl h
@@ -43,7 +43,7 @@ pub of_root : (a : Settings) (r : ℕ) (ext : Bool) {s m : Bits} (k : DecodeErro
 of_root a r true {m = m} k bit h = inr (inl (m, bit, h))
 of_root a r false {s} {m} k bit h = subst (λ z. IsOfConstrained a r z k) (sym (nothing_took bit)) h
 
-pub of_added : (a : Settings) (r : ℕ) (ext : Bool) {s m : Bits} (k : DecodeErrorKind) → Took (ExtensionBit ext true) s m → IsOfMarked true (IsOfField 6) (IsOfUnconstrained a 8) m k → IsOfPlaces a r ext s k
+pub of_added : (a : Settings) (r : ℕ) (ext : Bool) {s m : Bits} (k : DecodeErrorKind) → Took (ExtensionBit ext true) s m → IsOfMarked true (IsOfBitField 6) (IsOfUnconstrained a 8) m k → IsOfPlaces a r ext s k
 of_added a r true {m = m} k bit h = inr (inr (m, bit, h))
 of_added a r false k bit h = absurd bit.spelled
 
@@ -79,7 +79,7 @@ root_said a (suc n) g s k e h = let i : g + 1 ≡ suc n = omega (arith, e) in su
 place_agree : (a : Settings) (n : ℕ) (b : Bool) (i j : ℕ) → Agree (i ≡ j) (place_form a n b i) (place_form a n b j)
 place_agree a n false i j = bounded_form_agree a n i j
 place_agree a n true i j =
-    marked_agree (λ (x y : ℕ). x ≡ y) true (Field 6) (IsSemiConstrainedWhole a) (Field 6) (IsSemiConstrainedWhole a) i j (field_agree 6 i j) (in_natural_agree a i j)
+    marked_agree (λ (x y : ℕ). x ≡ y) true (BitField 6) (IsSemiConstrainedWhole a) (BitField 6) (IsSemiConstrainedWhole a) i j (field_agree 6 i j) (in_natural_agree a i j)
 
 -- one extension bit
 same_extension : (ext b d : Bool) {s m n : Bits} → Took (ExtensionBit ext b) s m → Took (ExtensionBit ext d) s n → (b ≡ d) × (m ≡ n)
@@ -98,7 +98,7 @@ item_on a r e ext false i bit p l f =
 item_on a r e ext true i bit p l f =
     took_map (λ q c x. record { of = (added, i); is = refl; spelled = x }) (took_then bit (took_map (λ q c x. record { known = l; spelled = x }) (small_took a i f p)))
 
--- the place of an item that is read behind an extension bit
+-- the place of an item that is read after an extension bit
 record Placed (a : Settings) (n : ℕ) (b : Bool) (m t : Bits) : Type 0 where
   index : ℕ
   below : index < n
@@ -149,7 +149,7 @@ module _ (a : Settings) (r e : ℕ) (ext b : Bool) {s m : Bits} (bit : Took (Ext
       go true bit (IntegerOverflow w) h = absurd (small_tested a m (IntegerOverflow w) h)
       go true bit k h = of_added a r ext k bit h
 
-  -- a place that is read, and the item that stands there
+  -- a place that is read, and the item that is there
   pub item_there : {E : Type 0} (value : E → Value) (place : Option ℕ) (x : E) {t : Bits} → count_of r e b < 2 ^ 64 → OfIndex (λ i. Took (place_form a (count_of r e b) b i) m t) place → IsThere value (count_of r e b) b place x
       → Took (item_form a r e ext (value x)) s t
   item_there value place x {t} few p h =
@@ -168,7 +168,7 @@ module _ (a : Settings) (r e : ℕ) (ext b : Bool) {s m : Bits} (bit : Took (Ext
   item_missing place _ t few p h = absurd h
 
 -- a place in a field that a `usize` holds
-pub short_place : (form : Settings → ℕ → Spelling) (x y : State) (r : Option ℕ) → y.options ≡ x.options → OfIndex (λ i. Took (form (settings_of x) i) x.bits y.bits) r
+pub short_place : (form : Settings → ℕ → Spelling) (x y : ReaderState) (r : Option ℕ) → y.options ≡ x.options → OfIndex (λ i. Took (form (settings_of x) i) x.bits y.bits) r
     → IfSome r (λ i. Takes tested form OfIndex x (Ok (Some i)) y)
 short_place form x y None e h = tt
 short_place form x y (Some i) e h = record { ok = h; err = tt; kept = e }
@@ -196,7 +196,7 @@ no_place_held a n r {s} t few h e =
 
 -- no item or alternative of the root in one field
 module _ (a : Settings) (r e : ℕ) (ext : Bool) {s : Bits} where
-  -- without an extension bit, or behind a bit 1
+  -- without an extension bit, or after a bit 1
   pub no_root_bit : NoneIn (ExtensionBit ext) s → NoneIn (root_in_field a r e ext) s
   no_root_bit none i t b = let q = then_took (when_took b).1 in none false q.0 q.1
 

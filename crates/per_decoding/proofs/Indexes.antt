@@ -4,7 +4,7 @@ use Rattle.rasn_types.specs.Bits.{Bits}
 use Rattle.rasn_types.specs.Values.{Side, item}
 use Rattle.per_core.specs.Basic.{ExtensionBit, Item}
 use Rattle.per_core.specs.Spellings.{Settings, Took, NoneIn}
-use Rattle.per_core.proofs.Took.{took_then, took_map}
+use Rattle.per_core.proofs.TakenInTurn.{took_then, took_map}
 use Rattle.per_decoding.specs.ChoiceIndexes.{IsKnown, IsUnknown}
 use Rattle.per_core.specs.IndexFaults.{IsOfIndex, index_form, IsOfPlaces, count_of, place_form}
 use Rattle.per_decoding.specs.Enumerations.{IsOfPlace, item_form, side_of}
@@ -50,7 +50,7 @@ module _ (a : Settings) (r e : ℕ) (ext b : Bool) {s m : Bits} (bit : Took (Ext
       go true bit ChoiceIndexExceedsPlatformWidth h = absurd (small_tested a m ChoiceIndexExceedsPlatformWidth h)
       go true bit k h = of_added a r ext k bit h
 
-  -- a place that is read, and the alternative that stands there
+  -- a place that is read, and the alternative that is there
   pub index_there : (place : Option ℕ) (x : Side × ℕ) {t : Bits} → count_of r e b < 2 ^ 64 → OfIndex (λ i. Took (place_form a (count_of r e b) b i) m t) place → IsKnown (count_of r e b) b place x
       → Took (index_form a r e ext x) s t
   index_there place x {t} few p h =

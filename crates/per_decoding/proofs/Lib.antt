@@ -1,11 +1,12 @@
 mod Copies
-mod FewParts
+mod CallItems
 pub mod Enumerations
-pub mod Fits
+pub mod FittingNumbers
 pub mod Indexes
 pub mod Marks
 pub mod Moments
-pub mod Within
+pub mod NumbersWithin
 pub mod DatesRead
-pub mod Short
+pub mod Scoping
+pub mod ShortNumbers
 pub mod Spans

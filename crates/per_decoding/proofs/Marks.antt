@@ -1,11 +1,11 @@
--- An extensible constraint's bit, and the number behind it (X.691 13.1).
+-- An extensible constraint's bit, and the number after it (X.691 13.1).
 use Rattle.std.proofs.Common.{◌≡◌, ◌∷◌, true, false, [], inl, inr, ℤ}
 use Rattle.rasn_types.specs.Bits.{Bits}
 use Rattle.rasn_constraints.specs.Bounds.{Bounds, unbounded}
 use Rattle.per_core.specs.Spellings.{Settings, never, Took, NoneIn}
 use Rattle.per_core.specs.Basic.{IsNumber, IsNumberOf, IsUnconstrainedWhole}
-use Rattle.per_core.proofs.Took.{took_map}
-use Rattle.per_core.specs.FieldFaults.{IsOfField, IsOfUnconstrained}
+use Rattle.per_core.proofs.TakenInTurn.{took_map}
+use Rattle.per_core.specs.BitFieldFaults.{IsOfBitField, IsOfUnconstrained}
 use Rattle.per_read.specs.Kinds.{Faulty, IsTested}
 use Rattle.per_core.specs.NumberFaults.{IsOfForm, IsOfNumber, IsOfOctets, no_octets, under_bounds, within_bounds}
 use Rattle.per_core.specs.declared.decode_error.DecodeErrorKind.{DecodeErrorKind}
@@ -39,7 +39,7 @@ module _ (a : Settings) (bounds range : Bounds) {s m : Bits} where
       took_map (λ p c x. record { in_range = b.spelled.in_range; spelled = x })
       (past_mark (IsNumber a bounds) (IsNumber a unbounded) e z t (record { front = b.front; joins = b.joins; spelled = b.spelled.spelled }))
 
-  -- a fault behind the bit is one of the whole
+  -- a fault after the bit is one of the whole
   root_kind : (k : DecodeErrorKind) → s ≡ false ∷ m → IsOfNumber a bounds false range m k → IsOfNumber a bounds true range s k
   root_kind UnexpectedEmptyInput e h = record { rest = h.rest; took = mark_in (no_octets a) (λ b. no_octets a unbounded) e bounds h.rest h.took }
   root_kind (ValueConstraintNotSatisfied told) e h = record {
@@ -86,13 +86,13 @@ octets_number_said a range s (IntegerOverflow width) h = absurd (let i : IsTeste
 octets_number_said a range s _ h = h
 
 -- and where there is no bit, there is no number
-bit_number : (a : Settings) (bounds range : Bounds) (s : Bits) (k : DecodeErrorKind) → IsOfField 1 s k → IsOfNumber a bounds true range s k
+bit_number : (a : Settings) (bounds range : Bounds) (s : Bits) (k : DecodeErrorKind) → IsOfBitField 1 s k → IsOfNumber a bounds true range s k
 bit_number a bounds range s UnexpectedEmptyInput h = absurd (let i : IsTested UnexpectedEmptyInput = of_short UnexpectedEmptyInput h in i)
 bit_number a bounds range s (ValueConstraintNotSatisfied told) h = absurd (let i : IsTested (ValueConstraintNotSatisfied told) = of_short (ValueConstraintNotSatisfied told) h in i)
 bit_number a bounds range s (IntegerOverflow width) h = absurd (let i : IsTested (IntegerOverflow width) = of_short (IntegerOverflow width) h in i)
 bit_number a bounds range s _ h = inl h
 
-pub no_bit : (a : Settings) (bounds range : Bounds) {s : Bits} (k : DecodeErrorKind) → IsOfField 1 s k × (s ≡ []) → Faulty (IsOfNumber a bounds true range s) (NoneIn (IsNumberOf a bounds true range) s) k
+pub no_bit : (a : Settings) (bounds range : Bounds) {s : Bits} (k : DecodeErrorKind) → IsOfBitField 1 s k × (s ≡ []) → Faulty (IsOfNumber a bounds true range s) (NoneIn (IsNumberOf a bounds true range) s) k
 no_bit a bounds range {s} k h = inr (
   bit_number a bounds range s k h.0,
   λ z t b. no_mark (IsNumber a bounds) (IsNumber a unbounded) h.1 z t (record { front = b.front; joins = b.joins; spelled = b.spelled.spelled }),

@@ -10,8 +10,8 @@ use Rattle.per_core.specs.Basic.{Octets, String, basic, basic_in}
 use Rattle.per_core.specs.Spellings.{Settings, Took, NoneIn}
 use Rattle.per_core.proofs.LengthForms.{same_octets}
 use Rattle.per_core.proofs.Readings.{one_reading}
-use Rattle.per_core.proofs.Took.{took_map, took_agree}
-use Rattle.per_core.specs.FieldFaults.{IsOfUnconstrained}
+use Rattle.per_core.proofs.TakenInTurn.{took_map, took_agree}
+use Rattle.per_core.specs.BitFieldFaults.{IsOfUnconstrained}
 use Rattle.per_core.specs.TimeFaults.{IsNoObject, IsNoTime, IsOfIdentifier, IsOfTime}
 use Rattle.per_decoding.specs.Times.{identifier_form, time_form}
 use Rattle.per_core.specs.SizeFaults.{IsOfString}

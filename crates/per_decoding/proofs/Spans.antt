@@ -5,7 +5,7 @@ use Rattle.std.proofs.lemmas.List.{take_all, take_min, drop_min, drop-take}
 use Rattle.rasn_types.specs.Bits.{Bits, number_of}
 use Rattle.per_core.specs.Basic.{bit}
 use Rattle.rasn_constraints.specs.Bounds.{count_of}
-use Rattle.per_core.specs.FieldFaults.{IsOfField}
+use Rattle.per_core.specs.BitFieldFaults.{IsOfBitField}
 use Rattle.per_core.specs.Spellings.{NoneIn}
 use Rattle.per_core.specs.declared.decode_error.DecodeErrorKind.TheVariants.{Incomplete}
 use Rattle.per_read.proofs.Turns.{one_bit}
@@ -23,7 +23,7 @@ part span source begin count b n =
 pub span_length : (span : Span) (source : Bits) → IsWithin span source → length (span_of span source) ≡ span.end - span.begin
 span_length span source h = length-take (span.end - span.begin) (drop span.begin source) ∙ omega (arith, length-drop span.begin source, h.ordered, h.enough)
 
--- behind the first of them
+-- after the first of them
 pub behind : (span : Span) (source : Bits) (n : ℕ) → n ≤ span.end - span.begin → drop n (span_of span source) ≡ span_of (record { begin = span.begin + n; end = span.end }) source
 behind span source n h =
     let e : span.end - span.begin ≡ n + (span.end - (span.begin + n)) = omega arith in
@@ -37,7 +37,7 @@ first_of span source n h =
     let first : take n (span_of span source) ≡ span_of (record { begin = span.begin; end = span.begin + n }) source = take-take n (span.end - span.begin) (drop span.begin source) h ∙ ap (λ (k : ℕ). take k (drop span.begin source)) e in
     sym (take-append-drop n (span_of span source)) ∙ ap₂ (λ bs cs. bs ++ cs) first (behind span source n h)
 
--- a bit, and those behind it
+-- a bit, and those after it
 pub first_bit : (bits : Bits) (b : Bool) → slice_get bits 0 ≡ Some b → bits ≡ b ∷ drop 1 bits
 first_bit [] b e = absurd cc
 first_bit (c ∷ bits) b e = let i : c ≡ b = cc in ap (λ z. z ∷ bits) i
@@ -59,7 +59,7 @@ with_rest s front rest left e l = ap (λ z. with_bits s z) (last_of front rest s
 pub row_length : (span : Span) (source : Bits) (n : ℕ) → IsWithin span source → n ≤ span.end - span.begin → length (span_of (record { begin = span.begin; end = span.begin + n }) source) ≡ n
 row_length span source n h l = length-take (span.begin + n - span.begin) (drop span.begin source) ∙ omega (arith, length-drop span.begin source, h.ordered, h.enough)
 
--- the bits left behind n of them
+-- the bits left after n of them
 pub advanced : (span : Span) (source : Bits) (left n : ℕ) → IsWithin span source → n ≡ span.end - span.begin - left
     → span_of (record { begin = span.begin + n; end = span.end }) source ≡ drop (length (span_of span source) - left) (span_of span source)
 advanced span source left n h e =
@@ -104,9 +104,9 @@ pub some_left : (span : Span) (source bits : Bits) → bits ≡ span_of span sou
 some_left span source [] e some = absurd (some refl)
 some_left span source (b ∷ bits) e some = omega (arith, ap length e, length-take (span.end - span.begin) (drop span.begin source))
 
--- no bit stands where none is left
+-- no bit is where none is left
 pub none_left : {s : Bits} → s ≡ [] → NoneIn bit s
 none_left n b t h = let i : b ∷ t ≡ [] = ap (λ z. z ++ t) (sym h.spelled) ∙ sym h.joins ∙ n in absurd cc
 
-pub bit_lacking : {s : Bits} → s ≡ [] → IsOfField 1 s (Incomplete (count_of 1))
+pub bit_lacking : {s : Bits} → s ≡ [] → IsOfBitField 1 s (Incomplete (count_of 1))
 bit_lacking {s} e = let none : length s ≡ 0 = ap length e in record { short = omega arith; missing = ap (λ (n : ℕ). Incomplete (count_of n)) {x = 1} {y = 1 - length s} (omega arith) }

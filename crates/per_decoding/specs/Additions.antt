@@ -6,13 +6,13 @@ use Rattle.rasn_types.specs.Values.{Value}
 use Rattle.rasn_schema.specs.Schemas.{Schema}
 use Rattle.per_core.specs.Basic.{Octets, OpenOf, basic}
 use Rattle.per_core.specs.Spellings.{Took}
-use Rattle.per_core.specs.FewItems.{item_count, most_items, HasAtMost}
+use Rattle.per_core.specs.ItemCounts.{item_count, most_items, HasAtMost}
 use Rattle.per_core.specs.AdditionFaults.{NextFlag, Extension, shown, Shown}
 use Rattle.per_read.specs.Ends.{EndsAs}
 use Rattle.per_decoding.specs.State.{Source, Spells, State, settings_of, with_bits}
 
 -- X.691 19.7, 19.8: the next presence bit of the additions, where one of the type is still to be asked for. A bitmap
--- that is still ahead is taken first, which stands behind the root components, so all their presence bits were read.
+-- that is still ahead is taken first, which is after the root components, so all their presence bits were read.
 pub record Asks (s : State) (flag : Option Bool) (m : State) : Type 0 where
   pub live : s.failed ≡ false
   pub done : s.presences ≡ []
@@ -40,7 +40,7 @@ abbrev pub Adds : Schema → State → Option Value → State → Type 0
 Adds c s (Some v) t = AddsValue c s v t
 Adds c s None t = Asks s (Some false) t ⊎ Asks s None t
 
--- What waits outside while the open type of an addition is open: the bits behind it, those in which they stand, what is
+-- What waits outside while the open type of an addition is open: the bits after it, those in which they stand, what is
 -- still to be read of the record, and how many bits the contents had.
 pub record OutsideAddition : Type 0 where
   pub bits : Bits
@@ -64,7 +64,7 @@ pub record EntersContents (contents : Bits) (s : State) (w : OutsideAddition) (i
   }
   pub same : i ≡ record s { bits = i.bits; source = i.source; presences = []; extension = shown []; expected = 0 }
 
--- an open type's contents are entered behind its length
+-- an open type's contents are entered after its length
 pub record OpensContents (s : State) (w : OutsideAddition) (i : State) : Type 0 where
   pub octets : List ℕ
   pub took : Took (Octets (settings_of s) octets) s.bits w.bits
@@ -94,7 +94,7 @@ pub record OpensAddition (s : State) (w : OutsideAddition) (i : State) : Type 0 
   }
   pub same : i ≡ record middle { bits = i.bits; source = i.source; presences = []; extension = shown []; expected = 0 }
 
--- behind an open type, with what waited outside
+-- after an open type, with what waited outside
 abbrev pub with_outside_addition : State → OutsideAddition → State
 with_outside_addition j w = record j {
   bits = w.bits;
@@ -104,7 +104,7 @@ with_outside_addition j w = record j {
   expected = w.expected;
 }
 
--- Behind the open type, where what is left of the contents ends them (X.691 11.1).
+-- After the open type, where what is left of the contents ends them (X.691 11.1).
 pub record ClosesAddition (j : State) (w : OutsideAddition) (t : State) : Type 0 where
   pub live : j.failed ≡ false
   pub ends : EndsAs (settings_of j) j.bits w.total

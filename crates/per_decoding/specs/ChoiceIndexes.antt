@@ -13,14 +13,14 @@ abbrev pub index_of : Place → Side × ℕ
 index_of (Root i) = (root, i)
 index_of (Added i) = (added, i)
 
--- an alternative stands at a place that was read
+-- an alternative is at a place that was read
 pub record IsKnown (count : ℕ) (extended : Bool) (place : Option ℕ) (x : Side × ℕ) : Type 0 where
   pub index : ℕ
   pub is_place : place ≡ Some index
   pub below : index < count
   pub is : x ≡ (side_of extended, index)
 
--- none stands there, or the place is past 64 bits, and a kind that says so
+-- none is there, or the place is past 64 bits, and a kind that says so
 abbrev pub IsUnknown : ℕ → Option ℕ → DecodeErrorKind → Type 0
 IsUnknown n place (ChoiceIndexNotFound i) = (place ≡ Some i) × (n ≤ i)
 IsUnknown n place ChoiceIndexExceedsPlatformWidth = place ≡ None

@@ -12,8 +12,8 @@ use Rattle.per_decoding.specs.Faults.{UnendedAddition}
 use Rattle.per_decoding.specs.Scopes.{Enters, OutsideRecord, no_record, with_outside_record}
 use Rattle.per_decoding.specs.State.{State, Spells, settings_of, with_bits}
 
--- What waits outside while a choice is open: around its level; and around the open type of an alternative that stands
--- behind the extension marker.
+-- What waits outside while a choice is open: around its level; and around the open type of an alternative that is
+-- after the extension marker.
 pub record OutsideChoice : Type 0 where
   pub outer : OutsideRecord
   pub contents : Option OutsideAddition
@@ -23,7 +23,7 @@ abbrev pub index_in : Settings → Schema → Side × ℕ → Spelling
 index_in a (Schema.choice ps qs marker) x = index_form a (length (tags_of ps)) (length (tags_of qs)) marker x
 index_in a _ x = never
 
--- Where an alternative is read, which an index told: at once, or behind an extension marker in an open type (X.691
+-- Where an alternative is read, which an index told: at once, or after an extension marker in an open type (X.691
 -- 23.7, 23.8).
 abbrev pub StandsFrom : Side → State → Option OutsideAddition → State → Type 0
 StandsFrom root m None i = i ≡ m
@@ -31,7 +31,7 @@ StandsFrom root m (Some w) i = ⊥
 StandsFrom added m None i = ⊥
 StandsFrom added m (Some w) i = OpensContents m w i
 
--- Behind the index of a choice a level is entered, and nothing of a record is read.
+-- After the index of a choice a level is entered, and nothing of a record is read.
 pub record OpensChoice (c : Schema) (d : Side) (k : ℕ) (s : State) (w : OutsideChoice) (i : State) : Type 0 where
   pub live : s.failed ≡ false
   pub middle : State
@@ -40,7 +40,7 @@ pub record OpensChoice (c : Schema) (d : Side) (k : ℕ) (s : State) (w : Outsid
   pub enters : Enters (no_record middle.levels) (with_bits s middle.bits) w.outer middle
   pub stands : StandsFrom d middle w.contents i
 
--- Behind the alternative: at once, or where what is left of its open type ends that (X.691 11.1).
+-- After the alternative: at once, or where what is left of its open type ends that (X.691 11.1).
 abbrev pub EndsFrom : State → Option OutsideAddition → State → Type 0
 EndsFrom j None m = m ≡ j
 EndsFrom j (Some w) m = EndsAs (settings_of j) j.bits w.total × (m ≡ with_outside_addition j w)

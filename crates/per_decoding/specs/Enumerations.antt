@@ -31,7 +31,7 @@ abbrev pub placed_item : Place → Value
 placed_item (Root i) = item root i
 placed_item (Added i) = item added i
 
--- an item stands at a place that was read
+-- an item is at a place that was read
 pub record IsThere {E : Type 0} (value : E → Value) (count : ℕ) (extended : Bool) (place : Option ℕ)
     (x : E) : Type 0 where
   pub index : ℕ
@@ -39,7 +39,7 @@ pub record IsThere {E : Type 0} (value : E → Value) (count : ℕ) (extended : 
   pub below : index < count
   pub is : value x ≡ item (side_of extended) index
 
--- none stands there, or the place is past 64 bits, and a kind that says so
+-- none is there, or the place is past 64 bits, and a kind that says so
 abbrev pub IsMissing : (count : ℕ) → (extended : Bool) → Option ℕ → DecodeErrorKind → Type 0
 IsMissing count extended place (EnumerationIndexNotFound i b) = (place ≡ Some i) × (b ≡ extended) × (count ≤ i)
 IsMissing count extended place (IntegerOverflow width) = (place ≡ None) × (width ≡ 64)

@@ -19,7 +19,7 @@ abbrev pub IsOf : DecodeErrorKind → Schema → State → Type 0
 IsOf AlreadyFailed c s = s.failed ≡ true
 IsOf k c s = IsInBits (settings_of s) k c s.bits
 
--- A refusal has the codec in use, and its fault stands in the bits that were left.
+-- A refusal has the codec in use, and its fault is in the bits that were left.
 pub record Fault (c : Schema) (e : DecodeError) (s : State) : Type 0 where
   pub codec : e.codec ≡ s.codec
   pub stands : IsOf e.kind c s
@@ -38,8 +38,8 @@ Answered (Err k) left s result t = (result ≡ Err (refusal k s)) × (t ≡ refu
 abbrev pub IsUnmarked : DecodeError → State → Type 0
 IsUnmarked e s = ((e ≡ refusal MissingTag s) × (s.presences ≡ [])) ⊎ ((e ≡ refusal AlreadyFailed s) × (s.failed ≡ true))
 
--- The fault that a kind names stands in the next addition: it is asked for out of turn, before all presence bits of the
--- root were read; none is expected; or it stands in the bitmap, or in the addition's open type.
+-- The fault that a kind names is in the next addition: it is asked for out of turn, before all presence bits of the
+-- root were read; none is expected; or it is in the bitmap, or in the addition's open type.
 pub data IsInNext (k : DecodeErrorKind) (c : Schema) (s : State) : Type 0 where
   out_of_turn : k ≡ MissingTag → (s.presences ≡ [] → ⊥) → IsInNext k c s
   not_expected : k ≡ TypeNotExtensible → s.expected ≡ 0 → IsInNext k c s
@@ -52,7 +52,7 @@ abbrev pub IsOfNext : DecodeErrorKind → Schema → State → Type 0
 IsOfNext AlreadyFailed c s = s.failed ≡ true
 IsOfNext k c s = IsInNext k c s
 
--- A refusal has the codec in use, and its fault stands in the next addition.
+-- A refusal has the codec in use, and its fault is in the next addition.
 pub record Misadds (c : Schema) (e : DecodeError) (s : State) : Type 0 where
   pub codec : e.codec ≡ s.codec
   pub stands : IsOfNext e.kind c s

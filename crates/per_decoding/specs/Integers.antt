@@ -4,8 +4,8 @@ use Rattle.rasn_types.specs.Bits.{Bits, width, signed}
 use Rattle.rasn_constraints.specs.Bounds.{holds, fits_i128, Bounds, lower_of, upper_of, value_of}
 use Rattle.per_core.specs.Basic.{IsNumberOf}
 use Rattle.per_core.specs.Spellings.{Settings, Spelling, never}
-use Rattle.per_read.specs.FewOctets.{AtOnce}
-use Rattle.per_read.specs.State.{State}
+use Rattle.per_read.specs.OctetFields.{AtOnce}
+use Rattle.per_read.specs.ReaderState.{ReaderState}
 use Rattle.per_read.specs.Takes.{Takes, memory_or}
 use Rattle.per_core.specs.declared.decode_error.DecodeErrorKind.{DecodeErrorKind}
 use Rattle.per_core.specs.declared.decode_error.DecodeErrorKind.TheVariants.{ValueConstraintNotSatisfied}
@@ -21,7 +21,7 @@ OfEach P (Held z) = P z
 OfEach P Below = (n : ℕ) → 2 ^ 127 ≤ n → P (negsuc n)
 OfEach P Above = (n : ℕ) → 2 ^ 127 ≤ n → P (pos n)
 
--- What a kind says of a number that is no value of a type of a width: it stands outside its bounds, or within these but
+-- What a kind says of a number that is no value of a type of a width: it is outside its bounds, or within these but
 -- not in the type.
 abbrev pub IsMissed : Bounds → ℕ → DecodeErrorKind → ℤ → Type 0
 IsMissed bounds width (ValueConstraintNotSatisfied told) z = (holds bounds z ≡ false) × (value_of told ≡ in_i128 z)
@@ -45,15 +45,16 @@ pub record IsFit (bounds range : Bounds) (r : ReadNumber) (z : ℤ) : Type 0 whe
 abbrev pub AreSome : Bounds → Type 0
 AreSome b = b.low ≡ None → b.high ≡ None → ⊥
 
--- X.691 13: a call that takes an INTEGER of a type's range, under bounds and behind an extension bit where there is a
+-- X.691 13: a call that takes an INTEGER of a type's range, under bounds and after an extension bit where there is a
 -- mark
-abbrev pub TakesInteger : {I : Type 0} → Bounds → Bool → Bounds → (I → ℤ) → State → Result I DecodeErrorKind → State
+abbrev pub TakesInteger : {I : Type 0} → Bounds → Bool → Bounds → (I → ℤ) → ReaderState → Result I DecodeErrorKind
+    → ReaderState
     → Type 0
 TakesInteger bounds mark range number =
     Takes (memory_or (λ a. IsOfNumber a bounds mark range)) (λ a. IsNumberOf a bounds mark range) (λ P i. P (number i))
 
 -- X.691 13.2.4: a number in few octets, which are read at once
-pub record InFewOctets (a : Settings) (z : ℤ) (p : ℕ) (bits : Bits) : Type 0 where
+pub record InOctetField (a : Settings) (z : ℤ) (p : ℕ) (bits : Bits) : Type 0 where
   pub octets : List ℕ
   pub means : signed octets ≡ z
   pub spelled : AtOnce a octets p bits
@@ -61,7 +62,7 @@ pub record InFewOctets (a : Settings) (z : ℤ) (p : ℕ) (bits : Bits) : Type 0
 -- X.691 13.2: a number of two bounds, where one field has it, and one without bounds in few octets
 abbrev pub short_whole : Settings → Option ℤ → Option ℤ → ℤ → Spelling
 short_whole a (Some l) (Some u) = between_in_field a l u
-short_whole a None None = InFewOctets a
+short_whole a None None = InOctetField a
 short_whole a _ _ = λ z. never
 
 -- X.691 13: such a number of a type's range, within its bounds

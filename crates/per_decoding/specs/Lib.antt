@@ -7,7 +7,6 @@ pub mod Sources
 pub mod State
 pub mod Turns
 pub mod InTurn
-pub mod Laws
 pub mod ChoiceIndexes
 pub mod Enumerations
 pub mod Integers

@@ -6,7 +6,7 @@ use Rattle.per_core.specs.declared.decode_error.DecodeError.{DecodeError}
 use Rattle.per_core.specs.declared.decode_error.DecodeErrorKind.TheVariants.{AlreadyFailed, MissingTag, OutOfMemory}
 use Rattle.per_decoding.specs.Additions.{Adds}
 use Rattle.per_decoding.specs.State.{State, Marks, Spells, noting, noting_bit}
-use Rattle.per_decoding.specs.Turns.{awaiting, in_list, is_complete, is_counted, next}
+use Rattle.per_decoding.specs.Turns.{awaiting, in_list, is_complete, is_counted, is_uncounted, next}
 use Rattle.per_decoding.specs.Faults.{Fault, IsUnmarked, Lacks, Misadds, refusal}
 
 -- The rules of a decoder as though it counted nothing of what comes in a scope.
@@ -37,10 +37,11 @@ pub record Awaits (due : Amount) (s : State) : Type 0 where
   pub bits : length s.presences ≡ due.bits
   pub additions : s.expected ≡ due.additions
 
--- A list is still open here, which is a component of what is around it: where that counts what comes, it can't end.
+-- A list is still open here, which is a component of what is around it: where that counts what comes, no record can
+-- end, nor another scope.
 pub record Amidst (s t : State) : Type 0 where
   pub live : t.failed ≡ false
-  pub within : is_counted (next s.turn) ≡ true → is_complete t.turn ≡ false
+  pub within : is_counted (next s.turn) ≡ true → (is_uncounted t.turn ≡ false) × (is_complete t.turn ≡ false)
 
 -- In an open list so many values are to come before it is gone on in, and nothing else is left to be read.
 pub record AwaitsValues (n : ℕ) (s : State) : Type 0 where

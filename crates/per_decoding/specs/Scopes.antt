@@ -69,7 +69,7 @@ pub record Opens (c : Schema) (s : State) (w : OutsideRecord) (i : State) : Type
   pub counts : i.expected ≡ count (additions_of c)
   pub enters : Enters (outside_record i) (with_bits s i.bits) w i
 
--- Behind it, where each presence bit was read and each addition was asked for, the additions that the schema doesn't
+-- After it, where each presence bit was read and each addition was asked for, the additions that the schema doesn't
 -- know were skipped, and the level is given back, and what waited outside (X.691 19.9). A bitmap that is still ahead is
 -- taken first.
 pub record Closes (s : State) (w : OutsideRecord) (t : State) : Type 0 where

@@ -7,9 +7,9 @@ use Rattle.rasn_schema.specs.Schemas.{Schema}
 use Rattle.per_bits.specs.Octets.{Reading}
 use Rattle.per_core.specs.Spellings.{Settings, Took}
 use Rattle.per_core.specs.Basic.{basic}
-use Rattle.per_core.specs.FewItems.{item_count, most_items, HasAtMost}
+use Rattle.per_core.specs.ItemCounts.{item_count, most_items, HasAtMost}
 use Rattle.per_read.specs.Options.{settings}
-use Rattle.per_read.specs.State.{State as Taking}
+use Rattle.per_read.specs.ReaderState.{ReaderState as Taking}
 use Rattle.per_read.specs.declared.ReaderOptions.{ReaderOptions}
 use Rattle.per_decoding.specs.Turns.{Turn, next, uncounted}
 use Rattle.per_core.specs.AdditionFaults.{Extension, shown}
@@ -21,7 +21,7 @@ pub record Options : Type 0 where
   pub zero_padding : Bool
 
 -- The bits in which those stand that a decoder has left: those of the input, or of an open type in fragments; how many
--- of them stand behind those that are left, which reading from the front doesn't change; how many bits of its octet
+-- of them are after those that are left, which reading from the front doesn't change; how many bits of its octet
 -- stand in front of the first of them; and whether they are the input's, of which octets can be lent.
 pub record Source : Type 0 where
   pub bits : Bits
@@ -110,7 +110,7 @@ noting_bit false s = noting s
 abbrev pub refused : State → State
 refused s = record s { failed = true; turn = uncounted }
 
--- A front of the bits that are left spells a value, and the bits behind it are left. The value has at most 65535 items,
+-- A front of the bits that are left spells a value, and the bits after it are left. The value has at most 65535 items,
 -- and 8192 for each bit that was taken, and so has each value within it, but for a default that stands for an absent
 -- part (X.691 11.9, 19.5).
 pub record Spells (c : Schema) (s : State) (v : Value) (t : State) : Type 0 where

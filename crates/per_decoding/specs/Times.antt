@@ -6,7 +6,7 @@ use Rattle.rasn_constraints.specs.Bounds.{any_size}
 use Rattle.per_core.specs.Basic.{Octets, Proper, String}
 use Rattle.per_core.specs.Spellings.{Settings, Spelling}
 
--- X.691 24: the contents octets of an object behind an unconstrained length
+-- X.691 24: the contents octets of an object after an unconstrained length
 abbrev pub identifier_form : Settings → List ℕ → Spelling
 identifier_form a = Proper is_identifier (Octets a)
 

@@ -1,5 +1,5 @@
 -- What a decoder counts of the values that come in the open scope.
-use Rattle.std.specs.Prelude.{◌≡◌, ℕ, zero, suc, Bool, true, false}
+use Rattle.std.specs.Prelude.{ℕ, zero, suc, Bool, true, false}
 
 -- How many components are still to come in the open scope: nothing is counted there, so many, of a list so many values
 -- before it is gone on in, or none is in turn.
@@ -9,7 +9,7 @@ pub data Turn : Type 0 where
   in_list : ℕ → Turn
   misplaced : Turn
 
--- what is still to come behind one component more
+-- what is still to come after one component more
 abbrev pub next : Turn → Turn
 next uncounted = uncounted
 next (awaiting zero) = misplaced
@@ -23,9 +23,9 @@ abbrev pub past : ℕ → Turn → Turn
 past zero x = x
 past (suc n) x = past n (next x)
 
--- whether a scope can end: all that is due came, or nothing is counted
+-- whether a scope that counts what comes can end: all that is due came
 abbrev pub is_complete : Turn → Bool
-is_complete uncounted = true
+is_complete uncounted = false
 is_complete (awaiting zero) = true
 is_complete (awaiting (suc n)) = false
 is_complete (in_list n) = false
@@ -39,6 +39,13 @@ is_between (in_list zero) = true
 is_between (in_list (suc n)) = false
 is_between misplaced = false
 
+-- whether a scope in which nothing is counted can end
+abbrev pub is_uncounted : Turn → Bool
+is_uncounted uncounted = true
+is_uncounted (awaiting n) = false
+is_uncounted (in_list n) = false
+is_uncounted misplaced = false
+
 -- whether what comes is counted
 abbrev pub is_counted : Turn → Bool
 is_counted uncounted = false
@@ -50,10 +57,3 @@ is_counted misplaced = true
 abbrev pub within_list : Turn → Turn
 within_list uncounted = uncounted
 within_list x = misplaced
-
--- so many components are still to come, or nothing is counted
-abbrev pub CountsAs : ℕ → Turn → Type 0
-CountsAs n uncounted = Unit {0}
-CountsAs n (awaiting m) = m ≡ n
-CountsAs n (in_list m) = ⊥
-CountsAs n misplaced = ⊥

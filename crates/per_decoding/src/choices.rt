@@ -6,7 +6,7 @@ ghost use Rattle.per_decoding.specs.ChoiceIndexes.{IsKnown, IsUnknown, index_of}
 ghost use Rattle.per_core.specs.IndexFaults.{IsOfIndex, index_form, count_of};
 ghost use Rattle.per_decoding.specs.Enumerations.{root_in_field};
 ghost use Rattle.per_core.specs.Spellings.{NoneIn};
-ghost use Rattle.per_read.specs.State.{settings_of};
+ghost use Rattle.per_read.specs.ReaderState.{settings_of};
 ghost use Rattle.per_read.specs.Takes.{Takes, telling};
 
 use crate::enumerated::{take_extension_bit, take_place, take_short_place};
@@ -15,7 +15,7 @@ use per_read::error::DecodeErrorKind;
 use rasn_schema::items::Place;
 
 /// Takes the index of a CHOICE, and answers the place of its alternative: `roots` stand before the extension
-/// marker, and `addeds` behind it, where there is one. The extension bit tells the list (X.691 23.5).
+/// marker, and `addeds` after it, where there is one. The extension bit tells the list (X.691 23.5).
 pub fn take_choice_index(
     reader: &mut Reader<'_>,
     roots: usize,
@@ -32,7 +32,7 @@ pub fn take_choice_index(
 }
 
 /// Takes the index of a root alternative as `take_choice_index` does, where it is written in one field. After `None`,
-/// which says that none stands there so, the reader is of no further use. No error is made, and so none needs room.
+/// which says that none is there so, the reader is of no further use. No error is made, and so none needs room.
 #[inline(always)]
 pub fn take_root_index(
     reader: &mut Reader<'_>,
@@ -60,14 +60,14 @@ pub(crate) fn has_marker(addeds: Option<usize>) -> bool
     addeds.is_some()
 }
 
-/// How many alternatives, or items, a list has, that before the extension marker or that behind it.
+/// How many alternatives, or items, a list has, that before the extension marker or that after it.
 pub(crate) fn place_count(roots: usize, addeds: Option<usize>, extended: bool) -> usize
     ensures { result ≡ count_of roots (addeds_of addeds) extended }
 {
     if extended { addeds.unwrap_or(0) } else { roots }
 }
 
-/// The place of the alternative that stands at an index of a list of `count`, where one does.
+/// The place of the alternative that is at an index of a list of `count`, where one does.
 fn place_at_index(
     place: Option<usize>,
     count: usize,

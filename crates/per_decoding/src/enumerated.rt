@@ -8,7 +8,7 @@ ghost use Rattle.per_core.specs.IndexFaults.{IsOfExtension, IsOfItem, count_of, 
 ghost use Rattle.per_core.specs.NumberFaults.{IsOfConstrained};
 ghost use Rattle.per_read.specs.Numbers.{in_one_field};
 ghost use Rattle.per_read.specs.SmallNumbers.{OfIndex};
-ghost use Rattle.per_read.specs.State.{settings_of};
+ghost use Rattle.per_read.specs.ReaderState.{settings_of};
 ghost use Rattle.per_read.specs.Takes.{Takes, itself, telling, tested};
 
 use per_read::Reader;
@@ -26,8 +26,8 @@ pub fn take_enumerated<E: Enumerated>(reader: &mut Reader<'_>) -> Result<E, Deco
     item_at(place, extended)
 }
 
-/// Takes an item as `take_enumerated` does, where it stands before the extension marker and is written in one field.
-/// After `None`, which says that none stands there so, the reader is of no further use. No error is made, and so none
+/// Takes an item as `take_enumerated` does, where it is before the extension marker and is written in one field.
+/// After `None`, which says that none is there so, the reader is of no further use. No error is made, and so none
 /// needs room.
 #[inline(always)]
 pub fn take_root_item<E: Enumerated>(reader: &mut Reader<'_>) -> Option<E>
@@ -43,7 +43,7 @@ pub fn take_root_item<E: Enumerated>(reader: &mut Reader<'_>) -> Option<E>
     item_at(Some(place), false).ok()
 }
 
-/// Takes the extension bit of a type with an extension marker, whether what follows stands after the marker (X.691
+/// Takes the extension bit of a type with an extension marker, whether what follows is after the marker (X.691
 /// 14.3). In another type nothing does.
 #[inline(always)]
 pub(crate) fn take_extension_bit(
@@ -90,7 +90,7 @@ pub(crate) fn take_root_place(
 }
 
 /// Takes a place among `count` items before the extension marker, as `take_place` does, where it is written in one
-/// field. After `None`, which says that none stands there so, the reader is of no further use.
+/// field. After `None`, which says that none is there so, the reader is of no further use.
 #[inline(always)]
 pub(crate) fn take_short_place(reader: &mut Reader<'_>, count: usize) -> Option<usize>
     ensures took { let form = λ (a : Settings). constrained_form a count in

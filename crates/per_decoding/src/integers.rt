@@ -5,7 +5,7 @@ ghost use Rattle.rasn_constraints.specs.Bounds.{unbounded};
 ghost use Rattle.rasn_constraints.specs.Constraints.{bounds_of, bounds_in, is_marked};
 ghost use Rattle.per_core.specs.Basic.{IsNumberOf};
 ghost use Rattle.per_core.specs.Spellings.{NoneIn};
-ghost use Rattle.per_read.specs.State.{settings_of};
+ghost use Rattle.per_read.specs.ReaderState.{settings_of};
 ghost use Rattle.per_decoding.specs.Integers.{OfEach, IsFit, IsShortNumber, Misfit, AreSome, TakesInteger};
 
 use per_read::Reader;
@@ -30,8 +30,8 @@ pub fn take_integer<I: IntegerType>(
     }
 }
 
-/// Takes an INTEGER as `take_integer` does, where it is written behind no extension bit, and in one field or, without
-/// bounds, in few octets. After `None`, which says that none stands there so, the reader is of no further use. No error
+/// Takes an INTEGER as `take_integer` does, where it is written after no extension bit, and in one field or, without
+/// bounds, in few octets. After `None`, which says that none is there so, the reader is of no further use. No error
 /// is made, and so none needs room.
 #[inline(always)]
 pub fn take_short_integer<I: IntegerType>(
@@ -136,7 +136,7 @@ fn take_within<I: IntegerType>(
 fn take_unconstrained_integer<I: IntegerType>(reader: &mut Reader<'_>) -> Result<I, DecodeErrorKind>
     ensures { TakesInteger unbounded false I.range I.number reader.old result reader.new }
 {
-    let Some(octets) = reader.take_few_octets()? else {
+    let Some(octets) = reader.take_octet_field()? else {
         return take_long_integer(reader);
     };
     match I::try_from_i128(octets.signed()) {

@@ -10,7 +10,7 @@ ghost use Rattle.rasn_traits.specs.Optionals.{MakesDefault, ReadsComponent, Read
 ghost use Rattle.rasn_traits.specs.Presences.{left_out};
 ghost use Rattle.per_decoding.specs.Rules.{decoder_rules};
 ghost use Rattle.per_decoding.specs.State.{State};
-ghost use Rattle.per_core.specs.FewItems.{item_count, most_items, HasAtMost};
+ghost use Rattle.per_core.specs.ItemCounts.{item_count, most_items, HasAtMost};
 
 use std::alloc::{AllocError, Global};
 

@@ -3,7 +3,7 @@
 ghost use Rattle.std.specs.Prelude.{◌≡◌, None, Ok, IfErr, IfOk, IfSome};
 ghost use Rattle.rasn_schema.specs.Enumerations.{addeds_of, is_extensible};
 ghost use Rattle.per_core.specs.Spellings.{NoneIn};
-ghost use Rattle.per_read.specs.State.{settings_of};
+ghost use Rattle.per_read.specs.ReaderState.{settings_of};
 ghost use Rattle.per_read.specs.Takes.{Takes, telling};
 ghost use Rattle.per_decoding.specs.Enumerations.{IsMissing, IsThere, item_form, placed_item, root_in_field};
 ghost use Rattle.per_core.specs.IndexFaults.{IsOfItem};
@@ -15,7 +15,7 @@ use per_read::error::DecodeErrorKind;
 use rasn_schema::items::Place;
 
 /// Takes an item of an ENUMERATED, and answers where it stands: `roots` stand before the extension marker, and `addeds`
-/// behind it, where there is one. The extension bit tells the list (X.691 14).
+/// after it, where there is one. The extension bit tells the list (X.691 14).
 pub fn take_item(
     reader: &mut Reader<'_>,
     roots: usize,
@@ -31,8 +31,8 @@ pub fn take_item(
     place_in(place, count, extended)
 }
 
-/// Takes an item as `take_item` does, where it stands before the extension marker and is written in one field. After
-/// `None`, which says that none stands there so, the reader is of no further use. No error is made, and so none needs
+/// Takes an item as `take_item` does, where it is before the extension marker and is written in one field. After
+/// `None`, which says that none is there so, the reader is of no further use. No error is made, and so none needs
 /// room.
 #[inline(always)]
 pub fn take_short_item(
@@ -53,7 +53,7 @@ pub fn take_short_item(
     place_in(Some(place), roots, false).ok()
 }
 
-/// The place of the item that stands at an index of a list of `count`, where one does.
+/// The place of the item that is at an index of a list of `count`, where one does.
 fn place_in(place: Option<usize>, count: usize, extended: bool) -> Result<Place, DecodeErrorKind>
     ensures ok { IfOk result (λ x. IsThere placed_item count extended place x) }
     ensures err { IfErr result (IsMissing count extended place) }

@@ -2,7 +2,7 @@
 //! under constraints, enumerations, identifiers, times, dates and the indexes of choices, each by what a `Reader`
 //! takes off the front of the bits left. And how a decoder's scopes stand to the grammar (19): what a decoder holds,
 //! what its calls read of a record with an extension marker and of its additions, which fault a refusal names, and
-//! the laws that follow for what stands in a scope. A decoder of any making stands on them: it tells of its own
+//! the laws that follow for what is in a scope. A decoder of any making is on them: it tells of its own
 //! state what is here the state.
 #![tactic(auto)]
 

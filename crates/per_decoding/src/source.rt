@@ -26,6 +26,7 @@ pub enum Source<'input> {
 
 impl<'input> Source<'input> {
     /// All its bits.
+    #[inline(always)]
     pub fn bits(&self) -> BitReader<'_>
         ensures bits { result.bits ≡ bits_of self.now }
         ensures place { result.place ≡ place_of self.now }
@@ -115,7 +116,7 @@ impl Span {
         self.end <= self.begin
     }
 
-    /// The bits behind the first `count` of them.
+    /// The bits after the first `count` of them.
     pub fn behind(self, count: u128) -> Span
         requires { count ≤ self.end - self.begin }
         ensures { result ≡ record self { begin = self.begin + count } }
@@ -206,7 +207,7 @@ pub enum Flags {
 }
 
 impl Flags {
-    /// The next of them, where they stand in a source, which is then no longer one of them.
+    /// The next of them, where they are in a source, which is then no longer one of them.
     pub fn next(&mut self, source: BitReader<'_>) -> Option<bool>
         ensures { NextFlag (flags_in source.entry.bits self.old) result (flags_in source.entry.bits self.new) }
     {
@@ -216,7 +217,7 @@ impl Flags {
         }
     }
 
-    /// All of them that are left, in their order, where they stand in a source.
+    /// All of them that are left, in their order, where they are in a source.
     pub fn into_bitmap<'source>(self, source: BitReader<'source>) -> Bitmap<'source>
         ensures { result ≡ flags_in source.entry.bits self }
     {
@@ -231,7 +232,7 @@ impl Flags {
 /// left are no `Flags` here, which would make it larger.
 #[derive(Drop)]
 pub enum Extension {
-    /// All of it: it stands behind the root components.
+    /// All of it: it is after the root components.
     Ahead,
     /// The presence bits that are left, in the source.
     InPlace(Span),

@@ -33,11 +33,11 @@ module _ {X : Type 0} (p : X → Bool) where
       step true f e = absurd cc
       step false f e = f e ∙ ap Some (omega (arith))
 
-  -- the first that passes stands in front of an index
+  -- the first that passes is in front of an index
   first_in_front : (xs : List X) (k j : ℕ) → position p (take k xs) ≡ Some j → position p xs ≡ Some j
   first_in_front xs k j h = position_from-zero p xs ∙ from_front xs k 0 j (sym (position_from-zero p (take k xs)) ∙ h)
 
-  -- where none does, what stands there is the first that passes
+  -- where none does, what is there is the first that passes
   first_is_here : (xs : List X) (k : ℕ) (r : X) → slice_get xs k ≡ Some r → p r ≡ true → position p (take k xs) ≡ None
       → position p xs ≡ Some k
   first_is_here xs k r e h none =

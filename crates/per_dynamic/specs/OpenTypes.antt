@@ -135,7 +135,7 @@ is_open ts c = is_some (set_of (slice_get ts c.of))
 abbrev pub row_of : List Kind → List Component → List Value → Component → Option ℕ
 row_of ts cs xs c = option_and_then (told_in ts cs xs) (set_of (slice_get ts c.of))
 
--- the index that stands at an index of some
+-- the index that is at an index of some
 abbrev pub told_at : List (Option ℕ) → ℕ → Option ℕ
 told_at rows k = option_and_then (λ row. row) (slice_get rows k)
 

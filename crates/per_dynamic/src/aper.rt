@@ -65,7 +65,7 @@ pub fn decode(
     )
 }
 
-/// The value whose complete encoding (as `decode` takes it) the octets begin with, and the octets behind that.
+/// The value whose complete encoding (as `decode` takes it) the octets begin with, and the octets after that.
 ///
 /// Refuses with `OutOfMemory` where memory ran out, and else only octets that begin with no value of the type.
 pub fn decode_with_remainder<'octets>(

@@ -18,7 +18,7 @@ pub struct RefusedAt {
     /// The identifiers and the numbers of elements from the whole message to the innermost component that had begun,
     /// with a full stop between two of them (X.680 15); empty for the message itself.
     pub path: String,
-    /// How many bits stand in front of where the reader stood, as `per_located::Refusal` says.
+    /// How many bits are in front of where the reader stood, as `per_located::Refusal` says.
     pub bit: u128,
     /// How many bits the octets have.
     pub bits: u128,
@@ -126,7 +126,7 @@ fn part_of(kinds: &[Kind], place: usize, step: Step) -> Option<(&str, usize)> {
     }
 }
 
-/// The name and the place of the type of the component at an index, those behind the extension marker last.
+/// The name and the place of the type of the component at an index, those after the extension marker last.
 fn component_of(record: &Record, index: usize) -> Option<(&str, usize)> {
     let root = record.root();
     let component: &Component = match root.get(index) {

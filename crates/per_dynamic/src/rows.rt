@@ -58,7 +58,7 @@ fn row_of(
     told_in(kinds, root, root_values, set)
 }
 
-/// The index of a row that stands at an index of some, none where none does.
+/// The index of a row that is at an index of some, none where none does.
 pub(crate) fn told_at(rows: &[Option<usize>], index: usize) -> Option<usize>
     ensures { result ≡ told_at rows.now index }
 {

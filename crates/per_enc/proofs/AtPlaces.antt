@@ -1,4 +1,4 @@
--- What is written of what stands at a place (X.691 14, 23).
+-- What is written of what is at a place (X.691 14, 23).
 use Rattle.std.specs.Prelude.{Result}
 use Rattle.std.proofs.Common.{◌≡◌, refl, sym, ap, ◌∙◌, subst, ℕ, ◌+◌, ◌-◌, Bool, true, false, ltb-true, Option, Some, None, is_some, arith}
 use Rattle.rasn_types.specs.Variants.{variant_of, Variant}
@@ -13,16 +13,16 @@ use Rattle.per_core.specs.Counts.{constrained_whole, small}
 use Rattle.per_core.specs.Writers.{◌▹◌, written_if}
 use Rattle.per_core.specs.declared.encode_error.EncodeError.{EncodeError}
 use Rattle.per_write.specs.Faults.{IsMemory}
-use Rattle.per_write.specs.State.{Puts, PutsIn, State, StateAppends}
+use Rattle.per_write.specs.WriterState.{Puts, PutsIn, WriterState, StateAppends}
 use Rattle.per_enc.specs.Placed.{placed_front}
 use Rattle.per_enc.proofs.Placing.{two_put}
 
--- a list behind the marker is there where the marker is
+-- a list after the marker is there where the marker is
 marked : (addeds : Option ℕ) → is_some addeds ≡ is_extensible addeds
 marked None = refl
 marked (Some n) = refl
 
-pub root_put : (x m y : State) (c : ItemCounts) (p : Place) (i n : ℕ) (marker : Bool) (result : Result (Unit {0}) EncodeError) → p ≡ Root i → stands_in c p ≡ true → n ≡ c.roots - 1 → marker ≡ is_some c.addeds
+pub root_put : (x m y : WriterState) (c : ItemCounts) (p : Place) (i n : ℕ) (marker : Bool) (result : Result (Unit {0}) EncodeError) → p ≡ Root i → stands_in c p ≡ true → n ≡ c.roots - 1 → marker ≡ is_some c.addeds
     → StateAppends x (extension_bit marker false) m → PutsIn IsMemory (λ a. constrained_whole a (n + 1) i) m result y → Puts IsMemory (placed_front (variant_of x.codec) c p) x result y
 root_put x m y c (Root j) i n marker result e h k f b w =
     let same : i ≡ j = cc in
@@ -34,7 +34,7 @@ root_put x m y c (Root j) i n marker result e h k f b w =
     (subst (λ (z : ℕ). Puts IsMemory (constrained_whole (variant_of m.codec) (n + 1) z) m result y) same w)))
 root_put x m y c (Added j) i n marker result e h k f b w = absurd cc
 
-pub added_put : (x m y : State) (c : ItemCounts) (p : Place) (i : ℕ) (marker : Bool) (result : Result (Unit {0}) EncodeError) → p ≡ Added i → marker ≡ is_some c.addeds
+pub added_put : (x m y : WriterState) (c : ItemCounts) (p : Place) (i : ℕ) (marker : Bool) (result : Result (Unit {0}) EncodeError) → p ≡ Added i → marker ≡ is_some c.addeds
     → StateAppends x (extension_bit marker true) m → PutsIn IsMemory (λ a. small a i) m result y → Puts IsMemory (placed_front (variant_of x.codec) c p) x result y
 added_put x m y c (Added j) i marker result e f b w =
     let same : i ≡ j = cc in

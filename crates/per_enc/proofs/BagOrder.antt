@@ -11,10 +11,10 @@ use Rattle.per_core.specs.Counts.{counted, list_items}
 use Rattle.per_core.specs.Writers.{Writer}
 use Rattle.per_pieces.specs.Pieces.{Piece, writer_of}
 use Rattle.per_enc.specs.Members.{writers_of}
-use Rattle.per_enc.specs.Written.{AreWritten}
+use Rattle.per_enc.specs.Writable.{AreWritten}
 use Rattle.per_enc.proofs.MemberOrder.{bag_canon}
 use Rattle.rasn_schema.proofs.Sorting.{map_sorted}
-use Rattle.per_core.specs.WritingFaults.{HasElement, element_here, element_behind}
+use Rattle.per_core.specs.WritingFaults.{HasElement, element_here, element_after}
 
 module _ {X : Type 0} (less : X → X → Bool) where
   length_put : (x : X) (l : List X) → length (put less x l) ≡ suc (length l)
@@ -29,25 +29,25 @@ module _ {X : Type 0} (less : X → X → Bool) where
   length_sorted [] = refl
   length_sorted (x ∷ xs) = length_put x (sorted less xs) ∙ ap suc (length_sorted xs)
 
--- an element behind another one that moves on
+-- an element after another one that moves on
 element_turn : (v w u : Value) (us l : List Value) → (HasElement v (w ∷ us) → HasElement v l) → HasElement v (w ∷ u ∷ us) → HasElement v (u ∷ l)
-element_turn v w u us l r element_here = element_behind (r element_here)
-element_turn v w u us l r (element_behind element_here) = element_here
-element_turn v w u us l r (element_behind (element_behind k)) = element_behind (r (element_behind k))
+element_turn v w u us l r element_here = element_after (r element_here)
+element_turn v w u us l r (element_after element_here) = element_here
+element_turn v w u us l r (element_after (element_after k)) = element_after (r (element_after k))
 
 element_between : (v w u : Value) (us : List Value) → HasElement v (w ∷ us) → HasElement v (w ∷ u ∷ us)
 element_between v w u us element_here = element_here
-element_between v w u us (element_behind k) = element_behind (element_behind k)
+element_between v w u us (element_after k) = element_after (element_after k)
 
 element_back : (v w u : Value) (us l : List Value) → (HasElement v l → HasElement v (w ∷ us)) → HasElement v (u ∷ l) → HasElement v (w ∷ u ∷ us)
-element_back v w u us l r element_here = element_behind element_here
-element_back v w u us l r (element_behind k) = element_between v w u us (r k)
+element_back v w u us l r element_here = element_after element_here
+element_back v w u us l r (element_after k) = element_between v w u us (r k)
 
 element_first : (v w : Value) (us l : List Value) → HasElement v (w ∷ l) → (HasElement v l → HasElement v us) → HasElement v (w ∷ us)
 element_first v w us l element_here r = element_here
-element_first v w us l (element_behind k) r = element_behind (r k)
+element_first v w us l (element_after k) r = element_after (r k)
 
--- each element stands in the sorted list, and no other
+-- each element is in the sorted list, and no other
 module _ (by : Value → Value → Bool) where
   element_put : (v w : Value) (l : List Value) → HasElement v (w ∷ l) → HasElement v (put by w l)
   element_put v w [] h = h
@@ -60,7 +60,7 @@ module _ (by : Value → Value → Bool) where
   pub element_sorted : (v : Value) (l : List Value) → HasElement v l → HasElement v (sorted by l)
   element_sorted v [] h = h
   element_sorted v (w ∷ ws) element_here = element_put v w (sorted by ws) element_here
-  element_sorted v (w ∷ ws) (element_behind k) = element_put v w (sorted by ws) (element_behind (element_sorted v ws k))
+  element_sorted v (w ∷ ws) (element_after k) = element_put v w (sorted by ws) (element_after (element_sorted v ws k))
 
   element_taken : (v w : Value) (l : List Value) → HasElement v (put by w l) → HasElement v (w ∷ l)
   element_taken v w [] h = h

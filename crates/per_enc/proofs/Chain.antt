@@ -8,19 +8,19 @@ use Rattle.rasn_types.specs.declared.types.Codec.{Codec}
 use Rattle.rasn_schema.specs.Structures.{has_bit, presence_bits}
 use Rattle.rasn_schema.specs.Schemas.{Schema, Parts, no_parts, part, Presence, required, optional, group, default}
 use Rattle.rasn_traits.specs.Presences.{presence_bit}
-use Rattle.rasn_traits.specs.Scopes.{PresentsPart, presents_required, presents_there, presents_left_out, PresentsParts, presents_end, presents_next, refuses_required, refuses_there, refuses_bit, RefusesParts, refuses_here, refuses_behind}
+use Rattle.rasn_traits.specs.Scopes.{PresentsPart, presents_required, presents_there, presents_left_out, PresentsParts, presents_end, presents_next, refuses_required, refuses_there, refuses_bit, RefusesParts, refuses_here, refuses_after}
 use Rattle.per_core.specs.Canon.{canon, members, flag, flagged, if_shown, flags_of, bodies_of, shown}
 use Rattle.per_core.specs.Writers.{Writer, ◌▹◌, join, go_on, after, pad}
 use Rattle.per_pieces.specs.Pieces.{Appends, Piece, bit, to_octet, MayBegin, bits_of, bit_count, plain, set_bit, placed_bits, writer_of}
 use Rattle.per_pieces.proofs.Placed.{bits_of_append, bits_of_plain, plain_append, set_seam, settle_append, settle_plain, settled_then}
 use Rattle.per_core.specs.declared.encode_error.EncodeError.{EncodeError}
-use Rattle.per_core.specs.WritingFaults.{HasPart, part_here, part_behind}
+use Rattle.per_core.specs.WritingFaults.{HasPart, part_here, part_after}
 use Rattle.per_write.specs.Faults.{RefusesValue}
 use Rattle.per_write.specs.Presences.{Marks, IsUnmarked}
 use Rattle.per_write.specs.Rules.{encoder_rules}
-use Rattle.per_write.specs.State.{State, Presents}
-use Rattle.per_pieces.proofs.Writing.{none_behind, then_assoc, then_nothing}
-use Rattle.per_write.proofs.Gathering.{behind_at}
+use Rattle.per_write.specs.WriterState.{WriterState, Presents}
+use Rattle.per_pieces.proofs.Writing.{none_after, then_assoc, then_nothing}
+use Rattle.per_write.proofs.Gathering.{after_at}
 
 -- X.691 19.2: the presence bit of a component
 pub there_shown : (q : Presence) (v : Value) → presence_bit q (Some v) ≡ Some true → (shown q (Some v) ≡ Some true) × (flag q true ≡ true ∷ []) × (has_bit q ≡ 1)
@@ -50,15 +50,15 @@ some_bit q r true e = bit_of q e
     bit_of (default d) e = refl
 some_bit q r false e = (out_shown q r e).2
 
--- the position behind what was written from another on
-abbrev pub end_of : State → ℕ → ℕ
+-- the position after what was written from another on
+abbrev pub end_of : WriterState → ℕ → ℕ
 end_of x p = after p (placed_bits x.pieces.list p)
 
 -- what was written last, as it was to be written
-pub appended_at : (x y : State) (f : Writer) (h : Appends x.pieces f y.pieces) (p : ℕ) → MayBegin x.pieces p → f (end_of x p) ≡ Some (placed_bits h.behind (end_of x p))
-appended_at x y f h p b = behind_at p x.pieces.list h.behind f (ap (λ (ps : List Piece). writer_of ps p) (sym h.list) ∙ h.written p b)
+pub appended_at : (x y : WriterState) (f : Writer) (h : Appends x.pieces f y.pieces) (p : ℕ) → MayBegin x.pieces p → f (end_of x p) ≡ Some (placed_bits h.behind (end_of x p))
+appended_at x y f h p b = after_at p x.pieces.list h.behind f (ap (λ (ps : List Piece). writer_of ps p) (sym h.list) ∙ h.written p b)
 
--- the first of two writers, behind some pieces
+-- the first of two writers, after some pieces
 pub moved : (p : ℕ) (b c : List Piece) (w g : Writer) → w (after p (placed_bits b p)) ≡ Some (placed_bits c (after p (placed_bits b p))) → (writer_of b ▹ (w ▹ g)) p ≡ (writer_of (b ++ c) ▹ g) p
 moved p b c w g e = then_assoc (writer_of b) w g p ∙ ap (λ o. go_on o g p) (ap (join (placed_bits b p)) e ∙ sym (settled_then b c p))
 
@@ -92,19 +92,19 @@ count_append xs ys = ap length (bits_of_append xs ys) ∙ length-append (bits_of
 pub count_plain : (bs : Bits) → bit_count (plain bs) ≡ length bs
 count_plain bs = ap length (bits_of_plain bs)
 
--- Where the presence bits of components are still to be given: behind some pieces so many zeros, and others behind them.
-pub record Ready (x : State) (codec : Codec) (a b : List Piece) (n : ℕ) : Type 0 where
+-- Where the presence bits of components are still to be given: after some pieces so many zeros, and others after them.
+pub record Ready (x : WriterState) (codec : Codec) (a b : List Piece) (n : ℕ) : Type 0 where
   pub unfailed : x.failed ≡ false
   pub same : x.codec ≡ codec
   pub list : x.pieces.list ≡ a ++ (plain (replicate n false) ++ b)
   pub place : x.scope.presences.place ≡ bit_count a
   pub left : x.scope.presences.left ≡ n
 
-ready_for : {x : State} {codec : Codec} {a b : List Piece} {n m : ℕ} → n ≡ m → Ready x codec a b n → Ready x codec a b m
+ready_for : {x : WriterState} {codec : Codec} {a b : List Piece} {n m : ℕ} → n ≡ m → Ready x codec a b n → Ready x codec a b m
 ready_for {x} {codec} {a} {b} e h = subst (λ i. Ready x codec a b i) e h
 
--- one component: its presence bit, where it has one, is given, and its value stands at the end
-record Step (x m : State) (codec : Codec) (q : Presence) (s : Schema) (r : Option Value) (a b : List Piece) (n : ℕ) : Type 0 where
+-- one component: its presence bit, where it has one, is given, and its value is at the end
+record Step (x m : WriterState) (codec : Codec) (q : Presence) (s : Schema) (r : Option Value) (a b : List Piece) (n : ℕ) : Type 0 where
   flags : Bits
   body : List Piece
   is_flagged : (p : ℕ) → flagged q (shown q r) p ≡ Some flags
@@ -114,7 +114,7 @@ record Step (x m : State) (codec : Codec) (q : Presence) (s : Schema) (r : Optio
   ready : Ready m codec (a ++ plain flags) (b ++ body) n
 
 -- the next bit is given
-given : {x y : State} {codec : Codec} {a b : List Piece} {n : ℕ} (there : Bool) → Ready x codec a b (suc n) → Marks x there y → Ready y codec (a ++ bit there ∷ []) b n
+given : {x y : WriterState} {codec : Codec} {a b : List Piece} {n : ℕ} (there : Bool) → Ready x codec a b (suc n) → Marks x there y → Ready y codec (a ++ bit there ∷ []) b n
 given {x} {y} {codec} {a} {b} {n} there h m = record {
   unfailed = ap (λ z. z.failed) m.same ∙ h.unfailed;
   same = ap (λ z. z.codec) m.same ∙ h.same;
@@ -125,22 +125,22 @@ given {x} {y} {codec} {a} {b} {n} there h m = record {
 }
 
 -- it moves nothing
-same_place : {x y : State} {there : Bool} → Marks x there y → (p : ℕ) → end_of y p ≡ end_of x p
+same_place : {x y : WriterState} {there : Bool} → Marks x there y → (p : ℕ) → end_of y p ≡ end_of x p
 same_place {x} {y} {there} m p = ap (λ z. after p (placed_bits z.pieces.list p)) m.same ∙ ap (λ (n : ℕ). (p + n) % 8) (settle_set x.pieces.list x.scope.presences.place there p)
 
 -- a value that is refused has no encoding
-none_at : {e : EncodeError} {x : State} {codec : Codec} {s : Schema} {v : Value} → x.codec ≡ codec → RefusesValue e x s v → x.failed ≡ false → (p : ℕ) → canon (variant_of codec) s v p ≡ None
+none_at : {e : EncodeError} {x : WriterState} {codec : Codec} {s : Schema} {v : Value} → x.codec ≡ codec → RefusesValue e x s v → x.failed ≡ false → (p : ℕ) → canon (variant_of codec) s v p ≡ None
 none_at {s = s} {v = v} e h f p = ap (λ c. canon (variant_of c) s v p) (sym e) ∙ h.none f p
 
--- a value is put behind all that was there
-record PutBehind (x y : State) (codec : Codec) (s : Schema) (v : Value) (a b : List Piece) (n : ℕ) : Type 0 where
+-- a value is put after all that was there
+record PutAfter (x y : WriterState) (codec : Codec) (s : Schema) (v : Value) (a b : List Piece) (n : ℕ) : Type 0 where
   body : List Piece
   is_body : (p : ℕ) → MayBegin x.pieces p → canon (variant_of codec) s v (end_of x p) ≡ Some (placed_bits body (end_of x p))
   steady : y.pieces.placed ≡ x.pieces.placed
   ready : Ready y codec a (b ++ body) n
 
-put_behind : {x y : State} {codec : Codec} {a b : List Piece} {n : ℕ} (s : Schema) (v : Value) → Ready x codec a b n → Presents x s v y → PutBehind x y codec s v a b n
-put_behind {x} {y} {codec} {a} {b} {n} s v h w =
+put_after : {x y : WriterState} {codec : Codec} {a b : List Piece} {n : ℕ} (s : Schema) (v : Value) → Ready x codec a b n → Presents x s v y → PutAfter x y codec s v a b n
+put_after {x} {y} {codec} {a} {b} {n} s v h w =
     let c = w.appended.behind in
     record {
       body = c;
@@ -155,10 +155,10 @@ put_behind {x} {y} {codec} {a} {b} {n} s v h w =
       };
     }
 
-step : {x m : State} {codec : Codec} {q : Presence} {s : Schema} {r : Option Value} {a b : List Piece} {n : ℕ} → Ready x codec a b (has_bit q + n) → PresentsPart encoder_rules q s x r m → Step x m codec q s r a b n
+step : {x m : WriterState} {codec : Codec} {q : Presence} {s : Schema} {r : Option Value} {a b : List Piece} {n : ℕ} → Ready x codec a b (has_bit q + n) → PresentsPart encoder_rules q s x r m → Step x m codec q s r a b n
 unfolding shown
 step {x} {m} {codec} {q} {s} {r} {a} {b} {n} h (presents_required {v = v} w) =
-    let k = put_behind s v (ready_for (let e : 0 + n ≡ n = omega arith in e) h) w in
+    let k = put_after s v (ready_for (let e : 0 + n ≡ n = omega arith in e) h) w in
     record {
       flags = [];
       body = k.body;
@@ -170,7 +170,7 @@ step {x} {m} {codec} {q} {s} {r} {a} {b} {n} h (presents_required {v = v} w) =
     }
 step {x} {m} {codec} {q} {s} {r} {a} {b} {n} h (presents_there {m = y} {v = v} e t w) =
     let i = there_shown q v e in
-    let k = put_behind s v (given true (ready_for (let l = i.2 in let d : has_bit q + n ≡ suc n = omega arith in d) h) t) w in
+    let k = put_after s v (given true (ready_for (let l = i.2 in let d : has_bit q + n ≡ suc n = omega arith in d) h) t) w in
     let same : y.pieces.placed ≡ x.pieces.placed = ap (λ z. z.pieces.placed) t.same in
     record {
       flags = true ∷ [];
@@ -193,8 +193,8 @@ step {x} {m} {codec} {q} {s} {r} {a} {b} {n} h (presents_left_out e t) =
       ready = subst (λ ps. Ready m codec (a ++ bit false ∷ []) ps n) (sym (append-nil b)) (given false (ready_for (let l = i.2 in let d : has_bit q + n ≡ suc n = omega arith in d) h) t);
     }
 
--- all components: their presence bits are given, and their values stand behind one another
-pub record Laid (x y : State) (codec : Codec) (ps : Parts) (rs : List (Option Value)) (a b : List Piece) (k : ℕ) : Type 0 where
+-- all components: their presence bits are given, and their values are after one another
+pub record Laid (x y : WriterState) (codec : Codec) (ps : Parts) (rs : List (Option Value)) (a b : List Piece) (k : ℕ) : Type 0 where
   pub flags : Bits
   pub are_flags : (p : ℕ) → flags_of (members (variant_of codec) ps) rs p ≡ Some flags
   pub count : length flags ≡ presence_bits ps
@@ -212,11 +212,11 @@ regrouped a f g z b c = append_assoc a (plain ((f ++ g) ++ z) ++ b) c
     ∙ ap (λ (ps : List Piece). a ++ ps) (append_assoc (plain ((f ++ g) ++ z)) b c ∙ ap (λ (ps : List Piece). ps ++ (b ++ c)) (ap plain (append_assoc f g z) ∙ plain_append f (g ++ z)) ∙ append_assoc (plain f) (plain (g ++ z)) (b ++ c))
     ∙ sym (append_assoc a (plain f) (plain (g ++ z) ++ (b ++ c)))
 
-ready_length : {x : State} {codec : Codec} {a b : List Piece} {n : ℕ} → Ready x codec a b n → bit_count x.pieces.list ≡ bit_count a + (n + bit_count b)
+ready_length : {x : WriterState} {codec : Codec} {a b : List Piece} {n : ℕ} → Ready x codec a b n → bit_count x.pieces.list ≡ bit_count a + (n + bit_count b)
 ready_length {a = a} {b = b} {n = n} h = ap bit_count h.list ∙ count_append a (plain (replicate n false) ++ b)
     ∙ ap (λ (i : ℕ). bit_count a + i) (count_append (plain (replicate n false)) b ∙ ap (λ (i : ℕ). i + bit_count b) (count_plain (replicate n false) ∙ length-replicate n false))
 
-pub laid : (ps : Parts) (x y : State) (codec : Codec) (rs : List (Option Value)) (a b : List Piece) (k : ℕ) → Ready x codec a b (presence_bits ps + k) → PresentsParts encoder_rules ps x rs y → Laid x y codec ps rs a b k
+pub laid : (ps : Parts) (x y : WriterState) (codec : Codec) (rs : List (Option Value)) (a b : List Piece) (k : ℕ) → Ready x codec a b (presence_bits ps + k) → PresentsParts encoder_rules ps x rs y → Laid x y codec ps rs a b k
 unfolding canon shown
 laid no_parts x y codec rs a b k h presents_end =
     let r = ready_for (let e : 0 + k ≡ k = omega arith in e) h in
@@ -260,12 +260,12 @@ laid (part t q s ps) x y codec (r ∷ rs) a b k h (presents_next {m = m} c d) =
 laid (part t q s ps) x y codec [] a b k h c = elim c [ ]
 
 -- the additions are left alone
-part_keeps : {x m : State} {q : Presence} {s : Schema} {r : Option Value} → PresentsPart encoder_rules q s x r m → m.scope.additions ≡ x.scope.additions
+part_keeps : {x m : WriterState} {q : Presence} {s : Schema} {r : Option Value} → PresentsPart encoder_rules q s x r m → m.scope.additions ≡ x.scope.additions
 part_keeps (presents_required w) = ap (λ z. z.additions) w.beside
 part_keeps (presents_there e t w) = ap (λ z. z.additions) w.beside ∙ ap (λ z. z.scope.additions) t.same
 part_keeps (presents_left_out e t) = ap (λ z. z.scope.additions) t.same
 
-pub parts_keep : (ps : Parts) (x y : State) (rs : List (Option Value)) → PresentsParts encoder_rules ps x rs y → y.scope.additions ≡ x.scope.additions
+pub parts_keep : (ps : Parts) (x y : WriterState) (rs : List (Option Value)) → PresentsParts encoder_rules ps x rs y → y.scope.additions ≡ x.scope.additions
 parts_keep no_parts x y rs presents_end = refl
 parts_keep (part t q s ps) x y (r ∷ rs) (presents_next {m = m} c d) = parts_keep ps m y rs d ∙ part_keeps c
 parts_keep (part t q s ps) x y [] c = elim c [ ]
@@ -274,7 +274,7 @@ parts_keep (part t q s ps) x y [] c = elim c [ ]
 pub record RefusedPart (e : EncodeError) (codec : Codec) (ps : Parts) (rs : List (Option Value)) : Type 0 where
   pub s : Schema
   pub v : Value
-  pub m : State
+  pub m : WriterState
   pub has : HasPart s v ps rs
   pub refused : RefusesValue e m s v
   pub unfailed : m.failed ≡ false
@@ -282,12 +282,12 @@ pub record RefusedPart (e : EncodeError) (codec : Codec) (ps : Parts) (rs : List
   pub none : (p : ℕ) → bodies_of (members (variant_of codec) ps) rs p ≡ None
 
 -- a presence bit that is still to be given isn't refused
-not_refused : {e : EncodeError} {x : State} {codec : Codec} {a b : List Piece} {n : ℕ} → Ready x codec a b (suc n) → IsUnmarked e x → ⊥
+not_refused : {e : EncodeError} {x : WriterState} {codec : Codec} {a b : List Piece} {n : ℕ} → Ready x codec a b (suc n) → IsUnmarked e x → ⊥
 not_refused h (inl (k, inl z)) = let l = h.left in absurd (omega arith)
 not_refused h (inl (k, inr z)) = let l = ready_length h in let p = h.place in absurd (omega arith)
 not_refused h (inr (k, f)) = let g = h.unfailed in absurd cc
 
-pub refused_part : (e : EncodeError) (ps : Parts) (x : State) (codec : Codec) (rs : List (Option Value)) (a b : List Piece) (k : ℕ) → Ready x codec a b (presence_bits ps + k) → RefusesParts encoder_rules e ps x rs → RefusedPart e codec ps rs
+pub refused_part : (e : EncodeError) (ps : Parts) (x : WriterState) (codec : Codec) (rs : List (Option Value)) (a b : List Piece) (k : ℕ) → Ready x codec a b (presence_bits ps + k) → RefusesParts encoder_rules e ps x rs → RefusedPart e codec ps rs
 unfolding canon shown
 refused_part e (part t q s ps) x codec (r ∷ rs) a b k h (refuses_here (refuses_required {v = v} w)) = record {
   s = s;
@@ -315,18 +315,18 @@ refused_part e (part t q s ps) x codec (r ∷ rs) a b k h (refuses_here (refuses
 refused_part e (part t q s ps) x codec (r ∷ rs) a b k h (refuses_here (refuses_bit {b = there} i u)) =
     let one = some_bit q r there i in
     absurd (not_refused (ready_for (let l : has_bit q + presence_bits ps + k ≡ suc (presence_bits ps + k) = omega arith in l) h) u)
-refused_part e (part t q s ps) x codec (r ∷ rs) a b k h (refuses_behind {m = m} c w) =
+refused_part e (part t q s ps) x codec (r ∷ rs) a b k h (refuses_after {m = m} c w) =
     let i = step (ready_for (let l : has_bit q + presence_bits ps + k ≡ has_bit q + (presence_bits ps + k) = omega arith in l) h) c in
     let d = refused_part e ps m codec rs (a ++ plain i.flags) (b ++ i.body) k i.ready w in
     record {
       s = d.s;
       v = d.v;
       m = d.m;
-      has = part_behind d.has;
+      has = part_after d.has;
       refused = d.refused;
       unfailed = d.unfailed;
       same = d.same;
-      none = λ p. none_behind (if_shown (shown q r) r (canon (variant_of codec) s) p) (bodies_of (members (variant_of codec) ps) rs) p d.none;
+      none = λ p. none_after (if_shown (shown q r) r (canon (variant_of codec) s) p) (bodies_of (members (variant_of codec) ps) rs) p d.none;
     }
 refused_part e no_parts x codec rs a b k h c = elim c [ ]
 refused_part e (part t q s ps) x codec [] a b k h c = elim c [ ]

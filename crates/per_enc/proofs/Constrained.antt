@@ -21,7 +21,7 @@ use Rattle.per_core.specs.declared.encode_error.EncodeErrorKind.TheVariants.{Val
 use Rattle.per_core.specs.declared.encode_error.EncodeErrorKind.TheVariants.{IntegerTypeConversionFailed}
 use Rattle.per_core.specs.WritingFaults.{at_once, has_bound, IsPast, Outside}
 use Rattle.per_write.specs.Faults.{IsError, IsMemory, RefusesValue, Stands}
-use Rattle.per_write.specs.State.{State, StateAppends, Presents}
+use Rattle.per_write.specs.WriterState.{WriterState, StateAppends, Presents}
 use Rattle.per_write.proofs.Writing.{wrote_then, wrote_same}
 
 -- a number past an i128 has no form under a bound
@@ -68,17 +68,17 @@ number_canon : (a : Variant) (b : Bounds) (mark : Bool) (range : Bounds) (z : �
 unfolding canon number_form
 number_canon a b mark range z within h k p = sym (rw (h, k) refl)
 
-pub presents_within : (x y : State) (b range : Bounds) (z : ℤ) → holds range z ≡ true → holds b z ≡ true → StateAppends x (number_under (variant_of x.codec) b.low b.high z) y →
+pub presents_within : (x y : WriterState) (b range : Bounds) (z : ℤ) → holds range z ≡ true → holds b z ≡ true → StateAppends x (number_under (variant_of x.codec) b.low b.high z) y →
     Presents x (Schema.number b false range) (whole z) y
 presents_within x y b range z h k w = wrote_same x y _ _ (number_canon (variant_of x.codec) b false range z true h k) w
 
-pub presents_marked : (x m y : State) (b range : Bounds) (z : ℤ) → holds range z ≡ true → holds b z ≡ true → StateAppends x (just (false ∷ [])) m →
+pub presents_marked : (x m y : WriterState) (b range : Bounds) (z : ℤ) → holds range z ≡ true → holds b z ≡ true → StateAppends x (just (false ∷ [])) m →
     StateAppends m (number_under (variant_of m.codec) b.low b.high z) y → Presents x (Schema.number b true range) (whole z) y
 presents_marked x m y b range z h k v w =
     wrote_same x y _ _ (number_canon (variant_of x.codec) b true range z true h k)
     (wrote_then x m y _ _ v (subst (λ c. StateAppends m (number_under (variant_of c) b.low b.high z) y) v.same w))
 
-pub presents_outside : (x m y : State) (b range : Bounds) (z : ℤ) → holds range z ≡ true → holds b z ≡ false → StateAppends x (just (true ∷ [])) m →
+pub presents_outside : (x m y : WriterState) (b range : Bounds) (z : ℤ) → holds range z ≡ true → holds b z ≡ false → StateAppends x (just (true ∷ [])) m →
     StateAppends m (counted_octets (variant_of m.codec) (whole_bits z)) y → Presents x (Schema.number b true range) (whole z) y
 presents_outside x m y b range z h k v w =
     wrote_same x y _ _ (number_canon (variant_of x.codec) b true range z false h k)
@@ -89,7 +89,7 @@ past_none a b false range z h k p = sym (number_canon a b false range z true h k
 past_none a b true range z h k p =
     sym (number_canon a b true range z true h k.in_bounds p) ∙ ap (join (false ∷ [])) (under_past a b.low b.high z k.bound k.past (after p (false ∷ [])))
 
-refuses_past : (e : EncodeError) (x m : State) (b : Bounds) (mark : Bool) (range : Bounds) (z : ℤ) → m.codec ≡ x.codec → holds range z ≡ true → IsError IntegerTypeConversionFailed e m → IsPast b z →
+refuses_past : (e : EncodeError) (x m : WriterState) (b : Bounds) (mark : Bool) (range : Bounds) (z : ℤ) → m.codec ≡ x.codec → holds range z ≡ true → IsError IntegerTypeConversionFailed e m → IsPast b z →
     RefusesValue e x (Schema.number b mark range) (whole z)
 refuses_past e x m b mark range z c h i k = record {
   none = λ f p. past_none (variant_of x.codec) b mark range z h k p;
@@ -98,7 +98,7 @@ refuses_past e x m b mark range z c h i k = record {
 }
 
 -- out of bounds, without a mark
-pub refuses_outside : (e : EncodeError) (x : State) (b range : Bounds) (z : ℤ) (told : OutOfBounds) → holds range z ≡ true → IsError (ValueConstraintNotSatisfied told) e x → Outside b z (value_of told) (lower_of told) (upper_of told) →
+pub refuses_outside : (e : EncodeError) (x : WriterState) (b range : Bounds) (z : ℤ) (told : OutOfBounds) → holds range z ≡ true → IsError (ValueConstraintNotSatisfied told) e x → Outside b z (value_of told) (lower_of told) (upper_of told) →
     RefusesValue e x (Schema.number b false range) (whole z)
 refuses_outside e x b range z told h i k = record {
   none = λ f p. sym (number_canon (variant_of x.codec) b false range z false h k.out_of_bounds p);
@@ -107,7 +107,7 @@ refuses_outside e x b range z told h i k = record {
 }
 
 -- within bounds, or past an i128 or memory
-pub within_law : (x m y : State) (b : Bounds) (mark : Bool) (range : Bounds) (z : ℤ) (result : Result (Unit {0}) EncodeError) → m.codec ≡ x.codec → holds range z ≡ true →
+pub within_law : (x m y : WriterState) (b : Bounds) (mark : Bool) (range : Bounds) (z : ℤ) (result : Result (Unit {0}) EncodeError) → m.codec ≡ x.codec → holds range z ≡ true →
     OnOk result (Presents x (Schema.number b mark range) (whole z) y) → IfErr result (λ e. IsMemory e m ⊎ (IsError IntegerTypeConversionFailed e m × IsPast b z)) →
     Written encoder_rules (Schema.number b mark range) (whole z) x result y
 within_law x m y b mark range z (Ok u) c h w k = w
@@ -115,7 +115,7 @@ within_law x m y b mark range z (Err e) c h w (inl i) = inl (record { kind_is = 
 within_law x m y b mark range z (Err e) c h w (inr i) = inr (refuses_past e x m b mark range z c h i.0 i.1)
 
 -- outside, or memory
-pub outside_law : (x m y : State) (b : Bounds) (mark : Bool) (range : Bounds) (z : ℤ) (result : Result (Unit {0}) EncodeError) → m.codec ≡ x.codec →
+pub outside_law : (x m y : WriterState) (b : Bounds) (mark : Bool) (range : Bounds) (z : ℤ) (result : Result (Unit {0}) EncodeError) → m.codec ≡ x.codec →
     OnOk result (Presents x (Schema.number b mark range) (whole z) y) → IfErr result (λ e. IsMemory e m) →
     Written encoder_rules (Schema.number b mark range) (whole z) x result y
 outside_law x m y b mark range z (Ok u) c w k = w

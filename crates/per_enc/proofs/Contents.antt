@@ -25,7 +25,7 @@ use Rattle.per_core.specs.declared.encode_error.EncodeErrorKind.TheVariants.{Var
 use Rattle.per_core.specs.WritingFaults.{in_contents}
 use Rattle.per_write.specs.Faults.{IsMemory, RefusesValue, Stands}
 use Rattle.per_write.specs.Rules.{encoder_rules}
-use Rattle.per_write.specs.State.{empty_scope, Presents, Puts, State, view}
+use Rattle.per_write.specs.WriterState.{empty_scope, Presents, Puts, WriterState, view}
 use Rattle.per_write.specs.Unplaced.{BeginsUnplaced, OutsideUnplaced}
 use Rattle.per_write.proofs.Refusing.{no_contents}
 use Rattle.per_write.proofs.Writing.{wrote_same}
@@ -33,7 +33,7 @@ use Rattle.per_pieces.specs.Turns.{awaits, counts, Enclosing}
 use Rattle.per_enc.specs.Rules.{encoding_rules, noting}
 use Rattle.per_enc.specs.Scopes.{OpensContents}
 use Rattle.per_enc.proofs.ChoiceScopes.{from_start}
-use Rattle.per_enc.proofs.Around.{memory_noted}
+use Rattle.per_enc.proofs.AroundSets.{memory_noted}
 use Rattle.per_enc.proofs.Noting.{refuses_noted}
 
 -- X.691 11.2: the octets that contain a value
@@ -42,7 +42,7 @@ unfolding canon
 contents_form a s v p = refl
 
 -- a fault of what is contained is one of what contains it
-stands_in_contents : (kind : EncodeErrorKind) (x i : State) (s : Schema) (v : Value) → i.failed ≡ false → Stands kind i s v → Stands kind x (Schema.containing s) v
+stands_in_contents : (kind : EncodeErrorKind) (x i : WriterState) (s : Schema) (v : Value) → i.failed ≡ false → Stands kind i s v → Stands kind x (Schema.containing s) v
 stands_in_contents (ValueConstraintNotSatisfied told) x i s v f t = in_contents t
 stands_in_contents IntegerTypeConversionFailed x i s v f t = in_contents t
 stands_in_contents AlreadyFailed x i s v f t = absurd cc
@@ -56,7 +56,7 @@ stands_in_contents OutOfMemory x i s v f t = absurd t
 stands_in_contents OutOfTurn x i s v f t = in_contents t
 stands_in_contents WrongKind x i s v f t = in_contents t
 
-refuses_contents : (e : EncodeError) (x i : State) (s : Schema) (v : Value) → i.failed ≡ false → i.codec ≡ x.codec → RefusesValue e i s v → RefusesValue e x (Schema.containing s) v
+refuses_contents : (e : EncodeError) (x i : WriterState) (s : Schema) (v : Value) → i.failed ≡ false → i.codec ≡ x.codec → RefusesValue e i s v → RefusesValue e x (Schema.containing s) v
 refuses_contents e x i s v f c r = record {
   none = λ g p. (let a = variant_of x.codec in
       let n : canon a s v 0 ≡ None = ap (λ (b : Codec). canon (variant_of b) s v 0) (sym c) ∙ r.none f 0 in
@@ -68,8 +68,8 @@ refuses_contents e x i s v f c r = record {
 pub contents_opened : (x i : Encoding) (o : OutsideUnplaced) (set : Enclosing) → set ≡ (noting x).set → i.set ≡ counts (awaits 1) → BeginsUnplaced (noting x).writer o i.writer
     → OpenedContents encoding_rules OpensContents x (Ok (o, set)) i
 contents_opened x i o set w n h =
-    let f : i.writer.failed ≡ false = ap (λ (z : State). z.failed) h.same ∙ h.begun in
-    let c : i.writer.codec ≡ (noting x).writer.codec = ap (λ (z : State). z.codec) h.same in (
+    let f : i.writer.failed ≡ false = ap (λ (z : WriterState). z.failed) h.same ∙ h.begun in
+    let c : i.writer.codec ≡ (noting x).writer.codec = ap (λ (z : WriterState). z.codec) h.same in (
       record { opened = h; waits = w; inside = n },
       record {
         room = λ e m. memory_noted e x (record { kind_is = m.kind_is; codec_is = m.codec_is ∙ c });
@@ -78,24 +78,24 @@ contents_opened x i o set w n h =
     )
 
 -- what was written without a place is the value, from the start of an octet
-contents : (x i j : State) (o : OutsideUnplaced) (s : Schema) (v : Value) → BeginsUnplaced x o i → Presents i s v j → view j 0 ≡ canon (variant_of x.codec) s v 0
+contents : (x i j : WriterState) (o : OutsideUnplaced) (s : Schema) (v : Value) → BeginsUnplaced x o i → Presents i s v j → view j 0 ≡ canon (variant_of x.codec) s v 0
 contents x i j o s v h w =
-    let u : Presents (record x { pieces = unplaced; scope = empty_scope true }) s v j = subst (λ (z : State). Presents z s v j) h.same w in
+    let u : Presents (record x { pieces = unplaced; scope = empty_scope true }) s v j = subst (λ (z : WriterState). Presents z s v j) h.same w in
     u.appended.written 0 (λ e. absurd (let t : false ≡ true = e in cc)) ∙ from_start (canon (variant_of x.codec) s v) 0 (omega arith)
 
-pub contents_closed : (x i j y : State) (o : OutsideUnplaced) (s : Schema) (v : Value) (result : Result (Unit {0}) EncodeError) → BeginsUnplaced x o i → Presents i s v j
+pub contents_closed : (x i j y : WriterState) (o : OutsideUnplaced) (s : Schema) (v : Value) (result : Result (Unit {0}) EncodeError) → BeginsUnplaced x o i → Presents i s v j
     → Puts IsMemory (open_bits (variant_of j.codec) (view j 0)) (record j { pieces = o.pieces; scope = o.scope }) result y → Written encoder_rules (Schema.containing s) v x result y
 contents_closed x i j y o s v result h w c = go result puts
   where
     same : j.codec ≡ x.codec
-    same = w.same ∙ ap (λ (z : State). z.codec) h.same
+    same = w.same ∙ ap (λ (z : WriterState). z.codec) h.same
 
     back : record j { pieces = x.pieces; scope = x.scope } ≡ x
     back = ap₂ (λ (f : Bool) (b : Codec). record { pieces = x.pieces; failed = f; codec = b; scope = x.scope }) (w.left ∙ sym h.begun) same
 
     puts : Puts IsMemory (open_bits (variant_of x.codec) (view j 0)) x result y
     puts = subst (λ (b : Codec). Puts IsMemory (open_bits (variant_of b) (view j 0)) x result y) same
-        (subst (λ (z : State). Puts IsMemory (open_bits (variant_of j.codec) (view j 0)) z result y) back
+        (subst (λ (z : WriterState). Puts IsMemory (open_bits (variant_of j.codec) (view j 0)) z result y) back
         (subst (λ (q : OutsideUnplaced). Puts IsMemory (open_bits (variant_of j.codec) (view j 0)) (record j { pieces = q.pieces; scope = q.scope }) result y) h.waits c))
 
     go : (r : Result (Unit {0}) EncodeError) → Puts IsMemory (open_bits (variant_of x.codec) (view j 0)) x r y → Written encoder_rules (Schema.containing s) v x r y

@@ -12,29 +12,29 @@ use Rattle.per_pieces.specs.Pieces.{placed_bits}
 use Rattle.per_write.specs.Additions.{ClosesOrNot, is_group_there, Opens, OutsideAddition}
 use Rattle.per_core.specs.declared.encode_error.EncodeError.{EncodeError}
 use Rattle.per_write.specs.Rules.{encoder_rules}
-use Rattle.per_write.specs.State.{Presents, State}
-use Rattle.per_enc.specs.Records.{behind_marker, part_count}
-use Rattle.per_enc.proofs.Given.{group_closed, none_cut, required_counted}
+use Rattle.per_write.specs.WriterState.{Presents, WriterState}
+use Rattle.per_enc.specs.Records.{after_marker, part_count}
+use Rattle.per_enc.proofs.GivenAdditions.{group_closed, none_cut, required_counted}
 
 pub counted : (ps : Parts) → count ps ≡ part_count ps
 counted no_parts = refl
 counted (part t p s ps) = let e = counted ps in omega arith
 
--- how many additions stand behind a marker, where there is one
-pub counted_behind : (added : Option ℕ) (marker : Bool) (qs : Parts) → marker ≡ is_extensible added → addeds_of added ≡ count qs → added ≡ behind_marker marker (part_count qs)
-counted_behind None marker qs m e = ap (λ (b : Bool). behind_marker b (part_count qs)) (sym m)
-counted_behind (Some n) marker qs m e = ap Some (e ∙ counted qs) ∙ ap (λ (b : Bool). behind_marker b (part_count qs)) (sym m)
+-- how many additions are after a marker, where there is one
+pub counted_after : (added : Option ℕ) (marker : Bool) (qs : Parts) → marker ≡ is_extensible added → addeds_of added ≡ count qs → added ≡ after_marker marker (part_count qs)
+counted_after None marker qs m e = ap (λ (b : Bool). after_marker b (part_count qs)) (sym m)
+counted_after (Some n) marker qs m e = ap Some (e ∙ counted qs) ∙ ap (λ (b : Bool). after_marker b (part_count qs)) (sym m)
 
 none_there : (qs : Parts) → 0 ≡ count qs → qs ≡ no_parts
 none_there no_parts e = refl
 none_there (part t p s qs) e = absurd (omega (arith, e))
 
-pub none_behind : (added : Option ℕ) (marker : Bool) (qs : Parts) → marker ≡ is_extensible added → addeds_of added ≡ count qs → marker ≡ false → qs ≡ no_parts
-none_behind None marker qs m e n = none_there qs e
-none_behind (Some k) marker qs m e n = absurd cc
+pub none_after : (added : Option ℕ) (marker : Bool) (qs : Parts) → marker ≡ is_extensible added → addeds_of added ≡ count qs → marker ≡ false → qs ≡ no_parts
+none_after None marker qs m e n = none_there qs e
+none_after (Some k) marker qs m e n = absurd cc
 
 -- a group is closed, of which a component is required, or none is
-pub group_of_closed : (s : Schema) (has : Bool) (x i j y : State) (o : OutsideAddition) (v : Value) (result : Result (Unit {0}) EncodeError) → IsGroupOf has s → Opens x o i → Presents i s v j
+pub group_of_closed : (s : Schema) (has : Bool) (x i j y : WriterState) (o : OutsideAddition) (v : Value) (result : Result (Unit {0}) EncodeError) → IsGroupOf has s → Opens x o i → Presents i s v j
     → ClosesOrNot (is_group_there has (placed_bits j.pieces.list 0)) o j result y → AdditionClosed encoder_rules s (settle group s v) x result y
 group_of_closed (Schema.sequence listed ps marker qs) has x i j y o v result k h w c =
     group_closed ps marker qs x i j y o v has result (k ∙ ap (nat_lt (presence_bits ps)) (counted ps) ∙ required_counted ps) h w c

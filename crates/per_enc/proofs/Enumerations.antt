@@ -8,7 +8,7 @@ use Rattle.rasn_schema.specs.Schemas.{Schema}
 use Rattle.per_core.specs.Canon.{canon, extension_bit, item_of}
 use Rattle.per_core.specs.Counts.{constrained_whole, small}
 use Rattle.per_core.specs.Writers.{written_if}
-use Rattle.per_write.specs.State.{State, StateAppends, Presents}
+use Rattle.per_write.specs.WriterState.{WriterState, StateAppends, Presents}
 use Rattle.per_write.proofs.Writing.{wrote_then}
 
 -- an item before the marker is one of those there
@@ -17,7 +17,7 @@ root_below r e (item root j) i h d = h.1
 root_below r e (item added j) i h d = absurd cc
 root_below r e _ i h d = absurd h
 
-pub presents_root : (x m y : State) (r e : ℕ) (ext mark : Bool) (v : Value) (n i : ℕ) → IsItemAt r e v i → is_added v ≡ false → n + 1 ≡ r → mark ≡ ext → StateAppends x (extension_bit mark false) m
+pub presents_root : (x m y : WriterState) (r e : ℕ) (ext mark : Bool) (v : Value) (n i : ℕ) → IsItemAt r e v i → is_added v ≡ false → n + 1 ≡ r → mark ≡ ext → StateAppends x (extension_bit mark false) m
     → StateAppends m (constrained_whole (variant_of m.codec) (n + 1) i) y → Presents x (Schema.items r e ext) v y
 unfolding canon item_of
 presents_root x m y r e ext mark (item root j) n i h d k f b w =
@@ -28,7 +28,7 @@ presents_root x m y r e ext mark (item root j) n i h d k f b w =
 presents_root x m y r e ext mark (item added j) n i h d k f b w = absurd cc
 presents_root x m y r e ext mark _ n i h d k f b w = absurd h
 
-pub presents_added : (x m y : State) (r e : ℕ) (ext mark : Bool) (v : Value) (i : ℕ) → IsItemAt r e v i → is_added v ≡ true → mark ≡ ext → StateAppends x (extension_bit mark true) m
+pub presents_added : (x m y : WriterState) (r e : ℕ) (ext mark : Bool) (v : Value) (i : ℕ) → IsItemAt r e v i → is_added v ≡ true → mark ≡ ext → StateAppends x (extension_bit mark true) m
     → StateAppends m (small (variant_of m.codec) i) y → Presents x (Schema.items r e ext) v y
 unfolding canon item_of
 presents_added x m y r e ext mark (item added j) i h d f b w =

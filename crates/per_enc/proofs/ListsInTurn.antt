@@ -19,14 +19,14 @@ use Rattle.per_write.specs.declared.lists.UnwrittenElements.{UnwrittenElements}
 use Rattle.per_write.specs.Faults.{IsMemory, RefusesValue}
 use Rattle.per_write.specs.Lists.{IsOpenList as IsOpenListIn, NextElement}
 use Rattle.per_write.specs.Rules.{encoder_rules}
-use Rattle.per_write.specs.State.{empty_scope, Scope, State, within}
+use Rattle.per_write.specs.WriterState.{empty_scope, Frame, WriterState, within}
 use Rattle.per_write.specs.Unplaced.{OutsideUnplaced}
 use Rattle.per_pieces.specs.Turns.{counts, Enclosing, in_list, is_between}
 use Rattle.per_enc.specs.Bags.{IsOpenBag as IsOpenBagIn, NextMember, OpenBag, outside}
 use Rattle.per_enc.specs.Rules.{encoding_rules, noting}
 use Rattle.per_enc.specs.Scopes.{AwaitsValues, closed_off, IsAmidElement, IsOpenBag, IsOpenList}
-use Rattle.per_enc.proofs.Around.{memory_noted}
-use Rattle.per_enc.proofs.Inside.{value_inside}
+use Rattle.per_enc.proofs.AroundSets.{memory_noted}
+use Rattle.per_enc.proofs.NoOpenSet.{value_inside}
 use Rattle.per_enc.proofs.Noting.{behaves_begun, refuses_alike, refuses_noted, written_noted}
 use Rattle.per_enc.proofs.OpenBags.{left_within}
 use Rattle.per_enc.proofs.Turns.{behaves_unclosed, not_unclosed, unclosed_untimely, values_untimely}
@@ -38,46 +38,46 @@ memory_around e x m = memory_noted e x (record { kind_is = m.kind_is; codec_is =
 refuses_around : (e : EncodeError) (x : Encoding) (s : Schema) (v : Value) → RefusesValue e (closed_off (noting x).writer) s v → RefusesValue e x.writer s v
 refuses_around e x s v h = refuses_noted e x s v (refuses_alike e (closed_off (noting x).writer) (noting x).writer s v refl refl h)
 
-written_back : (x y : State) (scope : Scope) (s : Schema) (v : Value) (result : Result (Unit {0}) EncodeError) → Some scope ≡ Some x.scope → Written encoder_rules s v (closed_off x) result y
+written_back : (x y : WriterState) (scope : Frame) (s : Schema) (v : Value) (result : Result (Unit {0}) EncodeError) → Some scope ≡ Some x.scope → Written encoder_rules s v (closed_off x) result y
     → Written encoder_rules s v x result (record y { scope = scope })
 written_back x y scope s v (Ok u) e w = record { begun = w.begun; left = w.left; same = w.same; beside = same_Some scope x.scope e; appended = w.appended }
 written_back x y scope s v (Err d) e (inl m) = inl (record { kind_is = m.kind_is; codec_is = m.codec_is })
 written_back x y scope s v (Err d) e (inr r) = inr (refuses_alike d (closed_off x) x s v refl refl r)
 
 -- no presence bit and no addition is left in it
-record Vacant (y : State) : Type 0 where
+record Vacant (y : WriterState) : Type 0 where
   presences : y.scope.presences.left ≡ 0
   additions : y.scope.additions ≡ None
 
-vacant_in : (b : Bool) (x y : State) → (within b y).scope ≡ (closed_off x).scope → Vacant y
-vacant_in b x y e = record { presences = ap (λ (s : Scope). s.presences.left) e; additions = ap (λ (s : Scope). s.additions) e }
+vacant_in : (b : Bool) (x y : WriterState) → (within b y).scope ≡ (closed_off x).scope → Vacant y
+vacant_in b x y e = record { presences = ap (λ (s : Frame). s.presences.left) e; additions = ap (λ (s : Frame). s.additions) e }
 
-vacant_alike : (y z : State) → z.scope ≡ y.scope → Vacant y → Vacant z
-vacant_alike y z e v = record { presences = ap (λ (s : Scope). s.presences.left) e ∙ v.presences; additions = ap (λ (s : Scope). s.additions) e ∙ v.additions }
+vacant_alike : (y z : WriterState) → z.scope ≡ y.scope → Vacant y → Vacant z
+vacant_alike y z e v = record { presences = ap (λ (s : Frame). s.presences.left) e ∙ v.presences; additions = ap (λ (s : Frame). s.additions) e ∙ v.additions }
 
-alone : (z : State) → z.scope ≡ empty_scope true → Vacant z
-alone z e = record { presences = ap (λ (s : Scope). s.presences.left) e; additions = ap (λ (s : Scope). s.additions) e }
+alone : (z : WriterState) → z.scope ≡ empty_scope true → Vacant z
+alone z e = record { presences = ap (λ (s : Frame). s.presences.left) e; additions = ap (λ (s : Frame). s.additions) e }
 
 awaits_in : (n : ℕ) (y : Encoding) → y.writer.failed ≡ false → y.set ≡ counts (in_list n) → Vacant y.writer → AwaitsValues n y
 awaits_in n y f t v = record { unfailed = f; turn = t; presences = v.presences; additions = v.additions }
 
 -- a list is opened
-pub list_opened : (size : Size) (mark : Bool) (n : ℕ) (x y : Encoding) (l : UnwrittenElements) (scope : Scope) (set : Enclosing) → scope ≡ (noting x).writer.scope → set ≡ (noting x).set → y.set ≡ counts (in_list 0)
+pub list_opened : (size : Size) (mark : Bool) (n : ℕ) (x y : Encoding) (l : UnwrittenElements) (scope : Frame) (set : Enclosing) → scope ≡ (noting x).writer.scope → set ≡ (noting x).set → y.set ≡ counts (in_list 0)
     → ListOpened encoder_rules IsOpenListIn size mark n (closed_off (noting x).writer) (Ok l) y.writer → ListOpened encoding_rules IsOpenList size mark n x (Ok ((l, Some scope), set)) y
 list_opened size mark n x y l scope set o w i h = λ e vs c. record { opened = (h e vs c, ap Some o); waits = w; inside = i }
 
-pub list_refused : (size : Size) (mark : Bool) (n : ℕ) (x : Encoding) (e : EncodeError) (y : State) (z : Encoding) → ListOpened encoder_rules IsOpenListIn size mark n (closed_off (noting x).writer) (Err e) y
+pub list_refused : (size : Size) (mark : Bool) (n : ℕ) (x : Encoding) (e : EncodeError) (y : WriterState) (z : Encoding) → ListOpened encoder_rules IsOpenListIn size mark n (closed_off (noting x).writer) (Err e) y
     → ListOpened encoding_rules IsOpenList size mark n x (Err e) z
 list_refused size mark n x e y z (inl m) = inl (memory_around e x m)
 list_refused size mark n x e y z (inr r) = inr (λ s vs c. refuses_around e x (Schema.list s size mark) (list_value vs) (r s vs c))
 
-pub list_awaits : (size : Size) (mark : Bool) (n : ℕ) (x : State) (y : Encoding) (l : UnwrittenElements) → ListOpened encoder_rules IsOpenListIn size mark n (closed_off x) (Ok l) y.writer → y.set ≡ counts (in_list 0) → AwaitsValues 0 y
+pub list_awaits : (size : Size) (mark : Bool) (n : ℕ) (x : WriterState) (y : Encoding) (l : UnwrittenElements) → ListOpened encoder_rules IsOpenListIn size mark n (closed_off x) (Ok l) y.writer → y.set ≡ counts (in_list 0) → AwaitsValues 0 y
 list_awaits size mark n x y l h i =
     let w = (h Schema.null (replicate n nothing) (length-replicate n nothing)).remains in
     awaits_in 0 y w.left i (vacant_in l.around x y.writer w.beside)
 
 -- a call before an element
-element_awaited : (f : ListForm) (x : Encoding) (v : Value) (vs : List Value) (l m : UnwrittenElements) (scope : Option Scope) (set : Enclosing) (y z : Encoding) (result : Result (Unit {0}) EncodeError) → OnOk result (z.set ≡ counts (in_list 1))
+element_awaited : (f : ListForm) (x : Encoding) (v : Value) (vs : List Value) (l m : UnwrittenElements) (scope : Option Frame) (set : Enclosing) (y z : Encoding) (result : Result (Unit {0}) EncodeError) → OnOk result (z.set ≡ counts (in_list 1))
     → WritesNext encoder_rules IsOpenListIn l y.writer result m z.writer → IsOpenList f x (v ∷ vs) ((l, scope), set) y → ElementAwaited encoding_rules IsOpenList f x v vs result ((m, scope), set) z
 element_awaited f x v vs l m scope set y z (Ok u) t w h =
     let a = w.law f (closed_off (noting x).writer) v vs h.opened.0 in
@@ -92,7 +92,7 @@ element_awaited f x v vs l m scope set y z (Err d) t w h = refused (w.law f (clo
     refused (inl q) = inl (memory_around d x q)
     refused (inr r) = inr (refuses_around d x (schema_of f) (list_value f.all) r)
 
-pub element_next : (l m : UnwrittenElements) (scope : Option Scope) (set : Enclosing) (y z : Encoding) (result : Result (Unit {0}) EncodeError) → y.writer.failed ≡ false → is_between y.set ≡ true → OnOk result (z.set ≡ counts (in_list 1))
+pub element_next : (l m : UnwrittenElements) (scope : Option Frame) (set : Enclosing) (y z : Encoding) (result : Result (Unit {0}) EncodeError) → y.writer.failed ≡ false → is_between y.set ≡ true → OnOk result (z.set ≡ counts (in_list 1))
     → NextElement l y.writer result m z.writer → WritesNextInTurn encoding_rules AwaitsValues IsOpenList ((l, scope), set) y result ((m, scope), set) z
 element_next l m scope set y z result f b t w = record {
   goes_on = record {
@@ -109,7 +109,7 @@ element_next l m scope set y z result f b t w = record {
     on_ok (Err d) i g e v = tt
 
 -- one that comes out of turn
-pub element_untimely : (l m : UnwrittenElements × Option Scope) (set : Enclosing) (y z : Encoding) (e : EncodeError) → IsAmidElement e y → z.writer.failed ≡ true → z.writer.codec ≡ y.writer.codec
+pub element_untimely : (l m : UnwrittenElements × Option Frame) (set : Enclosing) (y z : Encoding) (e : EncodeError) → IsAmidElement e y → z.writer.failed ≡ true → z.writer.codec ≡ y.writer.codec
     → WritesNextInTurn encoding_rules AwaitsValues IsOpenList (l, set) y (Err e) (m, set) z
 element_untimely l m set y z e u f k = record {
   goes_on = record {
@@ -122,7 +122,7 @@ element_untimely l m set y z e u f k = record {
 }
 
 -- a list is closed
-pub list_closed : (l : UnwrittenElements) (o : Option Scope) (scope : Scope) (set : Enclosing) (y : Encoding) (z : State) (result : Result (Unit {0}) EncodeError) → o ≡ Some scope → y.writer.failed ≡ false → is_between y.set ≡ true
+pub list_closed : (l : UnwrittenElements) (o : Option Frame) (scope : Frame) (set : Enclosing) (y : Encoding) (z : WriterState) (result : Result (Unit {0}) EncodeError) → o ≡ Some scope → y.writer.failed ≡ false → is_between y.set ≡ true
     → ClosesList encoder_rules IsOpenListIn l y.writer result z → ClosesListInTurn encoding_rules AwaitsValues IsOpenList ((l, o), set) y result (record { writer = record z { scope = scope }; set = set })
 list_closed l o scope set y z result e f b w = record {
   closes = record {
@@ -135,7 +135,7 @@ list_closed l o scope set y z result e f b w = record {
 }
 
 -- by hand a list is always open where a scope waits
-pub list_without_scope : (l : UnwrittenElements) (o : Option Scope) (set : Enclosing) (y : Encoding) (z : State) (result : Result (Unit {0}) EncodeError) → o ≡ None → y.writer.failed ≡ false → is_between y.set ≡ true
+pub list_without_scope : (l : UnwrittenElements) (o : Option Frame) (set : Enclosing) (y : Encoding) (z : WriterState) (result : Result (Unit {0}) EncodeError) → o ≡ None → y.writer.failed ≡ false → is_between y.set ≡ true
     → ClosesList encoder_rules IsOpenListIn l y.writer result z → ClosesListInTurn encoding_rules AwaitsValues IsOpenList ((l, o), set) y result (record { writer = z; set = set })
 list_without_scope l o set y z result e f b w = record {
   closes = record {
@@ -146,7 +146,7 @@ list_without_scope l o set y z result e f b w = record {
   untimely = λ n i a. values_untimely n i y result a b;
 }
 
-pub list_untimely : (l : UnwrittenElements × Option Scope) (set : Enclosing) (y z : Encoding) (e : EncodeError) → IsAmidElement e y → z.writer.failed ≡ true → z.writer.codec ≡ y.writer.codec
+pub list_untimely : (l : UnwrittenElements × Option Frame) (set : Enclosing) (y z : Encoding) (e : EncodeError) → IsAmidElement e y → z.writer.failed ≡ true → z.writer.codec ≡ y.writer.codec
     → ClosesListInTurn encoding_rules AwaitsValues IsOpenList (l, set) y (Err e) z
 list_untimely l set y z e u f k = record {
   closes = record {
@@ -158,29 +158,29 @@ list_untimely l set y z e u f k = record {
 }
 
 -- a bag is opened
-pub bag_opened : (size : Size) (mark : Bool) (n : ℕ) (x y : Encoding) (b : OpenBag) (scope : Scope) (set : Enclosing) → scope ≡ (noting x).writer.scope → set ≡ (noting x).set → y.set ≡ counts (in_list 0)
+pub bag_opened : (size : Size) (mark : Bool) (n : ℕ) (x y : Encoding) (b : OpenBag) (scope : Frame) (set : Enclosing) → scope ≡ (noting x).writer.scope → set ≡ (noting x).set → y.set ≡ counts (in_list 0)
     → BagOpened encoder_rules IsOpenBagIn size mark n (closed_off (noting x).writer) (Ok b) y.writer → BagOpened encoding_rules IsOpenBag size mark n x (Ok ((b, Some scope), set)) y
 bag_opened size mark n x y b scope set o w i h = λ e vs c. record { opened = (h e vs c, ap Some o); waits = w; inside = i }
 
-pub bag_refused : (size : Size) (mark : Bool) (n : ℕ) (x : Encoding) (e : EncodeError) (y : State) (z : Encoding) → BagOpened encoder_rules IsOpenBagIn size mark n (closed_off (noting x).writer) (Err e) y
+pub bag_refused : (size : Size) (mark : Bool) (n : ℕ) (x : Encoding) (e : EncodeError) (y : WriterState) (z : Encoding) → BagOpened encoder_rules IsOpenBagIn size mark n (closed_off (noting x).writer) (Err e) y
     → BagOpened encoding_rules IsOpenBag size mark n x (Err e) z
 bag_refused size mark n x e y z (inl m) = inl (memory_around e x m)
 bag_refused size mark n x e y z (inr r) = inr (λ s vs c. refuses_around e x (Schema.set_of s size mark) (bag_of vs) (r s vs c))
 
-bag_vacant : (f : ListForm) (x : State) (vs : List Value) (b : OpenBag) (y : State) → b.waiting ≡ None → IsOpenBagIn f (closed_off x) vs b y → Vacant y
+bag_vacant : (f : ListForm) (x : WriterState) (vs : List Value) (b : OpenBag) (y : WriterState) → b.waiting ≡ None → IsOpenBagIn f (closed_off x) vs b y → Vacant y
 bag_vacant f x vs b y e h =
     let w = (h.amid f.all refl).remains in
     let same : outside b.waiting y ≡ y = ap (λ (o : Option OutsideUnplaced). outside o y) e in
-    vacant_alike (outside b.waiting y) y (ap (λ (z : State). z.scope) (sym same)) (vacant_in b.list.around x (outside b.waiting y) w.beside)
+    vacant_alike (outside b.waiting y) y (ap (λ (z : WriterState). z.scope) (sym same)) (vacant_in b.list.around x (outside b.waiting y) w.beside)
 
-pub bag_awaits : (size : Size) (mark : Bool) (n : ℕ) (x : State) (y : Encoding) (b : OpenBag) → b.waiting ≡ None → BagOpened encoder_rules IsOpenBagIn size mark n (closed_off x) (Ok b) y.writer → y.set ≡ counts (in_list 0)
+pub bag_awaits : (size : Size) (mark : Bool) (n : ℕ) (x : WriterState) (y : Encoding) (b : OpenBag) → b.waiting ≡ None → BagOpened encoder_rules IsOpenBagIn size mark n (closed_off x) (Ok b) y.writer → y.set ≡ counts (in_list 0)
     → AwaitsValues 0 y
 bag_awaits size mark n x y b e h i =
     let w = h Schema.null (replicate n nothing) (length-replicate n nothing) in
     awaits_in 0 y (left_within _ (closed_off x) _ b y.writer w) i (bag_vacant _ x _ b y.writer e w)
 
 -- a call before a member
-member_awaited : (f : ListForm) (x : Encoding) (v : Value) (vs : List Value) (b c : OpenBag) (scope : Option Scope) (set : Enclosing) (y z : Encoding) (result : Result (Unit {0}) EncodeError) → OnOk result (z.set ≡ counts (in_list 1))
+member_awaited : (f : ListForm) (x : Encoding) (v : Value) (vs : List Value) (b c : OpenBag) (scope : Option Frame) (set : Enclosing) (y z : Encoding) (result : Result (Unit {0}) EncodeError) → OnOk result (z.set ≡ counts (in_list 1))
     → WritesMember encoder_rules IsOpenBagIn b y.writer result c z.writer → IsOpenBag f x (v ∷ vs) ((b, scope), set) y → MemberAwaited encoding_rules IsOpenBag f x v vs result ((c, scope), set) z
 member_awaited f x v vs b c scope set y z (Ok u) t w h =
     let a = w.law f (closed_off (noting x).writer) v vs h.opened.0 in
@@ -195,7 +195,7 @@ member_awaited f x v vs b c scope set y z (Err d) t w h = refused (w.law f (clos
     refused (inl q) = inl (memory_around d x q)
     refused (inr r) = inr (refuses_around d x (bag_schema f) (bag_of f.all) r)
 
-pub member_next : (b c : OpenBag) (scope : Option Scope) (set : Enclosing) (y z : Encoding) (result : Result (Unit {0}) EncodeError) → y.writer.failed ≡ false → is_between y.set ≡ true → OnOk result (z.set ≡ counts (in_list 1))
+pub member_next : (b c : OpenBag) (scope : Option Frame) (set : Enclosing) (y z : Encoding) (result : Result (Unit {0}) EncodeError) → y.writer.failed ≡ false → is_between y.set ≡ true → OnOk result (z.set ≡ counts (in_list 1))
     → NextMember b y.writer result c z.writer → WritesMemberInTurn encoding_rules AwaitsValues IsOpenBag ((b, scope), set) y result ((c, scope), set) z
 member_next b c scope set y z result f t i w = record {
   goes_on = record {
@@ -212,7 +212,7 @@ member_next b c scope set y z result f t i w = record {
     on_ok (Err d) j g e = tt
 
 -- one that comes out of turn
-pub member_untimely : (b c : OpenBag × Option Scope) (set : Enclosing) (y z : Encoding) (e : EncodeError) → IsAmidElement e y → z.writer.failed ≡ true → z.writer.codec ≡ y.writer.codec
+pub member_untimely : (b c : OpenBag × Option Frame) (set : Enclosing) (y z : Encoding) (e : EncodeError) → IsAmidElement e y → z.writer.failed ≡ true → z.writer.codec ≡ y.writer.codec
     → WritesMemberInTurn encoding_rules AwaitsValues IsOpenBag (b, set) y (Err e) (c, set) z
 member_untimely b c set y z e u f k = record {
   goes_on = record {
@@ -225,7 +225,7 @@ member_untimely b c set y z e u f k = record {
 }
 
 -- a bag is closed
-pub bag_closed : (b : OpenBag) (o : Option Scope) (scope : Scope) (set : Enclosing) (y : Encoding) (z : State) (result : Result (Unit {0}) EncodeError) → o ≡ Some scope → y.writer.failed ≡ false → is_between y.set ≡ true
+pub bag_closed : (b : OpenBag) (o : Option Frame) (scope : Frame) (set : Enclosing) (y : Encoding) (z : WriterState) (result : Result (Unit {0}) EncodeError) → o ≡ Some scope → y.writer.failed ≡ false → is_between y.set ≡ true
     → ClosesBag encoder_rules IsOpenBagIn b y.writer result z → ClosesBagInTurn encoding_rules AwaitsValues IsOpenBag ((b, o), set) y result (record { writer = record z { scope = scope }; set = set })
 bag_closed b o scope set y z result e f t w = record {
   closes = record {
@@ -237,7 +237,7 @@ bag_closed b o scope set y z result e f t w = record {
   untimely = λ n i a. values_untimely n i y result a t;
 }
 
-pub bag_without_scope : (b : OpenBag) (o : Option Scope) (set : Enclosing) (y : Encoding) (z : State) (result : Result (Unit {0}) EncodeError) → o ≡ None → y.writer.failed ≡ false → is_between y.set ≡ true
+pub bag_without_scope : (b : OpenBag) (o : Option Frame) (set : Enclosing) (y : Encoding) (z : WriterState) (result : Result (Unit {0}) EncodeError) → o ≡ None → y.writer.failed ≡ false → is_between y.set ≡ true
     → ClosesBag encoder_rules IsOpenBagIn b y.writer result z → ClosesBagInTurn encoding_rules AwaitsValues IsOpenBag ((b, o), set) y result (record { writer = z; set = set })
 bag_without_scope b o set y z result e f t w = record {
   closes = record {
@@ -248,7 +248,7 @@ bag_without_scope b o set y z result e f t w = record {
   untimely = λ n i a. values_untimely n i y result a t;
 }
 
-pub bag_untimely : (b : OpenBag × Option Scope) (set : Enclosing) (y z : Encoding) (e : EncodeError) → IsAmidElement e y → z.writer.failed ≡ true → z.writer.codec ≡ y.writer.codec
+pub bag_untimely : (b : OpenBag × Option Frame) (set : Enclosing) (y z : Encoding) (e : EncodeError) → IsAmidElement e y → z.writer.failed ≡ true → z.writer.codec ≡ y.writer.codec
     → ClosesBagInTurn encoding_rules AwaitsValues IsOpenBag (b, set) y (Err e) z
 bag_untimely b set y z e u f k = record {
   closes = record {

@@ -15,7 +15,7 @@ use Rattle.rasn_types.specs.AllOf.{all_of, joined}
 use Rattle.per_core.specs.Writers.{Writer, written_if}
 use Rattle.rasn_schema.proofs.Bags.{bag_becomes, some_list, sort}
 use Rattle.per_core.proofs.Laws.{same_bytes}
-use Rattle.per_enc.specs.Written.{AreWritten}
+use Rattle.per_enc.specs.Writable.{AreWritten}
 use Rattle.rasn_schema.proofs.Sorting.{map_sorted}
 
 -- the order of a dictionary is that of lists of numbers

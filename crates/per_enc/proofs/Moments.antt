@@ -24,7 +24,7 @@ use Rattle.per_write.specs.Faults.{IsError, IsMemory, RefusesValue, Stands}
 use Rattle.per_write.specs.Items.{PutsItems, unconstrained_items}
 use Rattle.per_enc.specs.Times.{Unwritten}
 use Rattle.per_write.specs.Rules.{encoder_rules}
-use Rattle.per_write.specs.State.{State, StateAppends, Puts}
+use Rattle.per_write.specs.WriterState.{WriterState, StateAppends, Puts}
 use Rattle.per_write.proofs.Refusing.{none_counted}
 use Rattle.per_write.proofs.Writing.{wrote_same}
 
@@ -38,14 +38,14 @@ identifier_bits : (a : Variant) (os : List ℕ) → is_identifier os ≡ true �
 unfolding canon
 identifier_bits a os h = ap (λ (b : Bool). written_if b (unconstrained_octets a os)) (sym h)
 
-pub identifier_law : (x y : State) (arcs taken : List ℕ) (result : Result (Unit {0}) EncodeError) → taken ≡ contents arcs → are_arcs arcs ≡ true
+pub identifier_law : (x y : WriterState) (arcs taken : List ℕ) (result : Result (Unit {0}) EncodeError) → taken ≡ contents arcs → are_arcs arcs ≡ true
     → Puts IsMemory (unconstrained_octets (variant_of x.codec) taken) x result y → Written encoder_rules Schema.identifier (identifier_value arcs) x result y
 identifier_law x y arcs taken (Ok u) t l p =
     let h = ap (unconstrained_octets (variant_of x.codec)) t ∙ identifier_bits (variant_of x.codec) (contents arcs) (is_identifier-contents arcs ∙ l) in
     subst (λ (g : Writer). StateAppends x g y) h p.ok
 identifier_law x y arcs taken (Err e) t l p = inl p.err
 
-refused_identifier : (e : EncodeError) (x : State) (os : List ℕ) → IsError Below e x → is_identifier os ≡ false → RefusesValue e x Schema.identifier (octets os)
+refused_identifier : (e : EncodeError) (x : WriterState) (os : List ℕ) → IsError Below e x → is_identifier os ≡ false → RefusesValue e x Schema.identifier (octets os)
 unfolding canon
 refused_identifier e x os h n = record {
   none = λ f p. ap (λ (b : Bool). written_if b (unconstrained_octets (variant_of x.codec) os) p) n;
@@ -53,7 +53,7 @@ refused_identifier e x os h n = record {
   codec_is = h.codec_is;
 }
 
-pub identifier_refused : (e : EncodeError) (x : State) (arcs : List ℕ) → IsError Below e x → are_arcs arcs ≡ false → RefusesValue e x Schema.identifier (identifier_value arcs)
+pub identifier_refused : (e : EncodeError) (x : WriterState) (arcs : List ℕ) → IsError Below e x → are_arcs arcs ≡ false → RefusesValue e x Schema.identifier (identifier_value arcs)
 identifier_refused e x arcs h n = refused_identifier e x (contents arcs) h (is_identifier-contents arcs ∙ n)
 
 -- X.691 30: a time is the characters of its text
@@ -62,7 +62,7 @@ time_form : (a : Variant) (kind : TimeKind) (cs : List ℕ) → is_time kind cs 
 unfolding canon
 time_form a kind cs h p = ap (λ (b : Bool). written_if b (counted a any_size false (char_items (char_width a visible)) (char_writers a visible cs)) p) (sym h)
 
-written_text : (x y : State) (kind : TimeKind) (cs : List ℕ) (result : Result (Unit {0}) EncodeError) → is_time kind cs ≡ true
+written_text : (x y : WriterState) (kind : TimeKind) (cs : List ℕ) (result : Result (Unit {0}) EncodeError) → is_time kind cs ≡ true
     → PutsItems (text_characters x.codec cs) unconstrained_items x result y → Written encoder_rules (Schema.time kind) (characters cs) x result y
 written_text x y kind cs (Ok u) l p = wrote_same x y _ _ (time_form (variant_of x.codec) kind cs l) p.ok
 written_text x y kind cs (Err e) l p = elim p.err [
@@ -74,11 +74,11 @@ written_text x y kind cs (Err e) l p = elim p.err [
   })
 ]
 
-pub time_law : (x y : State) (kind : TimeKind) (cs taken : List ℕ) (result : Result (Unit {0}) EncodeError) → taken ≡ cs → is_time kind cs ≡ true
+pub time_law : (x y : WriterState) (kind : TimeKind) (cs taken : List ℕ) (result : Result (Unit {0}) EncodeError) → taken ≡ cs → is_time kind cs ≡ true
     → PutsItems (text_characters x.codec taken) unconstrained_items x result y → Written encoder_rules (Schema.time kind) (characters cs) x result y
 time_law x y kind cs taken result t l p = written_text x y kind cs result l (subst (λ (z : List ℕ). PutsItems (text_characters x.codec z) unconstrained_items x result y) t p)
 
-pub time_refused : (e : EncodeError) (x : State) (kind : TimeKind) (cs : List ℕ) → IsError Below e x → is_time kind cs ≡ false → RefusesValue e x (Schema.time kind) (characters cs)
+pub time_refused : (e : EncodeError) (x : WriterState) (kind : TimeKind) (cs : List ℕ) → IsError Below e x → is_time kind cs ≡ false → RefusesValue e x (Schema.time kind) (characters cs)
 unfolding canon
 time_refused e x kind cs h n = record {
   none = λ f p. let a = variant_of x.codec in ap (λ (b : Bool). written_if b (counted a any_size false (char_items (char_width a visible)) (char_writers a visible cs)) p) n;
@@ -87,7 +87,7 @@ time_refused e x kind cs h n = record {
 }
 
 -- a time whose text there isn't, or for want of memory isn't made
-pub unwritten_law : {T : Type 0} (x y : State) (kind : TimeKind) (cs : List ℕ) (lawful : Bool) (text : Result T TimeError) (e : EncodeError) (r : Result (Unit {0}) EncodeError) → IsErrAnd r (λ f. f ≡ e)
+pub unwritten_law : {T : Type 0} (x y : WriterState) (kind : TimeKind) (cs : List ℕ) (lawful : Bool) (text : Result T TimeError) (e : EncodeError) (r : Result (Unit {0}) EncodeError) → IsErrAnd r (λ f. f ≡ e)
     → is_time kind cs ≡ lawful → (text ≡ Err Unrepresentable → lawful ≡ false) → Unwritten text e x → Written encoder_rules (Schema.time kind) (characters cs) x r y
 unwritten_law x y kind cs lawful text e (Ok u) h i n w = absurd h
 unwritten_law x y kind cs lawful text e (Err f) h i n (inl m) = inl (subst (λ z. IsMemory z x) (sym h) m)

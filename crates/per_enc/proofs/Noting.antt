@@ -19,17 +19,17 @@ use Rattle.per_core.specs.declared.encode_error.EncodeErrorKind.TheVariants.{Too
 use Rattle.per_core.specs.declared.encode_error.EncodeErrorKind.TheVariants.{OutOfMemory, OutOfTurn, WrongKind}
 use Rattle.per_write.specs.Faults.{IsAlready, RefusesValue, Stands}
 use Rattle.per_write.specs.Rules.{encoder_rules}
-use Rattle.per_write.specs.State.{Presents as PresentsIn, State}
+use Rattle.per_write.specs.WriterState.{Presents as PresentsIn, WriterState}
 use Rattle.per_enc.specs.Laws.Relations.{noting_same}
 use Rattle.per_enc.specs.Rules.{encoding_rules, noting}
-use Rattle.per_enc.specs.Short.{PutsWhere}
+use Rattle.per_enc.specs.ShortCalls.{PutsWhere}
 use Rattle.per_enc.proofs.Presenting.{presents_null, refuses_again}
 
 pub noting_codec : (x : Encoding) → (noting x).writer.codec ≡ x.writer.codec
-noting_codec x = ap (λ (z : State). z.codec) (noting_same x)
+noting_codec x = ap (λ (z : WriterState). z.codec) (noting_same x)
 
 pub noting_failed : (x : Encoding) → (noting x).writer.failed ≡ x.writer.failed
-noting_failed x = ap (λ (z : State). z.failed) (noting_same x)
+noting_failed x = ap (λ (z : WriterState). z.failed) (noting_same x)
 
 -- how a call behaves by which a value is begun, and one that had been refused
 pub behaves_begun : {T : Type 0} {x y : Encoding} {result : Result T EncodeError} → x.writer.failed ≡ false → OnErr result (y.writer.failed ≡ true) → y.writer.codec ≡ x.writer.codec
@@ -41,7 +41,7 @@ pub behaves_refused : {T : Type 0} {x y : Encoding} {e : EncodeError} → IsAlre
 behaves_refused a f s = record { again = λ q. a; fails = ap (λ (z : Encoding). z.writer.failed) s ∙ f; kept = ap (λ (z : Encoding). z.writer.codec) s }
 
 -- a fault stands alike in what failed alike
-stands_alike : (kind : EncodeErrorKind) (x y : State) (s : Schema) (v : Value) → x.failed ≡ y.failed → Stands kind x s v → Stands kind y s v
+stands_alike : (kind : EncodeErrorKind) (x y : WriterState) (s : Schema) (v : Value) → x.failed ≡ y.failed → Stands kind x s v → Stands kind y s v
 stands_alike AlreadyFailed x y s v f h = sym f ∙ h
 stands_alike (SizeConstraintNotSatisfied told) x y s v f h = h
 stands_alike (ValueConstraintNotSatisfied told) x y s v f h = h
@@ -56,7 +56,7 @@ stands_alike OutOfTurn x y s v f h = h
 stands_alike WrongKind x y s v f h = h
 
 -- a value is refused alike
-pub refuses_alike : (e : EncodeError) (x y : State) (s : Schema) (v : Value) → x.failed ≡ y.failed → x.codec ≡ y.codec → RefusesValue e x s v → RefusesValue e y s v
+pub refuses_alike : (e : EncodeError) (x y : WriterState) (s : Schema) (v : Value) → x.failed ≡ y.failed → x.codec ≡ y.codec → RefusesValue e x s v → RefusesValue e y s v
 refuses_alike e x y s v f c h = record {
   none = λ g p. ap (λ (d : Codec). canon (variant_of d) s v p) (sym c) ∙ h.none (f ∙ g) p;
   stands = stands_alike e.kind x y s v f h.stands;

@@ -23,7 +23,7 @@ use Rattle.per_write.specs.Components.{Encoding}
 use Rattle.per_core.specs.declared.encode_error.EncodeError.{EncodeError}
 use Rattle.per_write.specs.Faults.{IsMemory}
 use Rattle.per_write.specs.Rules.{encoder_rules}
-use Rattle.per_write.specs.State.{Puts, Scope, State, Presents, StateAppends, empty_scope, view}
+use Rattle.per_write.specs.WriterState.{Puts, Frame, WriterState, Presents, StateAppends, empty_scope, view}
 use Rattle.per_write.proofs.Writing.{wrote_same, wrote_then}
 use Rattle.per_enc.specs.Choices.{OpensUnplaced, OutsideChoice, restored}
 use Rattle.per_enc.specs.Placed.{ClosesPlaced, EntersPlaced, LeavesRoot, OpensPlaced as OpensPlacedOf, placed_front}
@@ -31,14 +31,14 @@ use Rattle.per_enc.proofs.Placing.{two_put}
 use Rattle.per_pieces.specs.Turns.{awaits, counts, Enclosing}
 use Rattle.per_enc.specs.PlacedChoices.{OpensPlaced, OpensPlacedIn}
 use Rattle.per_enc.specs.Rules.{encoding_rules, noting}
-use Rattle.per_enc.proofs.Around.{memory_noted}
+use Rattle.per_enc.proofs.AroundSets.{memory_noted}
 use Rattle.per_enc.proofs.ChoiceScopes.{added_form, chosen_at, contents, refuses_choice, root_form}
 use Rattle.per_enc.proofs.Noting.{refuses_noted}
 
 -- inside it the encoder hasn't failed, and its variant is that of before
-entered_well : (c : ItemCounts) (p : Place) (x i : State) (o : OutsideChoice) → OpensPlacedOf c p x o i → (i.failed ≡ false) × (i.codec ≡ x.codec)
-entered_well c (Root k) x i o h = (ap (λ (z : State). z.failed) h.enters.same ∙ h.written.left, ap (λ (z : State). z.codec) h.enters.same ∙ h.written.same)
-entered_well c (Added k) x i o h = (ap (λ (z : State). z.failed) h.enters.same ∙ h.written.left, ap (λ (z : State). z.codec) h.enters.same ∙ h.written.same)
+entered_well : (c : ItemCounts) (p : Place) (x i : WriterState) (o : OutsideChoice) → OpensPlacedOf c p x o i → (i.failed ≡ false) × (i.codec ≡ x.codec)
+entered_well c (Root k) x i o h = (ap (λ (z : WriterState). z.failed) h.enters.same ∙ h.written.left, ap (λ (z : WriterState). z.codec) h.enters.same ∙ h.written.same)
+entered_well c (Added k) x i o h = (ap (λ (z : WriterState). z.failed) h.enters.same ∙ h.written.left, ap (λ (z : WriterState). z.codec) h.enters.same ∙ h.written.same)
 
 -- what passes out of it
 passes : (c : ItemCounts) (p : Place) (x i : Encoding) (o : OutsideChoice) (s : Schema) → IsChoiceOf c s → OpensPlacedOf c p (noting x).writer o i.writer → PassesAlternative encoding_rules s (side_of p) (index_in p) x i
@@ -63,7 +63,7 @@ unfolding canon
 members_counted a no_parts = refl
 members_counted a (part t p s ps) = let e = members_counted a ps in omega arith
 
--- X.691 23.5 to 23.7: a root alternative behind its index is the choice
+-- X.691 23.5 to 23.7: a root alternative after its index is the choice
 root_choice : (a : Variant) (c : ItemCounts) (ps : Parts) (marker : Bool) (qs : Parts) (k : ℕ) (s : Schema) (v : Value) → IsChoiceOf c (choice_schema ps marker qs) → alternative_at ps k ≡ Some s
     → (p : ℕ) → (placed_front a c (Root k) ▹ canon a s v) p ≡ canon a (choice_schema ps marker qs) (alternative root k v) p
 root_choice a c ps marker qs k s v h e p =
@@ -76,7 +76,7 @@ root_choice a c ps marker qs k s v h e p =
     ∙ sym (then_assoc bit index body p)
     ∙ root_form a ps marker qs k v p
 
--- X.691 23.5, 23.8: an added alternative in an open type behind its index is the choice
+-- X.691 23.5, 23.8: an added alternative in an open type after its index is the choice
 added_choice : (a : Variant) (c : ItemCounts) (ps : Parts) (marker : Bool) (qs : Parts) (k : ℕ) (s : Schema) (v : Value) (value : Option Bits) → IsChoiceOf c (choice_schema ps marker qs) → alternative_at qs k ≡ Some s → value ≡ canon a s v 0
     → (p : ℕ) → (placed_front a c (Added k) ▹ open_bits a value) p ≡ canon a (choice_schema ps marker qs) (alternative added k v) p
 added_choice a c ps marker qs k s v value h e f p =
@@ -85,19 +85,19 @@ added_choice a c ps marker qs k s v value h e f p =
     ∙ sym (then_assoc bit (small a k) (open_bits a (chosen (members a qs) k v 0)) p)
     ∙ added_form a ps marker qs k v p
 
--- what is written inside is written behind what stood in front, once what waited is open again
-left_root : (f i j y : State) (w : Writer) → i ≡ record f { scope = empty_scope true } → y ≡ record j { scope = f.scope } → StateAppends i w j → StateAppends f w y
+-- what is written inside is written after what stood in front, once what waited is open again
+left_root : (f i j y : WriterState) (w : Writer) → i ≡ record f { scope = empty_scope true } → y ≡ record j { scope = f.scope } → StateAppends i w j → StateAppends f w y
 left_root f i j y w e d h =
-    let g = subst (λ (z : State). StateAppends z w j) e h in
-    subst (λ (z : State). StateAppends f w z) (sym d) (record { begun = g.begun; left = g.left; same = g.same; beside = refl; appended = g.appended })
+    let g = subst (λ (z : WriterState). StateAppends z w j) e h in
+    subst (λ (z : WriterState). StateAppends f w z) (sym d) (record { begun = g.begun; left = g.left; same = g.same; beside = refl; appended = g.appended })
 
-module _ (c : ItemCounts) (ps : Parts) (marker : Bool) (qs : Parts) (x i j y : State) (o : OutsideChoice) (k : ℕ) (s : Schema) (v : Value) (choice : IsChoiceOf c (choice_schema ps marker qs)) (w : Presents i s v j) where
+module _ (c : ItemCounts) (ps : Parts) (marker : Bool) (qs : Parts) (x i j y : WriterState) (o : OutsideChoice) (k : ℕ) (s : Schema) (v : Value) (choice : IsChoiceOf c (choice_schema ps marker qs)) (w : Presents i s v j) where
   closes_root : (result : Result (Unit {0}) EncodeError) → OpensPlacedOf c (Root k) x o i → alternative_at ps k ≡ Some s → ClosesPlaced o.before o.scope j result y
       → Written encoder_rules (choice_schema ps marker qs) (alternative root k v) x result y
   closes_root result h e d =
       let a = variant_of x.codec in
       let leaves : LeavesRoot h.front.scope j result y = subst (λ (q : OutsideChoice). ClosesPlaced q.before q.scope j result y) h.enters.waits d in
-      let same : i.codec ≡ x.codec = ap (λ (z : State). z.codec) h.enters.same ∙ h.written.same in
+      let same : i.codec ≡ x.codec = ap (λ (z : WriterState). z.codec) h.enters.same ∙ h.written.same in
       let value : StateAppends i (canon a s v) j = subst (λ (b : Codec). StateAppends i (canon (variant_of b) s v) j) same w in
       let all = wrote_then x h.front y (placed_front a c (Root k)) (canon a s v) h.written (left_root h.front i j y (canon a s v) h.enters.same leaves.same value) in
       go result leaves.ok (wrote_same x y (placed_front a c (Root k) ▹ canon a s v) (canon a (choice_schema ps marker qs) (alternative root k v)) (root_choice a c ps marker qs k s v choice e) all)
@@ -111,12 +111,12 @@ module _ (c : ItemCounts) (ps : Parts) (marker : Bool) (qs : Parts) (x i j y : S
   closes_added result h e d =
       let a = variant_of x.codec in
       let f = h.front in
-      let same : j.codec ≡ f.codec = w.same ∙ ap (λ (z : State). z.codec) h.enters.same in
+      let same : j.codec ≡ f.codec = w.same ∙ ap (λ (z : WriterState). z.codec) h.enters.same in
       let back : restored j f.pieces f.scope ≡ f = ap₂ (λ (b : Bool) (q : Codec). record { pieces = f.pieces; failed = b; codec = q; scope = f.scope }) (w.left ∙ sym h.written.left) same in
       let value : view j 0 ≡ canon a s v 0 = contents f i j o s v h.enters w 0 (omega arith) ∙ ap (λ (b : Codec). canon (variant_of b) s v 0) h.written.same in
       let puts : Puts IsMemory (open_bits a (view j 0)) f result y =
       subst (λ (b : Codec). Puts IsMemory (open_bits (variant_of b) (view j 0)) f result y) (same ∙ h.written.same)
-      (subst (λ (z : State). Puts IsMemory (open_bits (variant_of j.codec) (view j 0)) z result y) back
+      (subst (λ (z : WriterState). Puts IsMemory (open_bits (variant_of j.codec) (view j 0)) z result y) back
       (subst (λ (q : OutsideChoice). ClosesPlaced q.before q.scope j result y) h.enters.waits d)) in
       go result value (two_put x f y (placed_front a c (Added k)) (open_bits a (view j 0)) result h.written puts)
     where
@@ -128,7 +128,7 @@ module _ (c : ItemCounts) (ps : Parts) (marker : Bool) (qs : Parts) (x i j y : S
       go (Err d) q p = inl p.err
 
 -- a choice is closed in which its alternative was written
-pub choice_closed : (x i j y : State) (o : OutsideChoice) (t : Schema) (d : Side) (k : ℕ) (s : Schema) (v : Value) (result : Result (Unit {0}) EncodeError) → OpensPlacedIn t d k x o i → alternative_in t d k ≡ Some s → Presents i s v j
+pub choice_closed : (x i j y : WriterState) (o : OutsideChoice) (t : Schema) (d : Side) (k : ℕ) (s : Schema) (v : Value) (result : Result (Unit {0}) EncodeError) → OpensPlacedIn t d k x o i → alternative_in t d k ≡ Some s → Presents i s v j
     → ClosesPlaced o.before o.scope j result y → Written encoder_rules t (alternative d k v) x result y
 choice_closed x i j y o (Schema.choice ps qs marker) d k s v result h e w c = go h.place h.side h.index h.opened
   where
@@ -146,7 +146,7 @@ choice_closed x i j y o (Schema.choice ps qs marker) d k s v result h e w c = go
 choice_closed x i j y o _ d k s v result h e w c = absurd h.is_choice
 
 -- an error leaves the encoder failed, and the variant stays
-pub closes_well : (before : Option Pieces) (scope : Scope) (x y : State) (result : Result (Unit {0}) EncodeError) → ClosesPlaced before scope x result y → OnErr result (y.failed ≡ true) × (y.codec ≡ x.codec)
-closes_well None scope x y (Ok u) h = (tt, ap (λ (z : State). z.codec) h.same)
+pub closes_well : (before : Option Pieces) (scope : Frame) (x y : WriterState) (result : Result (Unit {0}) EncodeError) → ClosesPlaced before scope x result y → OnErr result (y.failed ≡ true) × (y.codec ≡ x.codec)
+closes_well None scope x y (Ok u) h = (tt, ap (λ (z : WriterState). z.codec) h.same)
 closes_well None scope x y (Err e) h = absurd (let k : false ≡ true = h.ok in cc)
 closes_well (Some before) scope x y result h = (h.fails, h.kept)

@@ -20,26 +20,26 @@ use Rattle.per_core.specs.declared.encode_error.EncodeError.{EncodeError}
 use Rattle.per_write.specs.Faults.{IsMemory, IsAlready, RefusesValue, Stands}
 use Rattle.per_write.specs.Numbers.{unconstrained_whole}
 use Rattle.per_write.specs.Rules.{encoder_rules}
-use Rattle.per_write.specs.State.{State, StateAppends, Puts, Presents, view}
+use Rattle.per_write.specs.WriterState.{WriterState, StateAppends, Puts, Presents, view}
 use Rattle.per_enc.specs.Integers.{IsBetween}
 use Rattle.per_enc.specs.declared.integers.Between.{Between}
 
 -- how a call behaves that an unfailed encoder makes
-pub behaves : (x y : State) (result : Result (Unit {0}) EncodeError) → x.failed ≡ false → OnErr result (y.failed ≡ true) → y.codec ≡ x.codec →
-    Behaves IsAlready (λ (z : State). z.failed) (λ (z : State). z.codec) x result y
+pub behaves : (x y : WriterState) (result : Result (Unit {0}) EncodeError) → x.failed ≡ false → OnErr result (y.failed ≡ true) → y.codec ≡ x.codec →
+    Behaves IsAlready (λ (z : WriterState). z.failed) (λ (z : WriterState). z.codec) x result y
 behaves x y result f e k = record { again = λ h. absurd cc; fails = e; kept = k }
 
-written : (x y : State) (w : Writer) (s : Schema) (v : Value) (result : Result (Unit {0}) EncodeError) → w ≡ canon (variant_of x.codec) s v → Puts IsMemory w x result y → Written encoder_rules s v x result y
+written : (x y : WriterState) (w : Writer) (s : Schema) (v : Value) (result : Result (Unit {0}) EncodeError) → w ≡ canon (variant_of x.codec) s v → Puts IsMemory w x result y → Written encoder_rules s v x result y
 written x y w s v (Ok u) c p = subst (λ (g : Writer). StateAppends x g y) c p.ok
 written x y w s v (Err e) c p = inl p.err
 
 -- a call that put a value's canonical bits, or found no memory
-pub writes : (x y : State) (w : Writer) (s : Schema) (v : Value) (result : Result (Unit {0}) EncodeError) → w ≡ canon (variant_of x.codec) s v → x.failed ≡ false → Puts IsMemory w x result y →
+pub writes : (x y : WriterState) (w : Writer) (s : Schema) (v : Value) (result : Result (Unit {0}) EncodeError) → w ≡ canon (variant_of x.codec) s v → x.failed ≡ false → Puts IsMemory w x result y →
     Writes encoder_rules s v x result y
 writes x y w s v result c f p = record { law = written x y w s v result c p; behaves = behaves x y result f p.fails p.kept }
 
 -- an encoder that had been refused refuses again
-pub refuses_again : (e : EncodeError) (x : State) (s : Schema) (v : Value) → IsAlready e x → x.failed ≡ true → RefusesValue e x s v
+pub refuses_again : (e : EncodeError) (x : WriterState) (s : Schema) (v : Value) → IsAlready e x → x.failed ≡ true → RefusesValue e x s v
 refuses_again e x s v h f = record {
   none = λ g. absurd cc;
   stands = subst (λ k. Stands k x s v) (sym h.kind_is) f;
@@ -56,7 +56,7 @@ unbounded_bits : (a : Variant) (range : Bounds) (z : ℤ) → unconstrained_whol
 unfolding canon number_form number_under
 unbounded_bits a range z = refl
 
-pub unbounded_law : (x y : State) (value : Option (Extensible (Bounded ℤ))) (range : Bounds) (z : ℤ) (result : Result (Unit {0}) EncodeError) → value ≡ None → x.failed ≡ false →
+pub unbounded_law : (x y : WriterState) (value : Option (Extensible (Bounded ℤ))) (range : Bounds) (z : ℤ) (result : Result (Unit {0}) EncodeError) → value ≡ None → x.failed ≡ false →
     Puts IsMemory (unconstrained_whole (variant_of x.codec) range z) x result y →
     Writes encoder_rules (Schema.number (bounds_in value) (is_marked value) range) (whole z) x result y
 unbounded_law x y value range z result n f p =
@@ -67,7 +67,7 @@ between_bits : (a : Variant) (b range : Bounds) (z : ℤ) → holds range z ≡ 
 unfolding canon number_form
 between_bits a b range z h k = sym (rw (h, k) refl)
 
-pub between_presented : (x y : State) (stated : Extensible (Bounded ℤ)) (range : Bounds) (z : ℤ) (b : Between) → IsBetween stated range z b →
+pub between_presented : (x y : WriterState) (stated : Extensible (Bounded ℤ)) (range : Bounds) (z : ℤ) (b : Between) → IsBetween stated range z b →
     StateAppends x (number_under (variant_of x.codec) (Some b.lower) (Some b.upper) b.number) y → Presents x (Schema.number (bounds_of stated.constraint) stated.extensible range) (whole z) y
 between_presented x y stated range z b i w =
     let bounds = bounds_of stated.constraint in
@@ -76,7 +76,7 @@ between_presented x y stated range z b i w =
     rw i.unmarked (subst (λ (g : Writer). StateAppends x g y) (same ∙ between_bits a bounds range z i.held i.within) w)
 
 -- X.691 13.2.4: a number without bounds
-pub unbounded_presented : (x y : State) (value : Option (Extensible (Bounded ℤ))) (range : Bounds) (z n : ℤ) → value ≡ None → n ≡ z → holds range z ≡ true →
+pub unbounded_presented : (x y : WriterState) (value : Option (Extensible (Bounded ℤ))) (range : Bounds) (z n : ℤ) → value ≡ None → n ≡ z → holds range z ≡ true →
     StateAppends x (number_under (variant_of x.codec) None None n) y → Presents x (Schema.number (bounds_in value) (is_marked value) range) (whole z) y
 unbounded_presented x y value range z n none is h w =
     let a = variant_of x.codec in
@@ -87,7 +87,7 @@ any_bits : (a : Variant) (os : List ℕ) → unconstrained_octets a os ≡ canon
 unfolding canon
 any_bits a os = refl
 
-pub any_law : (x y : State) (taken os : List ℕ) (result : Result (Unit {0}) EncodeError) → taken ≡ os →
+pub any_law : (x y : WriterState) (taken os : List ℕ) (result : Result (Unit {0}) EncodeError) → taken ≡ os →
     x.failed ≡ false → Puts IsMemory (unconstrained_octets (variant_of x.codec) taken) x result y → Writes encoder_rules Schema.any (octets os) x result y
 any_law x y taken os result t f p =
     writes x y (unconstrained_octets (variant_of x.codec) taken) Schema.any (octets os) result (ap (unconstrained_octets (variant_of x.codec)) t ∙ any_bits (variant_of x.codec) os) f p
@@ -97,34 +97,34 @@ text_bits : (a : Variant) (kind : TextKind) (os : List ℕ) → is_text kind os 
 unfolding canon
 text_bits a kind os h = ap (λ (b : Bool). written_if b (unconstrained_octets a os)) (sym h)
 
-pub text_law : (x y : State) (kind : TextKind) (taken os : List ℕ) (result : Result (Unit {0}) EncodeError) → taken ≡ os → is_text kind os ≡ true →
+pub text_law : (x y : WriterState) (kind : TextKind) (taken os : List ℕ) (result : Result (Unit {0}) EncodeError) → taken ≡ os → is_text kind os ≡ true →
     x.failed ≡ false → Puts IsMemory (unconstrained_octets (variant_of x.codec) taken) x result y → Writes encoder_rules (Schema.text kind) (octets os) x result y
 text_law x y kind taken os result t h f p =
     writes x y (unconstrained_octets (variant_of x.codec) taken) (Schema.text kind) (octets os) result (ap (unconstrained_octets (variant_of x.codec)) t ∙ text_bits (variant_of x.codec) kind os h) f p
 
 -- any octets are a text of the other kinds
-pub other_law : (x y : State) (taken os : List ℕ) (result : Result (Unit {0}) EncodeError) → taken ≡ os →
+pub other_law : (x y : WriterState) (taken os : List ℕ) (result : Result (Unit {0}) EncodeError) → taken ≡ os →
     x.failed ≡ false → Puts IsMemory (unconstrained_octets (variant_of x.codec) taken) x result y → Writes encoder_rules (Schema.text other) (octets os) x result y
 unfolding is_text
 other_law x y taken os result t f p = text_law x y other taken os result t refl f p
 
 -- X.691 18: a NULL is no bits
-pub presents_null : (x : State) → x.failed ≡ false → Presents x Schema.null nothing x
+pub presents_null : (x : WriterState) → x.failed ≡ false → Presents x Schema.null nothing x
 unfolding canon
 presents_null x f = record { begun = f; left = f; same = refl; beside = refl; appended = appends_none x.pieces }
 
 -- X.691 18: a NULL, where the encoder had not been refused
-null_written : (x : State) (result : Result (Unit {0}) EncodeError) → OnOk result (x.failed ≡ false) → IfErr result (λ e. IsAlready e x) → OnErr result (x.failed ≡ true) →
+null_written : (x : WriterState) (result : Result (Unit {0}) EncodeError) → OnOk result (x.failed ≡ false) → IfErr result (λ e. IsAlready e x) → OnErr result (x.failed ≡ true) →
     Written (without_memory encoder_rules) Schema.null nothing x result x
 null_written x (Ok u) h k f = presents_null x h
 null_written x (Err e) h k f = inr (refuses_again e x Schema.null nothing k f)
 
-pub null_law : (x : State) (result : Result (Unit {0}) EncodeError) → OnOk result (x.failed ≡ false) → IfErr result (λ e. IsAlready e x) → OnErr result (x.failed ≡ true) →
+pub null_law : (x : WriterState) (result : Result (Unit {0}) EncodeError) → OnOk result (x.failed ≡ false) → IfErr result (λ e. IsAlready e x) → OnErr result (x.failed ≡ true) →
     Writes (without_memory encoder_rules) Schema.null nothing x result x
 null_law x result h k f = record { law = null_written x result h k f; behaves = search rules }
 
--- the first value of an encoder stands alone
-pub presents_first : (x y : State) (s : Schema) (v : Value) → x.pieces ≡ no_pieces → Presents x s v y → view y 0 ≡ canon (variant_of x.codec) s v 0
+-- the first value of an encoder is alone
+pub presents_first : (x y : WriterState) (s : Schema) (v : Value) → x.pieces ≡ no_pieces → Presents x s v y → view y 0 ≡ canon (variant_of x.codec) s v 0
 presents_first x y s v e h =
     h.appended.written 0 (λ t. refl) ∙ ap (λ (z : Pieces). (writer_of z.list ▹ canon (variant_of x.codec) s v) 0) e ∙ alone (canon (variant_of x.codec) s v 0)
   where

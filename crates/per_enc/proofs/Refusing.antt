@@ -19,22 +19,22 @@ use Rattle.per_core.specs.declared.encode_error.EncodeErrorKind.TheVariants.{Int
 use Rattle.per_core.specs.declared.encode_error.EncodeErrorKind.TheVariants.{VariantNotInChoice, RealNotSupported}
 use Rattle.per_core.specs.declared.encode_error.EncodeErrorKind.TheVariants.{TooManyAdditions, Below, AlreadyFailed}
 use Rattle.per_core.specs.declared.encode_error.EncodeErrorKind.TheVariants.{OutOfMemory, OutOfTurn, WrongKind}
-use Rattle.per_core.specs.WritingFaults.{HasElement, element_here, element_behind, IsAbsent, IsForeign, IsOther}
+use Rattle.per_core.specs.WritingFaults.{HasElement, element_here, element_after, IsAbsent, IsForeign, IsOther}
 use Rattle.per_core.specs.WritingFaults.{IsOutOfBounds, IsOutOfSize, IsPastBounds, IsReal, IsUnlawful, OutsideSize}
 use Rattle.per_core.specs.WritingFaults.{StandsIn, at_once, in_addition, in_alternative, in_contents, in_element}
 use Rattle.per_core.specs.WritingFaults.{in_member, in_part, in_set}
 use Rattle.per_write.specs.Faults.{RefusesValue, Stands}
-use Rattle.per_write.specs.Items.{HasRefused, refused_behind, refused_here}
-use Rattle.per_write.specs.State.{State}
+use Rattle.per_write.specs.Items.{HasRefused, refused_after, refused_here}
+use Rattle.per_write.specs.WriterState.{WriterState}
 use Rattle.per_write.proofs.Elements.{length-forms}
 use Rattle.per_write.proofs.Refusing.{none_counted, none_outside}
 use Rattle.per_enc.proofs.BagOrder.{element_sorted, length_sorted}
 
 -- a refused one stays among them, in whatever order
 refused_turn : (w u : Writer) (us l : List Writer) → (HasRefused (w ∷ us) → HasRefused l) → HasRefused (w ∷ u ∷ us) → HasRefused (u ∷ l)
-refused_turn w u us l r (refused_here h) = refused_behind (r (refused_here h))
-refused_turn w u us l r (refused_behind (refused_here h)) = refused_here h
-refused_turn w u us l r (refused_behind (refused_behind k)) = refused_behind (r (refused_behind k))
+refused_turn w u us l r (refused_here h) = refused_after (r (refused_here h))
+refused_turn w u us l r (refused_after (refused_here h)) = refused_here h
+refused_turn w u us l r (refused_after (refused_after k)) = refused_after (r (refused_after k))
 
 module _ (less : Writer → Writer → Bool) where
   refused_put : (w : Writer) (l : List Writer) → HasRefused (w ∷ l) → HasRefused (put less w l)
@@ -48,12 +48,12 @@ module _ (less : Writer → Writer → Bool) where
   refused_sorted : (l : List Writer) → HasRefused l → HasRefused (sorted less l)
   refused_sorted [] h = h
   refused_sorted (w ∷ ws) (refused_here h) = refused_put w (sorted less ws) (refused_here h)
-  refused_sorted (w ∷ ws) (refused_behind k) = refused_put w (sorted less ws) (refused_behind (refused_sorted ws k))
+  refused_sorted (w ∷ ws) (refused_after k) = refused_put w (sorted less ws) (refused_after (refused_sorted ws k))
 
 refused_of : (f : Value → Writer) (v : Value) → ((p : ℕ) → f v p ≡ None) → (l : List Value) → HasElement v l → HasRefused (map f l)
 refused_of f v r [] h = elim h [ ]
 refused_of f v r (w ∷ ws) element_here = refused_here r
-refused_of f v r (w ∷ ws) (element_behind k) = refused_behind (refused_of f v r ws k)
+refused_of f v r (w ∷ ws) (element_after k) = refused_after (refused_of f v r ws k)
 
 none_if : (b : Bool) (w : Writer) (p : ℕ) → w p ≡ None → written_if b w p ≡ None
 none_if true w p h = h
@@ -91,8 +91,8 @@ none_of_count a e size mark vs m h p =
     length_sorted (λ f g. before (octet_key (f 0)) (octet_key (g 0))) (map (canon a e) (sort vs)) ∙ length-forms (canon a e) (sort vs) ∙ length-sort vs in
     bag_without a e size mark vs p (none_outside a size mark list_items (ascending (map (canon a e) (sort vs))) m (ap (allows size) n ∙ h) p)
 
--- a fault that stands in a member
-pub stands_in_member : (kind : EncodeErrorKind) (x y : State) (e : Schema) (size : Size) (mark : Bool) (v : Value) (vs : List Value) → y.failed ≡ false → HasElement v vs → Stands kind y e v
+-- a fault that is in a member
+pub stands_in_member : (kind : EncodeErrorKind) (x y : WriterState) (e : Schema) (size : Size) (mark : Bool) (v : Value) (vs : List Value) → y.failed ≡ false → HasElement v vs → Stands kind y e v
     → Stands kind x (Schema.set_of e size mark) (bag_of vs)
 stands_in_member (ValueConstraintNotSatisfied told) x y e size mark v vs f h k = in_member h k
 stands_in_member IntegerTypeConversionFailed x y e size mark v vs f h k = in_member h k
@@ -107,7 +107,7 @@ stands_in_member OutOfMemory x y e size mark v vs f h k = absurd k
 stands_in_member OutOfTurn x y e size mark v vs f h k = in_member h k
 stands_in_member WrongKind x y e size mark v vs f h k = in_member h k
 
--- a fault that stands in a list stands in the bag of its elements
+-- a fault that is in a list is in the bag of its elements
 bag_stands : (fault : Schema → Value → Type 0) (e : Schema) (size : Size) (mark : Bool) (ws vs : List Value) → ((v : Value) → HasElement v ws → HasElement v vs)
     → (fault (Schema.list e size mark) (list_value ws) → fault (Schema.set_of e size mark) (bag_of vs)) → (s : Schema) (v : Value) → s ≡ Schema.list e size mark → v ≡ list_value ws
     → StandsIn fault s v → StandsIn fault (Schema.set_of e size mark) (bag_of vs)
@@ -133,7 +133,7 @@ count_stands n l u e size false ws vs s h =
     ap length (values-as_values ws) ∙ s ∙ sym (length-sort vs) ∙ sym (ap length (values-as_values (sort vs))) in
     subst (λ (k : ℕ). OutsideSize size k n l u) same_count h
 
-stands_as_bag : (kind : EncodeErrorKind) (x : State) (e : Schema) (size : Size) (mark : Bool) (ws vs : List Value) → length ws ≡ length vs → ((v : Value) → HasElement v ws → HasElement v vs)
+stands_as_bag : (kind : EncodeErrorKind) (x : WriterState) (e : Schema) (size : Size) (mark : Bool) (ws vs : List Value) → length ws ≡ length vs → ((v : Value) → HasElement v ws → HasElement v vs)
     → Stands kind x (Schema.list e size mark) (list_value ws) → Stands kind x (Schema.set_of e size mark) (bag_of vs)
 stands_as_bag (SizeConstraintNotSatisfied told) x e size mark ws vs s moves h = bag_stands (IsOutOfSize told.size told.lower told.upper) e size mark ws vs moves (count_stands told.size told.lower told.upper e size mark ws vs s) _ _ refl refl h
 stands_as_bag (ValueConstraintNotSatisfied told) x e size mark ws vs s moves h = bag_stands (IsOutOfBounds (value_of told) (lower_of told) (upper_of told)) e size mark ws vs moves (λ q. absurd q) _ _ refl refl h
@@ -149,7 +149,7 @@ stands_as_bag OutOfTurn x e size mark ws vs s moves h = bag_stands IsAbsent e si
 stands_as_bag WrongKind x e size mark ws vs s moves h = bag_stands IsOther e size mark ws vs moves (λ q. absurd (cc)) _ _ refl refl h
 
 -- what refuses a list refuses the bag of its elements, where that has no encoding either
-pub refused_as_bag : (d : EncodeError) (x : State) (e : Schema) (size : Size) (mark : Bool) (ws vs : List Value) → length ws ≡ length vs → ((v : Value) → HasElement v ws → HasElement v vs)
+pub refused_as_bag : (d : EncodeError) (x : WriterState) (e : Schema) (size : Size) (mark : Bool) (ws vs : List Value) → length ws ≡ length vs → ((v : Value) → HasElement v ws → HasElement v vs)
     → (x.failed ≡ false → (p : ℕ) → canon (variant_of x.codec) (Schema.set_of e size mark) (bag_of vs) p ≡ None)
     → RefusesValue d x (Schema.list e size mark) (list_value ws) → RefusesValue d x (Schema.set_of e size mark) (bag_of vs)
 refused_as_bag d x e size mark ws vs s moves n h = record {

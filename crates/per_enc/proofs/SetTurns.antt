@@ -14,8 +14,8 @@ use Rattle.per_write.specs.Additions.{with_next}
 use Rattle.per_write.specs.Components.{begun_with, Encoding, going_on, noted, PutsInOrder, underway}
 use Rattle.per_core.specs.declared.encode_error.EncodeError.{EncodeError}
 use Rattle.per_write.specs.Records.{AreGiven, ClosesOrNot, kept_additions}
-use Rattle.per_write.specs.State.{Additions, Scope, State}
-use Rattle.per_enc.specs.Records.{behind_marker, part_count}
+use Rattle.per_write.specs.WriterState.{Additions, Frame, WriterState}
+use Rattle.per_enc.specs.Records.{after_marker, part_count}
 use Rattle.per_enc.specs.Rules.{encoding_rules, MarksWhere, noting}
 use Rattle.per_enc.specs.Scopes.{OpensSet}
 use Rattle.per_enc.proofs.Counting.{counted}
@@ -116,7 +116,7 @@ came_in a s i j e (came_value {a = b} {m = m} w c) =
       set = d.set;
       is_set = d.is_set;
       gathered = gathered_then (let n : 1 + b.components ≡ suc b.components = omega arith in n) (let n : 0 + b.bits ≡ b.bits = omega arith in n) (value_gathered s.awaits s i.writer.pieces refl) d.gathered;
-      additions = subst (λ (z : Scope). Further z.additions b.additions j.writer.scope.additions) scope d.additions;
+      additions = subst (λ (z : Frame). Further z.additions b.additions j.writer.scope.additions) scope d.additions;
       left = λ f. d.left w.written.left;
     }
 came_in a s i j e (came_bit {a = b} {b = true} {m = m} w c) =
@@ -126,7 +126,7 @@ came_in a s i j e (came_bit {a = b} {b = true} {m = m} w c) =
       set = d.set;
       is_set = d.is_set;
       gathered = gathered_then (let n : 0 + b.components ≡ b.components = omega arith in n) (let n : 1 + b.bits ≡ suc b.bits = omega arith in n) (begins_gathered (Some true) s.awaits s.room s i.writer.pieces refl) d.gathered;
-      additions = subst (λ (z : Scope). Further z.additions b.additions j.writer.scope.additions) (ap (λ (z : Encoding). z.writer.scope) h.1) d.additions;
+      additions = subst (λ (z : Frame). Further z.additions b.additions j.writer.scope.additions) (ap (λ (z : Encoding). z.writer.scope) h.1) d.additions;
       left = λ f. d.left (ap (λ (z : Encoding). z.writer.failed) h.1 ∙ f);
     }
 came_in a s i j e (came_bit {a = b} {b = false} {m = m} w c) =
@@ -136,7 +136,7 @@ came_in a s i j e (came_bit {a = b} {b = false} {m = m} w c) =
       set = d.set;
       is_set = d.is_set;
       gathered = gathered_then (let n : 1 + b.components ≡ suc b.components = omega arith in n) (let n : 1 + b.bits ≡ suc b.bits = omega arith in n) (begins_gathered (Some false) s.awaits s.room s i.writer.pieces refl) d.gathered;
-      additions = subst (λ (z : Scope). Further z.additions b.additions j.writer.scope.additions) (ap (λ (z : Encoding). z.writer.scope) h.1) d.additions;
+      additions = subst (λ (z : Frame). Further z.additions b.additions j.writer.scope.additions) (ap (λ (z : Encoding). z.writer.scope) h.1) d.additions;
       left = λ f. d.left (ap (λ (z : Encoding). z.writer.failed) h.1 ∙ f);
     }
 came_in a s i j e (came_skipped {a = b} {m = m} w c) =
@@ -147,8 +147,8 @@ came_in a s i j e (came_skipped {a = b} {m = m} w c) =
       is_set = d.is_set;
       gathered = d.gathered;
       additions = one_further g.before (with_next g.before false g.before.opens) i.writer.scope.additions b.additions j.writer.scope.additions false g.awaits.some refl (length-append g.before.flags (false ∷ []))
-          (subst (λ (z : State). Further z.scope.additions b.additions j.writer.scope.additions) g.same d.additions);
-      left = λ f. d.left (ap (λ (z : State). z.failed) g.same ∙ f);
+          (subst (λ (z : WriterState). Further z.scope.additions b.additions j.writer.scope.additions) g.same d.additions);
+      left = λ f. d.left (ap (λ (z : WriterState). z.failed) g.same ∙ f);
     }
 came_in a s i j e (came_added {a = b} {m = m} w c) =
     let d = came_in b s m j (w.set ∙ e) c in
@@ -158,8 +158,8 @@ came_in a s i j e (came_added {a = b} {m = m} w c) =
       is_set = d.is_set;
       gathered = d.gathered;
       additions = one_further g.before (with_next g.before true g.opens) i.writer.scope.additions b.additions j.writer.scope.additions true g.awaits.some refl (length-append g.before.flags (true ∷ []))
-          (subst (λ (z : State). Further z.scope.additions b.additions j.writer.scope.additions) g.same d.additions);
-      left = λ f. d.left (ap (λ (z : State). z.failed) g.same ∙ f);
+          (subst (λ (z : WriterState). Further z.scope.additions b.additions j.writer.scope.additions) g.same d.additions);
+      left = λ f. d.left (ap (λ (z : WriterState). z.failed) g.same ∙ f);
     }
 
 -- a SET that is closed awaits nothing, and nothing came out of turn
@@ -200,7 +200,7 @@ bits_fit i (part t q s ps) (c ∷ cs) e =
 same_set : {s t : OpenSet} → gathers s ≡ gathers t → s ≡ t
 same_set e = cc
 
-module _ (ps : Parts) (marker : Bool) (qs : Parts) (x i j : Encoding) (o : Scope × Enclosing) (h : OpensSet (count ps) (behind_marker marker (part_count qs)) x o i) where
+module _ (ps : Parts) (marker : Bool) (qs : Parts) (x i j : Encoding) (o : Frame × Enclosing) (h : OpensSet (count ps) (after_marker marker (part_count qs)) x o i) where
   -- what came in a SET that was opened
   came : (a : Amount) → Came encoding_rules a i j → CameIn a (opened (count ps) h.front.pieces).set i j
   came a k = came_in a (opened (count ps) h.front.pieces).set i j (ap (λ (z : Encoding). z.set) h.inside) k
@@ -210,11 +210,11 @@ module _ (ps : Parts) (marker : Bool) (qs : Parts) (x i j : Encoding) (o : Scope
   open_since a k = let w = came a k in (w.set, w.is_set, w.left (ap (λ (z : Encoding). z.writer.failed) h.inside ∙ h.marked.unfailed))
 
   -- X.691 21.1: a SET in which another amount came than it takes
-  pub set_untimely : (fields : List Shape) (set : OpenSet) (m y : State) (result : Result (Unit {0}) EncodeError) → (marker ≡ false → qs ≡ no_parts) → fields ≡ shapes_from 0 ps → j.set ≡ gathers set
+  pub set_untimely : (fields : List Shape) (set : OpenSet) (m y : WriterState) (result : Result (Unit {0}) EncodeError) → (marker ≡ false → qs ≡ no_parts) → fields ≡ shapes_from 0 ps → j.set ≡ gathers set
       → PutsInOrder fields set j.writer m → ClosesOrNot o.0 m result y → RefusesOther encoding_rules (amount_of ps qs) i j result
   set_untimely fields set m y (Err e) n f s p c = λ a k d. elim c.err [
-    | inl u ↦ inl (record { kind_is = u.kind_is; codec_is = u.codec_is ∙ ap (λ (z : State). z.codec) p.same })
-    | inr u ↦ inr (record { kind_is = u.0.kind_is; codec_is = u.0.codec_is ∙ ap (λ (z : State). z.codec) p.same })
+    | inl u ↦ inl (record { kind_is = u.kind_is; codec_is = u.codec_is ∙ ap (λ (z : WriterState). z.codec) p.same })
+    | inr u ↦ inr (record { kind_is = u.0.kind_is; codec_is = u.0.codec_is ∙ ap (λ (z : WriterState). z.codec) p.same })
   ]
   set_untimely fields set m y (Ok u) n f s p c = λ a k d.
       let w = came a k in
@@ -230,6 +230,6 @@ module _ (ps : Parts) (marker : Bool) (qs : Parts) (x i j : Encoding) (o : Scope
       let bits : a.bits ≡ presence_bits ps = (let q = w.gathered.marks turn in omega arith) in
       let none : marker ≡ false → part_count qs ≡ 0 = λ g. ap part_count (n g) in
       let keeps : i.writer.scope.additions ≡ h.front.scope.additions = ap (λ (z : Encoding). z.writer.scope.additions) h.inside in
-      let given : AreGiven j.writer.scope.additions = subst (λ (z : State). AreGiven z.scope.additions) p.same c.ok.additions in
+      let given : AreGiven j.writer.scope.additions = subst (λ (z : WriterState). AreGiven z.scope.additions) p.same c.ok.additions in
       let additions : a.additions ≡ count qs = all_given i.writer.scope.additions j.writer.scope.additions a.additions (part_count qs) _ marker none (keeps ∙ h.marked.keeps) w.additions given ∙ sym (counted qs) in
       absurd (d (amount_is a (amount_of ps qs) all bits additions))

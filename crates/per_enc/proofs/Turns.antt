@@ -1,8 +1,8 @@
 -- What came in a scope of which the components are counted, and what closing it says of that (ITU-T X.691, 19, 23).
-use Rattle.std.specs.Prelude.{IsErrAnd, Result, Ok, Err}
+use Rattle.std.specs.Prelude.{is_some, IsErrAnd, Result, Ok, Err}
 use Rattle.std.proofs.Common.{◌≡◌, refl, sym, ap, ap₂, ◌∙◌, ◌⊎◌, subst, inl, inr, ℕ, zero, suc, ◌+◌, Bool, true, false, List, [], ◌∷◌, length, length-append, Option, Some, None, arith}
 use Rattle.rasn_types.specs.Values.{Side, Value}
-use Rattle.rasn_schema.specs.Structures.{presence_bits, extended}
+use Rattle.rasn_schema.specs.Structures.{presence_bits, extended, tags_of}
 use Rattle.rasn_schema.specs.Schemas.{count, no_parts, Parts, Schema}
 use Rattle.rasn_schema.specs.declared.items.Place.{Place}
 use Rattle.rasn_schema.specs.declared.items.Place.TheVariants.{Root, Added}
@@ -13,20 +13,22 @@ use Rattle.rasn_traits.specs.Amounts.{Amount, amount_of, one_value, only_values}
 use Rattle.rasn_traits.specs.Turns.{Came, came_added, came_bit, came_nothing, came_skipped, came_value, RefusesOther}
 use Rattle.per_write.specs.Additions.{OutsideAddition, with_next}
 use Rattle.per_write.specs.Components.{Encoding}
+use Rattle.per_core.specs.Versions.{alternatives_of}
 use Rattle.per_core.specs.declared.encode_error.EncodeError.{EncodeError}
 use Rattle.per_write.specs.Records.{AreGiven, ClosesOrNot, kept_additions, Opens as OpensRecord}
-use Rattle.per_write.specs.State.{Additions, Scope, State}
+use Rattle.per_write.specs.WriterState.{Additions, Frame, WriterState}
 use Rattle.per_write.specs.Unplaced.{OutsideUnplaced}
 use Rattle.per_pieces.specs.Turns.{awaits, counts, Enclosing, in_list, is_between, is_complete, marked, misplaced, next, past, Turn}
-use Rattle.per_enc.specs.Choices.{OpensChoiceOf, OutsideChoice}
+use Rattle.per_enc.specs.AlternativeCounts.{added_alternatives}
+use Rattle.per_enc.specs.Choices.{OpensWhere, OutsideChoice, keeps_room}
 use Rattle.per_enc.specs.Placed.{EntersPlaced}
 use Rattle.per_enc.specs.PlacedChoices.{OpensPlaced, OpensPlacedIn}
-use Rattle.per_enc.specs.Records.{behind_marker, part_count}
+use Rattle.per_enc.specs.Records.{after_marker, part_count}
 use Rattle.per_enc.specs.Rules.{encoding_rules, Marks, noting, Presents}
 use Rattle.per_enc.specs.Scopes.{AwaitsValues, IsUnready, OpensChoice, OpensContents, OpensOpenType, OpensScope}
 use Rattle.per_enc.specs.Laws.Relations.{noting_same}
 use Rattle.per_enc.proofs.Counting.{counted}
-use Rattle.per_enc.proofs.Inside.{fields_inside, mark_inside, value_inside}
+use Rattle.per_enc.proofs.NoOpenSet.{fields_inside, mark_inside, value_inside}
 use Rattle.per_enc.proofs.Records.{not_failed_inside}
 
 -- all components came that were awaited, and no more
@@ -86,8 +88,8 @@ came_to a t i j e (came_value {a = b} {s = s} {v = v} {m = m} w c) =
     let scope : m.writer.scope ≡ i.writer.scope = k.0.beside in
     record {
       set = d.set;
-      bits = ap (λ (z : Scope). z.presences.left) (sym scope) ∙ d.bits;
-      additions = subst (λ (z : Scope). Further z.additions b.additions j.writer.scope.additions) scope d.additions;
+      bits = ap (λ (z : Frame). z.presences.left) (sym scope) ∙ d.bits;
+      additions = subst (λ (z : Frame). Further z.additions b.additions j.writer.scope.additions) scope d.additions;
       left = λ f. d.left k.0.left;
       codec = d.codec ∙ k.0.same;
     }
@@ -97,9 +99,9 @@ came_to a t i j e (came_bit {a = b} {b = true} {m = m} w c) =
     record {
       set = d.set;
       bits = (let f = k.0.some in let l = d.bits in let z : i.writer.scope.presences.left ≡ suc b.bits + j.writer.scope.presences.left = omega arith in z);
-      additions = subst (λ (z : Option Additions). Further z b.additions j.writer.scope.additions) (ap (λ (z : State). z.scope.additions) k.0.same) d.additions;
-      left = λ f. d.left (ap (λ (z : State). z.failed) k.0.same ∙ f);
-      codec = d.codec ∙ ap (λ (z : State). z.codec) k.0.same;
+      additions = subst (λ (z : Option Additions). Further z b.additions j.writer.scope.additions) (ap (λ (z : WriterState). z.scope.additions) k.0.same) d.additions;
+      left = λ f. d.left (ap (λ (z : WriterState). z.failed) k.0.same ∙ f);
+      codec = d.codec ∙ ap (λ (z : WriterState). z.codec) k.0.same;
     }
 came_to a t i j e (came_bit {a = b} {b = false} {m = m} w c) =
     let k = mark_inside i m false e w in
@@ -107,31 +109,31 @@ came_to a t i j e (came_bit {a = b} {b = false} {m = m} w c) =
     record {
       set = d.set;
       bits = (let f = k.0.some in let l = d.bits in let z : i.writer.scope.presences.left ≡ suc b.bits + j.writer.scope.presences.left = omega arith in z);
-      additions = subst (λ (z : Option Additions). Further z b.additions j.writer.scope.additions) (ap (λ (z : State). z.scope.additions) k.0.same) d.additions;
-      left = λ f. d.left (ap (λ (z : State). z.failed) k.0.same ∙ f);
-      codec = d.codec ∙ ap (λ (z : State). z.codec) k.0.same;
+      additions = subst (λ (z : Option Additions). Further z b.additions j.writer.scope.additions) (ap (λ (z : WriterState). z.scope.additions) k.0.same) d.additions;
+      left = λ f. d.left (ap (λ (z : WriterState). z.failed) k.0.same ∙ f);
+      codec = d.codec ∙ ap (λ (z : WriterState). z.codec) k.0.same;
     }
 came_to a t i j e (came_skipped {a = b} {m = m} w c) =
     let d = came_to b t m j (w.set ∙ e) c in
     let g = w.given in
     record {
       set = d.set;
-      bits = ap (λ (z : State). z.scope.presences.left) (sym g.same) ∙ d.bits;
+      bits = ap (λ (z : WriterState). z.scope.presences.left) (sym g.same) ∙ d.bits;
       additions = one_further g.before (with_next g.before false g.before.opens) i.writer.scope.additions b.additions j.writer.scope.additions false g.awaits.some refl (length-append g.before.flags (false ∷ []))
-          (subst (λ (z : State). Further z.scope.additions b.additions j.writer.scope.additions) g.same d.additions);
-      left = λ f. d.left (ap (λ (z : State). z.failed) g.same ∙ f);
-      codec = d.codec ∙ ap (λ (z : State). z.codec) g.same;
+          (subst (λ (z : WriterState). Further z.scope.additions b.additions j.writer.scope.additions) g.same d.additions);
+      left = λ f. d.left (ap (λ (z : WriterState). z.failed) g.same ∙ f);
+      codec = d.codec ∙ ap (λ (z : WriterState). z.codec) g.same;
     }
 came_to a t i j e (came_added {a = b} {m = m} w c) =
     let d = came_to b t m j (w.set ∙ e) c in
     let g = w.given in
     record {
       set = d.set;
-      bits = ap (λ (z : State). z.scope.presences.left) (sym g.same) ∙ d.bits;
+      bits = ap (λ (z : WriterState). z.scope.presences.left) (sym g.same) ∙ d.bits;
       additions = one_further g.before (with_next g.before true g.opens) i.writer.scope.additions b.additions j.writer.scope.additions true g.awaits.some refl (length-append g.before.flags (true ∷ []))
-          (subst (λ (z : State). Further z.scope.additions b.additions j.writer.scope.additions) g.same d.additions);
-      left = λ f. d.left (ap (λ (z : State). z.failed) g.same ∙ f);
-      codec = d.codec ∙ ap (λ (z : State). z.codec) g.same;
+          (subst (λ (z : WriterState). Further z.scope.additions b.additions j.writer.scope.additions) g.same d.additions);
+      left = λ f. d.left (ap (λ (z : WriterState). z.failed) g.same ∙ f);
+      codec = d.codec ∙ ap (λ (z : WriterState). z.codec) g.same;
     }
 
 -- where it wasn't refused before, closing what isn't complete is out of turn
@@ -141,7 +143,7 @@ amount_is a b c d e =
     ∙ ap (λ (n : ℕ). record { components = b.components; bits = b.bits; additions = n }) e
 
 -- how many additions were given of those that are kept where a record is opened
-pub all_given : (o l : Option Additions) (k n place : ℕ) (marker : Bool) → (marker ≡ false → n ≡ 0) → o ≡ kept_additions place (behind_marker marker n) → Further o k l → AreGiven l → k ≡ n
+pub all_given : (o l : Option Additions) (k n place : ℕ) (marker : Bool) → (marker ≡ false → n ≡ 0) → o ≡ kept_additions place (after_marker marker n) → Further o k l → AreGiven l → k ≡ n
 all_given o l k n place false z e h g =
     let f : Further None k l = subst (λ (q : Option Additions). Further q k l) e h in
     f.0 ∙ sym (z refl)
@@ -153,7 +155,7 @@ all_given o (Some b) k n place true z e h g =
     omega (arith, g)
 
 -- X.691 19: a record in which another amount came than it takes
-pub record_untimely : (ps : Parts) (marker : Bool) (qs : Parts) (x i j : Encoding) (o : Scope × Enclosing) (y : State) (result : Result (Unit {0}) EncodeError) → (marker ≡ false → qs ≡ no_parts)
+pub record_untimely : (ps : Parts) (marker : Bool) (qs : Parts) (x i j : Encoding) (o : Frame × Enclosing) (y : WriterState) (result : Result (Unit {0}) EncodeError) → (marker ≡ false → qs ≡ no_parts)
     → OpensScope (awaits (count ps)) (extended ps marker qs) x o i → is_complete j.set ≡ true → ClosesOrNot o.0 j.writer result y → RefusesOther encoding_rules (amount_of ps qs) i j result
 record_untimely ps marker qs x i j o y (Err e) n h t c = λ a k d. elim c.err [ inl m ↦ inl m | inr u ↦ inr u.0 ]
 record_untimely ps marker qs x i j o y (Ok u) n h t c = λ a k d.
@@ -207,7 +209,7 @@ behaves_unclosed e x y (inl a) f k = record { again = λ q. a.0; fails = f; kept
 behaves_unclosed e x y (inr u) f k = record { again = λ q. let g = u.1 in absurd (let d : true ≡ false = sym q ∙ g in cc); fails = f; kept = k }
 
 -- in a record whose components were presented nothing was refused
-pub unfailed_in_record : {t : Turn} (ps : Parts) (marker : Bool) (qs : Parts) (x i j : Encoding) (rs xs : List (Option Value)) (o : Scope × Enclosing) → OpensScope t (extended ps marker qs) x o i → PresentsFields encoding_rules ps qs i rs xs j → j.writer.failed ≡ false
+pub unfailed_in_record : {t : Turn} (ps : Parts) (marker : Bool) (qs : Parts) (x i j : Encoding) (rs xs : List (Option Value)) (o : Frame × Enclosing) → OpensScope t (extended ps marker qs) x o i → PresentsFields encoding_rules ps qs i rs xs j → j.writer.failed ≡ false
 unfailed_in_record ps marker qs x i j rs xs o h k = is_false j.writer.failed (not_failed_inside ps marker qs (noting x).writer i.writer j.writer rs xs o.0 h.opened (fields_inside ps qs i j rs xs h.inside k).0)
   where
     is_false : (b : Bool) → (b ≡ true → ⊥) → b ≡ false
@@ -216,10 +218,10 @@ unfailed_in_record ps marker qs x i j rs xs o h k = is_false j.writer.failed (no
 
 -- X.691 19.9: an open type is open
 pub unfailed_in_addition : (x i : Encoding) (o : OutsideAddition × Enclosing) → OpensOpenType x o i → i.writer.failed ≡ false
-unfailed_in_addition x i o h = ap (λ (z : State). z.failed) h.opened.same ∙ h.opened.awaits.begun
+unfailed_in_addition x i o h = ap (λ (z : WriterState). z.failed) h.opened.same ∙ h.opened.awaits.begun
 
 pub addition_untimely : (x i j : Encoding) (o : OutsideAddition × Enclosing) (result : Result (Unit {0}) EncodeError) → OpensOpenType x o i → is_complete j.set ≡ true → RefusesOther encoding_rules one_value i j result
-addition_untimely x i j o result h t = one_untimely i j result h.inside (ap (λ (z : State). z.scope.presences.left) h.opened.same) (ap (λ (z : State). z.scope.additions) h.opened.same) t
+addition_untimely x i j o result h t = one_untimely i j result h.inside (ap (λ (z : WriterState). z.scope.presences.left) h.opened.same) (ap (λ (z : WriterState). z.scope.additions) h.opened.same) t
 
 -- where one value is to come no presence bit and no addition is due
 pub record OneOpened (i : Encoding) : Type 0 where
@@ -227,22 +229,21 @@ pub record OneOpened (i : Encoding) : Type 0 where
   pub presences : i.writer.scope.presences.left ≡ 0
   pub additions : i.writer.scope.additions ≡ None
 
-opened_well_at : (n : ℕ) (added : Option ℕ) (x : State) (o : OutsideChoice) (i : Encoding) → OpensChoiceOf n added x o i.writer → OneOpened i
-opened_well_at n None x o i h = record { unfailed = h.opened.unfailed; presences = ap (λ (z : Scope). z.presences.left) h.opened.place; additions = ap (λ (z : Scope). z.additions) h.opened.place }
-opened_well_at n (Some zero) x o i h = record { unfailed = h.opened.unfailed; presences = ap (λ (z : Scope). z.presences.left) h.opened.place; additions = ap (λ (z : Scope). z.additions) h.opened.place }
-opened_well_at n (Some (suc m)) x o i h = record { unfailed = ap (λ (z : State). z.failed) h.same ∙ h.begun; presences = ap (λ (z : State). z.scope.presences.left) h.same; additions = ap (λ (z : State). z.scope.additions) h.same }
+opened_well_at : (kept marker : Bool) (n : ℕ) (x : WriterState) (o : OutsideChoice) (i : Encoding) → OpensWhere kept marker n x o i.writer → OneOpened i
+opened_well_at true marker n x o i h = record { unfailed = h.opened.unfailed; presences = ap (λ (z : Frame). z.presences.left) h.opened.place; additions = ap (λ (z : Frame). z.additions) h.opened.place }
+opened_well_at false marker n x o i h = record { unfailed = ap (λ (z : WriterState). z.failed) h.same ∙ h.begun; presences = ap (λ (z : WriterState). z.scope.presences.left) h.same; additions = ap (λ (z : WriterState). z.scope.additions) h.same }
 
 pub choice_opened_well : (s : Schema) (x i : Encoding) (o : OutsideChoice × Enclosing) → OpensChoice s x o i → OneOpened i
-choice_opened_well s x i o h = opened_well_at _ _ (noting x).writer o.0 i h.opened
+choice_opened_well s x i o h = let n = length (tags_of (alternatives_of s)) in opened_well_at (keeps_room n (added_alternatives s)) (is_some (added_alternatives s)) n (noting x).writer o.0 i h.opened
 
 -- the same of one whose alternative is known
-entered_well : (p : Place) (x : State) (o : OutsideChoice) (i : Encoding) → x.failed ≡ false → EntersPlaced p x o i.writer → OneOpened i
-entered_well (Root k) x o i f h = record { unfailed = ap (λ (z : State). z.failed) h.same ∙ f; presences = ap (λ (z : State). z.scope.presences.left) h.same; additions = ap (λ (z : State). z.scope.additions) h.same }
-entered_well (Added k) x o i f h = record { unfailed = ap (λ (z : State). z.failed) h.same ∙ f; presences = ap (λ (z : State). z.scope.presences.left) h.same; additions = ap (λ (z : State). z.scope.additions) h.same }
+entered_well : (p : Place) (x : WriterState) (o : OutsideChoice) (i : Encoding) → x.failed ≡ false → EntersPlaced p x o i.writer → OneOpened i
+entered_well (Root k) x o i f h = record { unfailed = ap (λ (z : WriterState). z.failed) h.same ∙ f; presences = ap (λ (z : WriterState). z.scope.presences.left) h.same; additions = ap (λ (z : WriterState). z.scope.additions) h.same }
+entered_well (Added k) x o i f h = record { unfailed = ap (λ (z : WriterState). z.failed) h.same ∙ f; presences = ap (λ (z : WriterState). z.scope.presences.left) h.same; additions = ap (λ (z : WriterState). z.scope.additions) h.same }
 
 pub placed_opened_well : (c : Schema) (d : Side) (k : ℕ) (x i : Encoding) (o : OutsideChoice × Enclosing) → OpensPlaced c d k x o i → OneOpened i
 placed_opened_well c d k x i o h = let w = h.opened.opened in entered_well h.opened.place w.front o.0 i w.written.left w.enters
 
 -- X.691 11.2: octets that are to contain a value are open
 pub contents_opened_well : (x i : Encoding) (o : OutsideUnplaced × Enclosing) → OpensContents x o i → OneOpened i
-contents_opened_well x i o h = record { unfailed = ap (λ (z : State). z.failed) h.opened.same ∙ h.opened.begun; presences = ap (λ (z : State). z.scope.presences.left) h.opened.same; additions = ap (λ (z : State). z.scope.additions) h.opened.same }
+contents_opened_well x i o h = record { unfailed = ap (λ (z : WriterState). z.failed) h.opened.same ∙ h.opened.begun; presences = ap (λ (z : WriterState). z.scope.presences.left) h.opened.same; additions = ap (λ (z : WriterState). z.scope.additions) h.opened.same }

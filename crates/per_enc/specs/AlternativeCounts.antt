@@ -5,12 +5,12 @@ use Rattle.rasn_schema.specs.Structures.{tags_of}
 use Rattle.rasn_schema.specs.Schemas.{Schema}
 use Rattle.per_core.specs.Versions.{alternatives_of}
 use Rattle.per_enc.specs.Choices.{OutsideChoice, OpensChoiceOf}
-use Rattle.per_write.specs.State.{State}
-use Rattle.per_enc.specs.Records.{behind_marker}
+use Rattle.per_write.specs.WriterState.{WriterState}
+use Rattle.per_enc.specs.Records.{after_marker}
 
 -- how many added alternatives a choice has, where it has an extension marker
 abbrev pub added_alternatives : Schema → Option ℕ
-added_alternatives (Schema.choice ps qs marker) = behind_marker marker (length (tags_of qs))
+added_alternatives (Schema.choice ps qs marker) = after_marker marker (length (tags_of qs))
 added_alternatives _ = None
 
 -- how many added alternatives a type states, where it has an extension marker
@@ -18,6 +18,6 @@ abbrev pub counted_variants : Option (List VariantShape) → Option ℕ
 counted_variants None = None
 counted_variants (Some vs) = Some (length vs)
 
--- X.691 23.5 to 23.8: how it is opened goes by how many alternatives it has, before an extension marker and behind it
-abbrev pub OpensChoice : Schema → State → OutsideChoice → State → Type 0
+-- X.691 23.5 to 23.8: how it is opened goes by how many alternatives it has, before an extension marker and after it
+abbrev pub OpensChoice : Schema → WriterState → OutsideChoice → WriterState → Type 0
 OpensChoice s x outside i = OpensChoiceOf (length (tags_of (alternatives_of s))) (added_alternatives s) x outside i

@@ -11,7 +11,7 @@ use Rattle.per_core.specs.declared.encode_error.EncodeError.{EncodeError}
 use Rattle.per_core.specs.declared.encode_error.EncodeErrorKind.TheVariants.{IntegerTypeConversionFailed}
 use Rattle.per_write.specs.Faults.{IsError, IsMemory}
 use Rattle.per_core.specs.WritingFaults.{IsPast}
-use Rattle.per_write.specs.State.{Puts, State}
+use Rattle.per_write.specs.WriterState.{Puts, WriterState}
 use Rattle.per_enc.specs.declared.integers.Between.{Between}
 
 -- an INTEGER under a value constraint
@@ -20,7 +20,7 @@ stated_number stated range = Schema.number (bounds_of stated.constraint) stated.
 
 -- X.691 13.2: a call that writes a number within bounds, in the form that these give it: an error says that memory ran
 -- out, or that the number is past an i128
-abbrev pub PutsWithin : Bounds → ℤ → State → Result (Unit {0}) EncodeError → State → Type 0
+abbrev pub PutsWithin : Bounds → ℤ → WriterState → Result (Unit {0}) EncodeError → WriterState → Type 0
 PutsWithin bounds z x result y =
     Puts (λ e w. IsMemory e w ⊎ (IsError IntegerTypeConversionFailed e w × IsPast bounds z))
     (number_under (variant_of x.codec) bounds.low bounds.high z) x result y

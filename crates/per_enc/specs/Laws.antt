@@ -1,3 +1,3 @@
 pub mod Relations
 pub mod Sets
-pub mod Vacant
+pub mod EmptyGroups

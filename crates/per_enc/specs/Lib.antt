@@ -4,12 +4,12 @@ pub mod Laws
 pub mod Records
 pub mod Rules
 pub mod Scopes
-pub mod Short
+pub mod ShortCalls
 pub mod Choices
 pub mod Placed
 pub mod Times
 pub mod Integers
-pub mod Written
+pub mod Writable
 pub mod Members
 pub mod Bags
 pub mod Dates

@@ -6,14 +6,14 @@ use Rattle.rasn_schema.specs.declared.items.ItemCounts.{ItemCounts}
 use Rattle.rasn_schema.specs.declared.items.Place.{Place}
 use Rattle.rasn_traits.specs.Counted.{IsChoiceOf, index_in, side_of}
 use Rattle.per_write.specs.Components.{Encoding}
-use Rattle.per_write.specs.State.{State}
+use Rattle.per_write.specs.WriterState.{WriterState}
 use Rattle.per_pieces.specs.Turns.{awaits, Enclosing}
 use Rattle.per_enc.specs.Choices.{OutsideChoice}
 use Rattle.per_enc.specs.Placed.{OpensPlaced as OpensPlacedOf}
 use Rattle.per_enc.specs.Scopes.{OpensWithin}
 
--- a choice is open, to write one of its alternatives, which stands at a place
-pub record OpensPlacedIn (c : Schema) (d : Side) (k : ℕ) (x : State) (outside : OutsideChoice) (i : State)
+-- a choice is open, to write one of its alternatives, which is at a place
+pub record OpensPlacedIn (c : Schema) (d : Side) (k : ℕ) (x : WriterState) (outside : OutsideChoice) (i : WriterState)
     : Type 0 where
   pub alternatives : ItemCounts
   pub place : Place

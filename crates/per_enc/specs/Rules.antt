@@ -1,4 +1,4 @@
--- The rules of an encoder that puts a value's canonical bits behind those that were written before; of a component of
+-- The rules of an encoder that puts a value's canonical bits after those that were written before; of a component of
 -- an open SET, by itself (ITU-T X.691, 21.1).
 use Rattle.std.specs.Prelude.{◌≡◌, Bool, true, false}
 use Rattle.rasn_types.specs.Values.{Value}
@@ -12,7 +12,7 @@ use Rattle.per_core.specs.declared.encode_error.EncodeError.{EncodeError}
 use Rattle.per_core.specs.declared.encode_error.EncodeErrorKind.TheVariants.{OutOfTurn, VariantNotInChoice}
 use Rattle.per_write.specs.Faults.{IsAlready, IsError, IsMemory, RefusesValue}
 use Rattle.per_write.specs.Presences.{IsUnmarked, Marks as MarksIn}
-use Rattle.per_write.specs.State.{fresh as fresh_state, Presents as PresentsIn, State}
+use Rattle.per_write.specs.WriterState.{fresh as fresh_state, Presents as PresentsIn, WriterState}
 use Rattle.per_pieces.specs.Turns.{awaits, counts, Enclosing, gathers, marked, uncounted}
 
 -- what has written nothing
@@ -34,7 +34,7 @@ pub record Presents (x : Encoding) (s : Schema) (v : Value) (y : Encoding) : Typ
 
 -- the next presence bit is given: where a SET's components are gathered, that of the next one; and else a bit 0 is a
 -- component that comes
-abbrev pub MarksWhere : Enclosing → State → Bool → Encoding → Type 0
+abbrev pub MarksWhere : Enclosing → WriterState → Bool → Encoding → Type 0
 MarksWhere (counts t) x b y = MarksIn x b y.writer × (y.set ≡ counts (marked b t))
 MarksWhere (gathers set) x b y = (x.failed ≡ false) × (y ≡ begun_with b set x)
 
@@ -42,7 +42,7 @@ abbrev pub Marks : Encoding → Bool → Encoding → Type 0
 Marks x b y = MarksWhere x.set x.writer b y
 
 -- an error by which a presence bit is refused: none is left, or the encoder had been refused before
-abbrev pub IsUnmarkedWhere : EncodeError → Enclosing → State → Type 0
+abbrev pub IsUnmarkedWhere : EncodeError → Enclosing → WriterState → Type 0
 IsUnmarkedWhere e (counts t) x = IsUnmarked e x
 IsUnmarkedWhere e (gathers set) x = IsAlready e x × (x.failed ≡ true)
 

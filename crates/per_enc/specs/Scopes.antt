@@ -15,18 +15,18 @@ use Rattle.per_write.specs.declared.lists.UnwrittenElements.{UnwrittenElements}
 use Rattle.per_write.specs.Faults.{IsAlready, IsError}
 use Rattle.per_write.specs.Lists.{IsOpenList as IsOpenListIn}
 use Rattle.per_write.specs.Records.{Opens as OpensRecord}
-use Rattle.per_write.specs.State.{Scope, State, empty_scope}
+use Rattle.per_write.specs.WriterState.{Frame, WriterState, empty_scope}
 use Rattle.per_pieces.specs.Turns.{awaits, counts, Enclosing, in_list, is_between, is_complete, Turn, uncounted}
 use Rattle.per_write.specs.Unplaced.{BeginsUnplaced, OutsideUnplaced}
 use Rattle.per_enc.specs.Bags.{IsOpenBag as IsOpenBagIn, OpenBag}
 use Rattle.per_enc.specs.Choices.{OutsideChoice}
 use Rattle.per_enc.specs.AlternativeCounts.{OpensChoice as OpensChoiceIn}
-use Rattle.per_enc.specs.Records.{addition_count, behind_marker, part_count}
+use Rattle.per_enc.specs.Records.{addition_count, after_marker, part_count}
 use Rattle.per_enc.specs.Rules.{noting}
 
 -- Something is opened in which values stand, as a writer opens it: what encloses it waits beside what the writer says,
 -- and so many components are to come.
-pub record OpensWithin {O : Type 0} (turn : Turn) (opens : State → O → State → Type 0) (x : Encoding)
+pub record OpensWithin {O : Type 0} (turn : Turn) (opens : WriterState → O → WriterState → Type 0) (x : Encoding)
     (o : O × Enclosing) (y : Encoding) : Type 0 where
   pub opened : opens (noting x).writer o.0 y.writer
   pub waits : o.1 ≡ (noting x).set
@@ -34,9 +34,9 @@ pub record OpensWithin {O : Type 0} (turn : Turn) (opens : State → O → State
 
 -- X.691 21: a SET of so many root components is opened, of which each is written before its place is known: a zero
 -- stands for its extension bit
-pub record OpensSet (parts : ℕ) (additions : Option ℕ) (x : Encoding) (o : Scope × Enclosing)
+pub record OpensSet (parts : ℕ) (additions : Option ℕ) (x : Encoding) (o : Frame × Enclosing)
     (y : Encoding) : Type 0 where
-  pub front : State
+  pub front : WriterState
   pub marked : OpensRecord 0 additions (noting x).writer o.0 front
   pub waits : o.1 ≡ (noting x).set
   pub inside : y ≡ going_on (opened parts front.pieces) front
@@ -55,16 +55,16 @@ abbrev pub IsAmidElement : EncodeError → Encoding → Type 0
 IsAmidElement e x = IsUnready (is_between x.set) e x
 
 -- a record is opened, in which so many components are to come
-abbrev pub OpensScope : Turn → Schema → Encoding → (Scope × Enclosing) → Encoding → Type 0
+abbrev pub OpensScope : Turn → Schema → Encoding → (Frame × Enclosing) → Encoding → Type 0
 OpensScope t s = OpensWithin t (OpensRecord (presence_bits (root_of s)) (addition_count s))
 
 -- X.691 19, 21: a SEQUENCE or a SET is opened, in which all its components are to come
-abbrev pub Opens : Schema → Encoding → (Scope × Enclosing) → Encoding → Type 0
-Opens (Schema.sequence by_tag ps marker qs) = OpensSet (count ps) (behind_marker marker (part_count qs))
+abbrev pub Opens : Schema → Encoding → (Frame × Enclosing) → Encoding → Type 0
+Opens (Schema.sequence by_tag ps marker qs) = OpensSet (count ps) (after_marker marker (part_count qs))
 Opens s = OpensScope (awaits (count (root_of s))) s
 
 -- the same of a SEQUENCE in which nothing is counted
-abbrev pub OpensFields : Schema → Encoding → (Scope × Enclosing) → Encoding → Type 0
+abbrev pub OpensFields : Schema → Encoding → (Frame × Enclosing) → Encoding → Type 0
 OpensFields s = OpensScope uncounted s
 
 -- X.691 23: a CHOICE is opened, in which one value is to come
@@ -82,30 +82,31 @@ pub record OpensOpenType (x : Encoding) (o : OutsideAddition × Enclosing) (y : 
   pub inside : y.set ≡ counts (awaits 1)
 
 -- X.691 20: a list is open in which nothing is counted
-abbrev pub IsOpenElements : ListForm → Encoding → List Value → ((UnwrittenElements × Option Scope) × Enclosing)
+abbrev pub IsOpenElements : ListForm → Encoding → List Value → ((UnwrittenElements × Option Frame) × Enclosing)
     → Encoding → Type 0
 IsOpenElements f x vs = OpensWithin uncounted (λ z l y. IsOpenListIn f z vs l.0 y) x
 
 -- X.691 22: a bag is open in which nothing is counted
-abbrev pub IsOpenMembers : ListForm → Encoding → List Value → ((OpenBag × Option Scope) × Enclosing) → Encoding
+abbrev pub IsOpenMembers : ListForm → Encoding → List Value → ((OpenBag × Option Frame) × Enclosing) → Encoding
     → Type 0
 IsOpenMembers f x vs = OpensWithin uncounted (λ z b y. IsOpenBagIn f z vs b.0 y) x
 
 -- a writer in which no presence bit and no addition is left to be given
-abbrev pub closed_off : State → State
+abbrev pub closed_off : WriterState → WriterState
 closed_off x = record x { scope = empty_scope true }
 
 -- what is open where a writer was closed off, and the scope that waits meanwhile
-abbrev pub ClosedOff : {O : Type 0} → (State → O → State → Type 0) → State → (O × Option Scope) → State → Type 0
+abbrev pub ClosedOff : {O : Type 0} → (WriterState → O → WriterState → Type 0) → WriterState → (O × Option Frame)
+    → WriterState → Type 0
 ClosedOff opens x o y = opens (closed_off x) o.0 y × (o.1 ≡ Some x.scope)
 
 -- X.691 20: a list is open in which each value is counted, and nothing else can come
-abbrev pub IsOpenList : ListForm → Encoding → List Value → ((UnwrittenElements × Option Scope) × Enclosing) → Encoding
+abbrev pub IsOpenList : ListForm → Encoding → List Value → ((UnwrittenElements × Option Frame) × Enclosing) → Encoding
     → Type 0
 IsOpenList f x vs = OpensWithin (in_list 0) (ClosedOff (λ z l y. IsOpenListIn f z vs l y)) x
 
 -- X.691 22: a bag is open in which each value is counted, and nothing else can come
-abbrev pub IsOpenBag : ListForm → Encoding → List Value → ((OpenBag × Option Scope) × Enclosing) → Encoding → Type 0
+abbrev pub IsOpenBag : ListForm → Encoding → List Value → ((OpenBag × Option Frame) × Enclosing) → Encoding → Type 0
 IsOpenBag f x vs = OpensWithin (in_list 0) (ClosedOff (λ z b y. IsOpenBagIn f z vs b y)) x
 
 -- in an open list or bag so many values are to come before it is gone on in, and nothing else can come

@@ -20,7 +20,7 @@ use std::marker::Model;
 /// What is kept of an open SET OF.
 #[derive(Drop)]
 pub struct OpenBag<A: Allocator + Clone> {
-    /// The list that the members are to stand in.
+    /// The list that the members are to be in.
     list: UnwrittenElements,
     /// The members that were written.
     members: Members<A>,
@@ -37,7 +37,7 @@ impl<A: Allocator + Clone> Model for OpenBag<A> {
 }
 
 impl<A: Allocator + Clone> OpenBag<A> {
-    /// Opens a SET OF so many members under constraints (X.691 22): writes what stands in front of the first.
+    /// Opens a SET OF so many members under constraints (X.691 22): writes what is in front of the first.
     pub fn open(
         writer: &mut Writer<A>,
         constraints: &Constraints,

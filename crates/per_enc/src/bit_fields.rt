@@ -5,8 +5,8 @@ ghost use Rattle.std.specs.Prelude.{◌↔◌};
 ghost use Rattle.rasn_types.specs.Bits.{to_bits};
 ghost use Rattle.per_core.specs.Writers.{just};
 ghost use Rattle.per_write.specs.Faults.{IsMemory};
-ghost use Rattle.per_write.specs.Remains.{Remains};
-ghost use Rattle.per_write.specs.State.{Puts};
+ghost use Rattle.per_write.specs.Unwritten.{Remains};
+ghost use Rattle.per_write.specs.WriterState.{Puts};
 
 use per_write::Writer;
 use per_write::error::EncodeError;

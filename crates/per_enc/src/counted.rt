@@ -9,7 +9,7 @@ use crate::Encoder;
 use crate::choices::OutsideChoice;
 use crate::placed::{open_placed, put_item};
 use per_write::error::{EncodeError, EncodeErrorKind};
-use per_write::{EnclosingSet, OutsideAddition, Scope};
+use per_write::{EnclosingSet, Frame, OutsideAddition};
 use rasn_schema::items::{ItemCounts, Place};
 use rasn_traits::counted::CountedEncoder;
 use rasn_types::types::{Identifier, Tag};
@@ -35,14 +35,14 @@ impl<A: Allocator + Clone> CountedEncoder for Encoder<A> {
         presence_bits: usize,
         additions: Option<usize>,
         _identifier: Identifier,
-    ) -> Result<(Scope<A>, EnclosingSet<A>), EncodeError> {
+    ) -> Result<(Frame<A>, EnclosingSet<A>), EncodeError> {
         let set = self.begin_outer_value()?;
         let scope = self.writer.open_record(presence_bits, additions)?;
         self.set = EnclosingSet::awaiting(components);
         Ok((scope, set))
     }
 
-    fn close_record(&mut self, outside: (Scope<A>, EnclosingSet<A>)) -> Result<(), EncodeError> {
+    fn close_record(&mut self, outside: (Frame<A>, EnclosingSet<A>)) -> Result<(), EncodeError> {
         self.check_scope()?;
         let (scope, set) = outside;
         self.set = set;
@@ -55,13 +55,13 @@ impl<A: Allocator + Clone> CountedEncoder for Encoder<A> {
         presence_bits: usize,
         additions: Option<usize>,
         _identifier: Identifier,
-    ) -> Result<(Scope<A>, EnclosingSet<A>), EncodeError> {
+    ) -> Result<(Frame<A>, EnclosingSet<A>), EncodeError> {
         let set = self.begin_outer_value()?;
         let fields = self.writer.open_record(presence_bits, additions)?;
         Ok((fields, set))
     }
 
-    fn close_fields_of(&mut self, outside: (Scope<A>, EnclosingSet<A>)) -> Result<(), EncodeError> {
+    fn close_fields_of(&mut self, outside: (Frame<A>, EnclosingSet<A>)) -> Result<(), EncodeError> {
         self.writer.check_unfailed()?;
         let (fields, set) = outside;
         self.set = set;

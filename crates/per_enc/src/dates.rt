@@ -8,7 +8,7 @@ ghost use Rattle.rasn_traits.specs.Calls.{Writes};
 ghost use Rattle.per_core.specs.Canon.{date_of, year_writer};
 ghost use Rattle.per_write.specs.Faults.{IsMemory};
 ghost use Rattle.per_write.specs.Rules.{encoder_rules};
-ghost use Rattle.per_write.specs.State.{PutsIn};
+ghost use Rattle.per_write.specs.WriterState.{PutsIn};
 ghost use Rattle.per_enc.specs.Dates.{put_within};
 
 use per_write::Writer;
@@ -16,7 +16,7 @@ use per_write::error::EncodeError;
 use rasn_strings::civil::CivilDate;
 use std::alloc::Allocator;
 
-/// Writes a DATE (X.691 32) behind what was written before. The only error is want of memory.
+/// Writes a DATE (X.691 32) after what was written before. The only error is want of memory.
 pub fn put_date<A: Allocator + Clone, D: CivilDate>(
     writer: &mut Writer<A>,
     date: &D,

@@ -4,14 +4,14 @@ ghost use Rattle.std.specs.Prelude.{◌≡◌, false};
 ghost use Rattle.rasn_schema.specs.Schemas.{Schema};
 ghost use Rattle.per_core.specs.Canon.{canon};
 ghost use Rattle.per_write.specs.Faults.{IsMemory};
-ghost use Rattle.per_write.specs.State.{PutsIn};
+ghost use Rattle.per_write.specs.WriterState.{PutsIn};
 
 use per_write::Writer;
 use per_write::error::EncodeError;
 use rasn_schema::enumerated::Enumerated;
 use std::alloc::Allocator;
 
-/// Writes an item of an ENUMERATED (X.691 14): behind the extension bit its place in its list, before the extension
+/// Writes an item of an ENUMERATED (X.691 14): after the extension bit its place in its list, before the extension
 /// marker as a constrained whole number, after it as a normally small one.
 pub fn put_enumerated<A: Allocator + Clone, E: Enumerated>(
     writer: &mut Writer<A>,

@@ -11,7 +11,7 @@ use per_write::error::{EncodeError, EncodeErrorKind};
 use rasn_types::ber::{BerError, object_identifier_as_bytes};
 use std::alloc::Allocator;
 
-/// Writes an OBJECT IDENTIFIER by its arcs (X.691 24): its contents octets behind an unconstrained length. Arcs
+/// Writes an OBJECT IDENTIFIER by its arcs (X.691 24): its contents octets after an unconstrained length. Arcs
 /// that name no object are refused.
 pub fn put_object_identifier<A: Allocator + Clone>(
     writer: &mut Writer<A>,

@@ -5,7 +5,7 @@ ghost use Rattle.rasn_types.specs.Values.{whole};
 ghost use Rattle.rasn_schema.specs.Forms.{number_schema};
 ghost use Rattle.rasn_traits.specs.Calls.{Writes};
 ghost use Rattle.per_enc.specs.Rules.{encoding_rules};
-ghost use Rattle.per_enc.specs.Short.{PutsWhere};
+ghost use Rattle.per_enc.specs.ShortCalls.{PutsWhere};
 ghost use Rattle.per_write.specs.Faults.{IsMemory};
 
 use crate::Encoder;

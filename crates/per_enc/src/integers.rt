@@ -75,7 +75,7 @@ pub fn number_between<I: IntegerType>(
     })
 }
 
-/// Writes an INTEGER under a value constraint (X.691 13): where the constraint is extensible, behind a bit that
+/// Writes an INTEGER under a value constraint (X.691 13): where the constraint is extensible, after a bit that
 /// says whether the number is outside.
 #[inline(never)]
 pub fn put_integer<A: Allocator + Clone, I: IntegerType>(

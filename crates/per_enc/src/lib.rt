@@ -3,12 +3,9 @@
 //! members of a SET OF.
 #![tactic(auto)]
 
-ghost use Rattle.std.specs.Prelude.{◌≡◌, true, false, Some, OnOk, OnErr, IfOk, IfErr};
+ghost use Rattle.std.specs.Prelude.{◌≡◌, true, false};
 ghost use Rattle.rasn_traits.specs.Calls.{Writes};
-ghost use Rattle.per_core.specs.Canon.{completed};
-ghost use Rattle.per_enc.specs.Rules.{emptied, encoding_rules, fresh};
-ghost use Rattle.per_write.specs.Faults.{RefusesOutput};
-ghost use Rattle.per_write.specs.State.{view};
+ghost use Rattle.per_enc.specs.Rules.{encoding_rules};
 ghost use Rattle.per_pieces.specs.Turns.{is_complete, uncounted};
 
 use crate::bags::OpenBag;
@@ -19,11 +16,10 @@ use crate::identifiers::put_object_identifier;
 use crate::placed::close_placed;
 use crate::times::{put_generalized_time, put_utc_time};
 pub use options::EncoderOptions;
-use per_bits::BitList;
 pub use per_write::error;
 pub use per_write::error::{EncodeError, EncodeError as Error, EncodeErrorKind};
 use per_write::lists::{UnwrittenElements, close_list, next_element, open_list};
-use per_write::{EnclosingSet, OutsideAddition, OutsideUnplaced, Scope, Writer};
+use per_write::{EnclosingSet, Frame, OutsideAddition, OutsideUnplaced, Writer};
 use rasn_schema::choices::Choice;
 use rasn_schema::enumerated::Enumerated;
 use rasn_schema::fields::{AdditionGroup, Constructed};
@@ -52,9 +48,12 @@ pub mod integers;
 pub mod member_order;
 pub mod members;
 mod options;
+mod outputs;
 pub mod placed;
 mod scopes;
 pub mod times;
+
+type Result<T> = std::result::Result<T, EncodeError>;
 
 /// Writes values, one after another, in their canonical bits.
 #[derive(Drop)]
@@ -72,66 +71,6 @@ impl<A: Allocator + Clone> Model for Encoder<A> {
     ghost view = { λ a. record { writer = a.writer; set = a.set } };
 }
 
-impl<A: Allocator + Clone> Encoder<A> {
-    /// An encoder that has written nothing. It takes no memory yet; what it writes and puts out is kept in memory of
-    /// `alloc`.
-    pub fn new(alloc: A, options: EncoderOptions) -> Self
-        ensures { result ≡ fresh options }
-    {
-        Encoder {
-            writer: Writer::new(alloc, options.codec),
-            set: EnclosingSet::uncounted(),
-        }
-    }
-
-    /// An encoder that has written nothing, as `new` makes it, over a list of bits. The bits are cleared; the list's
-    /// memory may be used for what is written, and its allocator keeps what is put out. It takes no memory yet.
-    pub fn new_with_output(options: EncoderOptions, output: BitList<A>) -> Self
-        ensures { result ≡ fresh options }
-    {
-        Encoder {
-            writer: Writer::new_with_output(options.codec, output),
-            set: EnclosingSet::uncounted(),
-        }
-    }
-
-    /// The variant in use.
-    pub fn codec(&self) -> Codec
-        ensures { result ≡ self.now.writer.codec }
-    {
-        self.writer.codec()
-    }
-
-    /// The complete encoding of what was written so far (X.691 11.1), which is then taken out: the next value is
-    /// written at the start again.
-    ///
-    /// An error says that the encoder had failed before, else `OutOfTurn`, where a SEQUENCE, a SET, a CHOICE, a list or
-    /// a bag is open, of which half a value was written, and else that memory ran out. The encoder has failed then.
-    #[inline(always)]
-    pub fn output(&mut self) -> Result<Vec<u8, A>, EncodeError>
-        ensures octets { IfOk result (λ octets. completed (view self.old.writer 0) ≡ Some octets.items) }
-        ensures taken { OnOk result (self.new ≡ emptied self.old) }
-        ensures begun { OnOk result (self.old.writer.failed ≡ false) }
-        ensures outside { OnOk result (self.old.writer.scope.is_open ≡ false) }
-        ensures err { IfErr result (λ e. RefusesOutput e self.old.writer) }
-        ensures fails { OnErr result (self.new.writer.failed ≡ true) }
-        ensures kept { self.new.writer.codec ≡ self.old.writer.codec }
-    {
-        self.writer.output()
-    }
-
-    /// The complete encoding of what was written, as `output` gives it.
-    #[inline(always)]
-    pub fn output_into_vec(mut self) -> Result<Vec<u8, A>, EncodeError>
-        ensures octets { IfOk result (λ octets. completed (view self.writer 0) ≡ Some octets.items) }
-        ensures begun { OnOk result (self.writer.failed ≡ false) }
-        ensures outside { OnOk result (self.writer.scope.is_open ≡ false) }
-        ensures err { IfErr result (λ e. RefusesOutput e self.writer) }
-    {
-        self.output()
-    }
-}
-
 impl<A: Allocator + Clone> encoder::Encoder for Encoder<A> {
     ghost use Rattle.per_enc.specs.Laws.Relations.{presents_well};
     ghost use Rattle.per_enc.specs.Laws.Sets.{sets_written};
@@ -141,7 +80,7 @@ impl<A: Allocator + Clone> encoder::Encoder for Encoder<A> {
 
     type Error = EncodeError;
 
-    type Scope = (Scope<A>, EnclosingSet<A>);
+    type Scope = (Frame<A>, EnclosingSet<A>);
 
     type Addition = (OutsideAddition<A>, EnclosingSet<A>);
 
@@ -149,9 +88,9 @@ impl<A: Allocator + Clone> encoder::Encoder for Encoder<A> {
 
     type Contents = (OutsideUnplaced<A>, EnclosingSet<A>);
 
-    type List = ((UnwrittenElements, Option<Scope<A>>), EnclosingSet<A>);
+    type List = ((UnwrittenElements, Option<Frame<A>>), EnclosingSet<A>);
 
-    type Bag = ((OpenBag<A>, Option<Scope<A>>), EnclosingSet<A>);
+    type Bag = ((OpenBag<A>, Option<Frame<A>>), EnclosingSet<A>);
 
     ghost rules = { encoding_rules };
 
@@ -182,12 +121,7 @@ impl<A: Allocator + Clone> encoder::Encoder for Encoder<A> {
     }
 
     #[inline(always)]
-    fn encode_bool(
-        &mut self,
-        _tag: Tag,
-        value: bool,
-        _identifier: Identifier,
-    ) -> Result<(), EncodeError> {
+    fn encode_bool(&mut self, _tag: Tag, value: bool, _name: Identifier) -> Result<()> {
         self.begin_value()?;
         self.writer.put_bit(value)
     }
@@ -198,8 +132,8 @@ impl<A: Allocator + Clone> encoder::Encoder for Encoder<A> {
         _tag: Tag,
         constraints: &Constraints,
         value: &I,
-        _identifier: Identifier,
-    ) -> Result<(), EncodeError> {
+        _name: Identifier,
+    ) -> Result<()> {
         match self.put_short_integer(constraints, value) {
             Some(true) => Ok(()),
             short => self.put_any_integer(short.is_some(), constraints, value),
@@ -210,19 +144,19 @@ impl<A: Allocator + Clone> encoder::Encoder for Encoder<A> {
         &mut self,
         _tag: Tag,
         _constraints: &Constraints,
-        _identifier: Identifier,
-    ) -> Result<(), EncodeError> {
+        _name: Identifier,
+    ) -> Result<()> {
         self.writer.check_unfailed()?;
         self.writer.refuse_real()
     }
 
-    fn encode_absent(&mut self, _tag: Tag, _identifier: Identifier) -> Result<(), EncodeError> {
+    fn encode_absent(&mut self, _tag: Tag, _name: Identifier) -> Result<()> {
         self.writer.check_unfailed()?;
         self.writer.refuse_absent()
     }
 
     #[inline(always)]
-    fn encode_null(&mut self, _tag: Tag, _identifier: Identifier) -> Result<(), EncodeError> {
+    fn encode_null(&mut self, _tag: Tag, _name: Identifier) -> Result<()> {
         self.begin_value()
     }
 
@@ -231,18 +165,13 @@ impl<A: Allocator + Clone> encoder::Encoder for Encoder<A> {
         &mut self,
         _tag: Tag,
         value: &E,
-        _identifier: Identifier,
-    ) -> Result<(), EncodeError> {
+        _name: Identifier,
+    ) -> Result<()> {
         self.begin_value()?;
         put_enumerated(&mut self.writer, value)
     }
 
-    fn encode_any(
-        &mut self,
-        _tag: Tag,
-        value: &Any,
-        _identifier: Identifier,
-    ) -> Result<(), EncodeError> {
+    fn encode_any(&mut self, _tag: Tag, value: &Any, _name: Identifier) -> Result<()> {
         self.begin_value()?;
         self.writer.put_octets(value.as_bytes())
     }
@@ -253,8 +182,8 @@ impl<A: Allocator + Clone> encoder::Encoder for Encoder<A> {
         _tag: Tag,
         constraints: &Constraints,
         value: &[u8],
-        _identifier: Identifier,
-    ) -> Result<(), EncodeError> {
+        _name: Identifier,
+    ) -> Result<()> {
         self.begin_value()?;
         self.writer.put_octet_string(constraints, value)
     }
@@ -265,8 +194,8 @@ impl<A: Allocator + Clone> encoder::Encoder for Encoder<A> {
         _tag: Tag,
         constraints: &Constraints,
         value: &BitString,
-        _identifier: Identifier,
-    ) -> Result<(), EncodeError> {
+        _name: Identifier,
+    ) -> Result<()> {
         self.begin_value()?;
         self.writer.put_bit_string(constraints, value)
     }
@@ -276,8 +205,8 @@ impl<A: Allocator + Clone> encoder::Encoder for Encoder<A> {
         _tag: Tag,
         constraints: &Constraints,
         value: &BitString,
-        _identifier: Identifier,
-    ) -> Result<(), EncodeError> {
+        _name: Identifier,
+    ) -> Result<()> {
         self.begin_value()?;
         self.writer.put_named_bits(constraints, value)
     }
@@ -288,8 +217,8 @@ impl<A: Allocator + Clone> encoder::Encoder for Encoder<A> {
         _tag: Tag,
         constraints: &Constraints,
         value: &S,
-        _identifier: Identifier,
-    ) -> Result<(), EncodeError> {
+        _name: Identifier,
+    ) -> Result<()> {
         self.begin_value()?;
         self.writer.put_characters(constraints, value)
     }
@@ -299,8 +228,8 @@ impl<A: Allocator + Clone> encoder::Encoder for Encoder<A> {
         _tag: Tag,
         _constraints: &Constraints,
         value: &str,
-        _identifier: Identifier,
-    ) -> Result<(), EncodeError> {
+        _name: Identifier,
+    ) -> Result<()> {
         self.begin_value()?;
         self.writer.put_octets(value.as_bytes())
     }
@@ -310,8 +239,8 @@ impl<A: Allocator + Clone> encoder::Encoder for Encoder<A> {
         _tag: Tag,
         _constraints: &Constraints,
         value: &GeneralString,
-        _identifier: Identifier,
-    ) -> Result<(), EncodeError> {
+        _name: Identifier,
+    ) -> Result<()> {
         self.begin_value()?;
         self.writer.put_octets(value.as_bytes())
     }
@@ -321,8 +250,8 @@ impl<A: Allocator + Clone> encoder::Encoder for Encoder<A> {
         _tag: Tag,
         _constraints: &Constraints,
         value: &GraphicString,
-        _identifier: Identifier,
-    ) -> Result<(), EncodeError> {
+        _name: Identifier,
+    ) -> Result<()> {
         self.begin_value()?;
         self.writer.put_octets(value.as_bytes())
     }
@@ -332,8 +261,8 @@ impl<A: Allocator + Clone> encoder::Encoder for Encoder<A> {
         _tag: Tag,
         _constraints: &Constraints,
         value: &TeletexString,
-        _identifier: Identifier,
-    ) -> Result<(), EncodeError> {
+        _name: Identifier,
+    ) -> Result<()> {
         self.begin_value()?;
         self.writer.put_octets(value.as_bytes())
     }
@@ -342,8 +271,8 @@ impl<A: Allocator + Clone> encoder::Encoder for Encoder<A> {
         &mut self,
         _tag: Tag,
         value: &[u32],
-        _identifier: Identifier,
-    ) -> Result<(), EncodeError> {
+        _name: Identifier,
+    ) -> Result<()> {
         self.begin_value()?;
         put_object_identifier(&mut self.writer, value)
     }
@@ -352,8 +281,8 @@ impl<A: Allocator + Clone> encoder::Encoder for Encoder<A> {
         &mut self,
         _tag: Tag,
         value: &M,
-        _identifier: Identifier,
-    ) -> Result<(), EncodeError> {
+        _name: Identifier,
+    ) -> Result<()> {
         self.begin_value()?;
         put_utc_time(&mut self.writer, value)
     }
@@ -362,18 +291,13 @@ impl<A: Allocator + Clone> encoder::Encoder for Encoder<A> {
         &mut self,
         _tag: Tag,
         value: &M,
-        _identifier: Identifier,
-    ) -> Result<(), EncodeError> {
+        _name: Identifier,
+    ) -> Result<()> {
         self.begin_value()?;
         put_generalized_time(&mut self.writer, value)
     }
 
-    fn encode_date<D: CivilDate>(
-        &mut self,
-        _tag: Tag,
-        value: &D,
-        _identifier: Identifier,
-    ) -> Result<(), EncodeError> {
+    fn encode_date<D: CivilDate>(&mut self, _tag: Tag, value: &D, _name: Identifier) -> Result<()> {
         self.begin_value()?;
         put_date(&mut self.writer, value)
     }
@@ -381,8 +305,8 @@ impl<A: Allocator + Clone> encoder::Encoder for Encoder<A> {
     fn open_sequence<C: Constructed>(
         &mut self,
         _tag: Tag,
-        _identifier: Identifier,
-    ) -> Result<(Scope<A>, EnclosingSet<A>), EncodeError> {
+        _name: Identifier,
+    ) -> Result<Self::Scope> {
         let set = self.begin_outer_value()?;
         let fields = C::FIELDS;
         let count = fields.number_of_optional_and_default_fields();
@@ -391,31 +315,21 @@ impl<A: Allocator + Clone> encoder::Encoder for Encoder<A> {
         Ok((scope, set))
     }
 
-    fn close_sequence<C: Constructed>(
-        &mut self,
-        outside: (Scope<A>, EnclosingSet<A>),
-    ) -> Result<(), EncodeError> {
+    fn close_sequence<C: Constructed>(&mut self, outside: Self::Scope) -> Result<()> {
         self.check_scope()?;
         let (scope, set) = outside;
         self.set = set;
         self.writer.close_record(scope)
     }
 
-    fn open_fields<C: Constructed>(
-        &mut self,
-        _tag: Tag,
-        _identifier: Identifier,
-    ) -> Result<(Scope<A>, EnclosingSet<A>), EncodeError> {
+    fn open_fields<C: Constructed>(&mut self, _tag: Tag, _name: Identifier) -> Result<Self::Scope> {
         let set = self.begin_outer_value()?;
         let optional = C::FIELDS.number_of_optional_and_default_fields();
         let fields = self.writer.open_record(optional, addition_count::<C>())?;
         Ok((fields, set))
     }
 
-    fn close_fields<C: Constructed>(
-        &mut self,
-        outside: (Scope<A>, EnclosingSet<A>),
-    ) -> Result<(), EncodeError> {
+    fn close_fields<C: Constructed>(&mut self, outside: Self::Scope) -> Result<()> {
         self.writer.check_unfailed()?;
         let (fields, set) = outside;
         self.set = set;
@@ -425,8 +339,8 @@ impl<A: Allocator + Clone> encoder::Encoder for Encoder<A> {
     fn open_components<C: Constructed>(
         &mut self,
         _tag: Tag,
-        _identifier: Identifier,
-    ) -> Result<(Scope<A>, EnclosingSet<A>), EncodeError> {
+        _name: Identifier,
+    ) -> Result<Self::Scope> {
         let outer = self.begin_outer_value()?;
         let scope = self.writer.open_record(0, addition_count::<C>())?;
         let set = self.writer.open_components(C::FIELDS.len())?;
@@ -434,10 +348,7 @@ impl<A: Allocator + Clone> encoder::Encoder for Encoder<A> {
         Ok((scope, outer))
     }
 
-    fn close_components<C: Constructed>(
-        &mut self,
-        outside: (Scope<A>, EnclosingSet<A>),
-    ) -> Result<(), EncodeError> {
+    fn close_components<C: Constructed>(&mut self, outside: Self::Scope) -> Result<()> {
         self.writer.check_unfailed()?;
         let Some(set) = self.set.take_open() else {
             return Err(self.writer.refuse(EncodeErrorKind::OutOfTurn));
@@ -448,11 +359,7 @@ impl<A: Allocator + Clone> encoder::Encoder for Encoder<A> {
         self.writer.close_record(record)
     }
 
-    fn open_set<C: Constructed>(
-        &mut self,
-        _tag: Tag,
-        _identifier: Identifier,
-    ) -> Result<(Scope<A>, EnclosingSet<A>), EncodeError> {
+    fn open_set<C: Constructed>(&mut self, _tag: Tag, _name: Identifier) -> Result<Self::Scope> {
         let set = self.begin_outer_value()?;
         let fields = C::FIELDS;
         let bits = fields.number_of_optional_and_default_fields();
@@ -462,10 +369,7 @@ impl<A: Allocator + Clone> encoder::Encoder for Encoder<A> {
         Ok((scope, set))
     }
 
-    fn close_set<C: Constructed>(
-        &mut self,
-        outside: (Scope<A>, EnclosingSet<A>),
-    ) -> Result<(), EncodeError> {
+    fn close_set<C: Constructed>(&mut self, outside: Self::Scope) -> Result<()> {
         self.check_scope()?;
         let (ordered, set) = outside;
         self.set = set;
@@ -475,19 +379,15 @@ impl<A: Allocator + Clone> encoder::Encoder for Encoder<A> {
     fn open_choice<C: Choice>(
         &mut self,
         _tag: Tag,
-        _identifier: Identifier,
-    ) -> Result<(OutsideChoice<A>, EnclosingSet<A>), EncodeError> {
+        _name: Identifier,
+    ) -> Result<Self::Alternative> {
         let set = self.begin_outer_value()?;
         let choice = open_choice(&mut self.writer, C::VARIANTS.len(), added_count::<C>())?;
         self.set = EnclosingSet::awaiting(1);
         Ok((choice, set))
     }
 
-    fn close_choice<C: Choice>(
-        &mut self,
-        outside: (OutsideChoice<A>, EnclosingSet<A>),
-        chosen: Tag,
-    ) -> Result<(), EncodeError> {
+    fn close_choice<C: Choice>(&mut self, outside: Self::Alternative, chosen: Tag) -> Result<()> {
         self.writer.check_unfailed()?;
         let variants = C::VARIANTS;
         let added = C::EXTENDED_VARIANTS;
@@ -498,43 +398,36 @@ impl<A: Allocator + Clone> encoder::Encoder for Encoder<A> {
         }
         let (choice, set) = outside;
         self.set = set;
-        close_choice(&mut self.writer, variants.len(), place, choice)
+        let marker = added.is_some();
+        close_choice(&mut self.writer, marker, variants.len(), place, choice)
     }
 
+    #[inline(always)]
     fn open_alternative<C: Choice>(
         &mut self,
         _tag: Tag,
         place: Place,
-        _identifier: Identifier,
-    ) -> Result<(OutsideChoice<A>, EnclosingSet<A>), EncodeError> {
+        _name: Identifier,
+    ) -> Result<Self::Alternative> {
         self.enter_alternative(alternative_counts::<C>(), place)
     }
 
-    fn close_alternative(
-        &mut self,
-        outside: (OutsideChoice<A>, EnclosingSet<A>),
-    ) -> Result<(), EncodeError> {
+    #[inline(always)]
+    fn close_alternative(&mut self, outside: Self::Alternative) -> Result<()> {
         self.check_scope()?;
         let (placed, set) = outside;
         self.set = set;
         close_placed(&mut self.writer, placed)
     }
 
-    fn open_contents(
-        &mut self,
-        _tag: Tag,
-        _identifier: Identifier,
-    ) -> Result<(OutsideUnplaced<A>, EnclosingSet<A>), EncodeError> {
+    fn open_contents(&mut self, _tag: Tag, _name: Identifier) -> Result<Self::Contents> {
         let set = self.begin_outer_value()?;
         let waiting = self.writer.open_unplaced()?;
         self.set = EnclosingSet::awaiting(1);
         Ok((waiting, set))
     }
 
-    fn close_contents(
-        &mut self,
-        outside: (OutsideUnplaced<A>, EnclosingSet<A>),
-    ) -> Result<(), EncodeError> {
+    fn close_contents(&mut self, outside: Self::Contents) -> Result<()> {
         self.check_scope()?;
         let (waiting, set) = outside;
         self.set = set;
@@ -543,7 +436,7 @@ impl<A: Allocator + Clone> encoder::Encoder for Encoder<A> {
     }
 
     #[inline(always)]
-    fn set_presence(&mut self, is_there: bool) -> Result<(), EncodeError> {
+    fn set_presence(&mut self, is_there: bool) -> Result<()> {
         self.writer.check_unfailed()?;
         if self.set.is_uncounted() {
             return self.writer.set_presence(is_there);
@@ -551,12 +444,12 @@ impl<A: Allocator + Clone> encoder::Encoder for Encoder<A> {
         self.set_presence_within(is_there)
     }
 
-    fn skip_addition(&mut self) -> Result<(), EncodeError> {
+    fn skip_addition(&mut self) -> Result<()> {
         self.writer.check_unfailed()?;
         self.writer.skip_addition()
     }
 
-    fn open_addition(&mut self) -> Result<(OutsideAddition<A>, EnclosingSet<A>), EncodeError> {
+    fn open_addition(&mut self) -> Result<Self::Addition> {
         self.writer.check_unfailed()?;
         let open_type = self.writer.open_addition()?;
         let set = self.set.take();
@@ -564,20 +457,14 @@ impl<A: Allocator + Clone> encoder::Encoder for Encoder<A> {
         Ok((open_type, set))
     }
 
-    fn close_addition(
-        &mut self,
-        addition: (OutsideAddition<A>, EnclosingSet<A>),
-    ) -> Result<(), EncodeError> {
+    fn close_addition(&mut self, addition: Self::Addition) -> Result<()> {
         self.check_scope()?;
         let (open_type, set) = addition;
         self.set = set;
         self.writer.close_addition(open_type)
     }
 
-    fn close_group<C: AdditionGroup>(
-        &mut self,
-        addition: (OutsideAddition<A>, EnclosingSet<A>),
-    ) -> Result<(), EncodeError> {
+    fn close_group<C: AdditionGroup>(&mut self, addition: Self::Addition) -> Result<()> {
         self.check_scope()?;
         let fields = C::FIELDS;
         let has_required = fields.number_of_optional_and_default_fields() < fields.len();
@@ -591,8 +478,8 @@ impl<A: Allocator + Clone> encoder::Encoder for Encoder<A> {
         _tag: Tag,
         constraints: &Constraints,
         count: usize,
-        _identifier: Identifier,
-    ) -> Result<((UnwrittenElements, Option<Scope<A>>), EnclosingSet<A>), EncodeError> {
+        _name: Identifier,
+    ) -> Result<Self::List> {
         let set = self.begin_outer_value()?;
         let scope = self.writer.enter_alternative();
         let rest = open_list(&mut self.writer, constraints, count)?;
@@ -600,20 +487,14 @@ impl<A: Allocator + Clone> encoder::Encoder for Encoder<A> {
         Ok(((rest, Some(scope)), set))
     }
 
-    fn next_element(
-        &mut self,
-        list: &mut ((UnwrittenElements, Option<Scope<A>>), EnclosingSet<A>),
-    ) -> Result<(), EncodeError> {
+    fn next_element(&mut self, list: &mut Self::List) -> Result<()> {
         self.check_between()?;
         next_element(&mut self.writer, &mut list.0.0)?;
         self.set = EnclosingSet::in_list(1);
         Ok(())
     }
 
-    fn close_list(
-        &mut self,
-        list: ((UnwrittenElements, Option<Scope<A>>), EnclosingSet<A>),
-    ) -> Result<(), EncodeError> {
+    fn close_list(&mut self, list: Self::List) -> Result<()> {
         self.check_between()?;
         let ((rest, scope), set) = list;
         let closed = close_list(&mut self.writer, rest);
@@ -629,26 +510,20 @@ impl<A: Allocator + Clone> encoder::Encoder for Encoder<A> {
         _tag: Tag,
         constraints: &Constraints,
         count: usize,
-        _identifier: Identifier,
-    ) -> Result<((UnwrittenElements, Option<Scope<A>>), EnclosingSet<A>), EncodeError> {
+        _name: Identifier,
+    ) -> Result<Self::List> {
         let set = self.begin_outer_value()?;
         let list = open_list(&mut self.writer, constraints, count)?;
         Ok(((list, None), set))
     }
 
-    fn next_element_in_turn(
-        &mut self,
-        list: &mut ((UnwrittenElements, Option<Scope<A>>), EnclosingSet<A>),
-    ) -> Result<(), EncodeError> {
+    fn next_element_in_turn(&mut self, list: &mut Self::List) -> Result<()> {
         self.writer.check_unfailed()?;
         let elements = &mut list.0.0;
         next_element(&mut self.writer, elements)
     }
 
-    fn close_elements(
-        &mut self,
-        list: ((UnwrittenElements, Option<Scope<A>>), EnclosingSet<A>),
-    ) -> Result<(), EncodeError> {
+    fn close_elements(&mut self, list: Self::List) -> Result<()> {
         self.writer.check_unfailed()?;
         let ((elements, _), set) = list;
         self.set = set;
@@ -660,8 +535,8 @@ impl<A: Allocator + Clone> encoder::Encoder for Encoder<A> {
         _tag: Tag,
         constraints: &Constraints,
         count: usize,
-        _identifier: Identifier,
-    ) -> Result<((OpenBag<A>, Option<Scope<A>>), EnclosingSet<A>), EncodeError> {
+        _name: Identifier,
+    ) -> Result<Self::Bag> {
         let set = self.begin_outer_value()?;
         let scope = self.writer.enter_alternative();
         let kept = OpenBag::open(&mut self.writer, constraints, count)?;
@@ -669,20 +544,14 @@ impl<A: Allocator + Clone> encoder::Encoder for Encoder<A> {
         Ok(((kept, Some(scope)), set))
     }
 
-    fn next_member(
-        &mut self,
-        bag: &mut ((OpenBag<A>, Option<Scope<A>>), EnclosingSet<A>),
-    ) -> Result<(), EncodeError> {
+    fn next_member(&mut self, bag: &mut Self::Bag) -> Result<()> {
         self.check_between()?;
         bag.0.0.next_member(&mut self.writer)?;
         self.set = EnclosingSet::in_list(1);
         Ok(())
     }
 
-    fn close_set_of(
-        &mut self,
-        bag: ((OpenBag<A>, Option<Scope<A>>), EnclosingSet<A>),
-    ) -> Result<(), EncodeError> {
+    fn close_set_of(&mut self, bag: Self::Bag) -> Result<()> {
         self.check_between()?;
         let ((kept, scope), set) = bag;
         let closed = kept.close(&mut self.writer);
@@ -698,26 +567,20 @@ impl<A: Allocator + Clone> encoder::Encoder for Encoder<A> {
         _tag: Tag,
         constraints: &Constraints,
         count: usize,
-        _identifier: Identifier,
-    ) -> Result<((OpenBag<A>, Option<Scope<A>>), EnclosingSet<A>), EncodeError> {
+        _name: Identifier,
+    ) -> Result<Self::Bag> {
         let set = self.begin_outer_value()?;
         let bag = OpenBag::open(&mut self.writer, constraints, count)?;
         Ok(((bag, None), set))
     }
 
-    fn next_member_in_turn(
-        &mut self,
-        bag: &mut ((OpenBag<A>, Option<Scope<A>>), EnclosingSet<A>),
-    ) -> Result<(), EncodeError> {
+    fn next_member_in_turn(&mut self, bag: &mut Self::Bag) -> Result<()> {
         self.writer.check_unfailed()?;
         let open = &mut bag.0.0;
         open.next_member(&mut self.writer)
     }
 
-    fn close_members(
-        &mut self,
-        bag: ((OpenBag<A>, Option<Scope<A>>), EnclosingSet<A>),
-    ) -> Result<(), EncodeError> {
+    fn close_members(&mut self, bag: Self::Bag) -> Result<()> {
         self.writer.check_unfailed()?;
         let (opened, set) = bag;
         let (open, _) = opened;

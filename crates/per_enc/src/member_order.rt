@@ -10,7 +10,7 @@ ghost use Rattle.rasn_constraints.specs.Bounds.{Size};
 ghost use Rattle.rasn_schema.specs.Schemas.{Schema};
 ghost use Rattle.per_core.specs.Canon.{ascending, canon};
 ghost use Rattle.per_core.specs.Counts.{counted, list_items};
-ghost use Rattle.per_enc.specs.Written.{AreWritten};
+ghost use Rattle.per_enc.specs.Writable.{AreWritten};
 
 /// A stable sort gives the one ascending list in which what ties keeps its order.
 pub fn stable_sort_gives_one_list()

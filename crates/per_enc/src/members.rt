@@ -1,4 +1,4 @@
-//! The members of a SET OF, which are put in order behind the last (X.691 22).
+//! The members of a SET OF, which are put in order after the last (X.691 22).
 
 ghost use Rattle.std.specs.Prelude.{◌≡◌, [], ◌∷◌, ◌++◌, ◌<◌, length, OnOk, slice_index_or};
 ghost use Rattle.per_core.specs.Canon.{ascending};
@@ -72,7 +72,7 @@ impl<A: Allocator> Members<A> {
 }
 
 impl<A: Allocator + Clone> Members<A> {
-    /// A further member, behind the others. The only error is want of memory.
+    /// A further member, after the others. The only error is want of memory.
     pub fn push(&mut self, pieces: Pieces<A>) -> Result<(), AllocError>
         ensures { OnOk result (self.new ≡ self.old ++ pieces.list ∷ []) }
     {

@@ -6,7 +6,7 @@ ghost use Rattle.rasn_schema.specs.Enumerations.{items_of};
 ghost use Rattle.rasn_traits.specs.Counted.{item_at, stands_in};
 ghost use Rattle.per_core.specs.Canon.{canon};
 ghost use Rattle.per_write.specs.Faults.{IsMemory};
-ghost use Rattle.per_write.specs.State.{PutsIn};
+ghost use Rattle.per_write.specs.WriterState.{PutsIn};
 ghost use Rattle.per_enc.specs.Choices.{OpensOrNot};
 ghost use Rattle.per_enc.specs.Placed.{ClosesPlaced, OpensPlaced, placed_front};
 
@@ -16,7 +16,7 @@ use per_write::{OutsideUnplaced, Writer};
 use rasn_schema::items::{ItemCounts, Place};
 use std::alloc::Allocator;
 
-/// Writes the item of an ENUMERATED that stands at a place (X.691 14).
+/// Writes the item of an ENUMERATED that is at a place (X.691 14).
 #[inline(always)]
 pub fn put_item<A: Allocator + Clone>(
     writer: &mut Writer<A>,
@@ -71,8 +71,9 @@ pub fn close_placed<A: Allocator + Clone>(
     writer.put_open_pieces(value)
 }
 
-/// Writes the extension bit and the index of what stands at a place, of so many: before the extension marker as a
+/// Writes the extension bit and the index of what is at a place, of so many: before the extension marker as a
 /// constrained whole number, after it as a normally small one.
+#[inline(always)]
 fn put_place<A: Allocator + Clone>(
     writer: &mut Writer<A>,
     counts: ItemCounts,

@@ -4,7 +4,7 @@
 ghost use Rattle.std.specs.Prelude.{◌≡◌, true, false, OnOk, OnErr, IfOk, IfErr};
 ghost use Rattle.rasn_traits.specs.Optionals.{GivesBit};
 ghost use Rattle.per_enc.specs.AlternativeCounts.{counted_variants};
-ghost use Rattle.per_enc.specs.Records.{counted_behind};
+ghost use Rattle.per_enc.specs.Records.{counted_after};
 ghost use Rattle.per_enc.specs.Rules.{encoding_rules, noting};
 ghost use Rattle.per_enc.specs.Scopes.{IsAmidElement, IsUnclosed};
 ghost use Rattle.per_pieces.specs.Turns.{counts, is_between, is_complete, uncounted};
@@ -40,7 +40,7 @@ impl<A: Allocator + Clone> Encoder<A> {
         self.writer.note_value(&mut self.set);
     }
 
-    /// Begins a value that others stand in, which nothing around it takes for its components. Answers what encloses it,
+    /// Begins a value that others are in, which nothing around it takes for its components. Answers what encloses it,
     /// which waits meanwhile.
     #[inline(always)]
     pub(crate) fn begin_outer_value(&mut self) -> Result<EnclosingSet<A>, EncodeError>
@@ -89,6 +89,7 @@ impl<A: Allocator + Clone> Encoder<A> {
     }
 
     /// Gives the next presence bit where components are counted or gathered. Takes no memory.
+    #[inline(never)]
     pub(crate) fn set_presence_within(&mut self, is_there: bool) -> Result<(), EncodeError>
         requires { self.old.writer.failed ≡ false }
         ensures { GivesBit encoding_rules is_there self.old result self.new }
@@ -103,7 +104,7 @@ impl<A: Allocator + Clone> Encoder<A> {
 
 /// How many additions a type has, where it has an extension marker.
 pub(crate) fn addition_count<C: Constructed>() -> Option<usize>
-    ensures { result ≡ counted_behind C.IS_EXTENSIBLE C.EXTENDED_FIELDS }
+    ensures { result ≡ counted_after C.IS_EXTENSIBLE C.EXTENDED_FIELDS }
 {
     if !C::IS_EXTENSIBLE {
         return None;

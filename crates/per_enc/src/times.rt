@@ -14,7 +14,7 @@ use crate::bit_fields::{BitField, push_to_field, put_bit_field};
 use per_core::items::Item;
 use per_write::Writer;
 use per_write::error::{EncodeError, EncodeErrorKind};
-use per_write::items::Items;
+use per_write::items::ItemsToWrite;
 use rasn_schema::schema::Constraints;
 use rasn_schema::strings::alphabet_under;
 use rasn_strings::alphabet::CharacterAlphabet;
@@ -30,7 +30,7 @@ struct Text<'a> {
     alphabet: CharacterAlphabet<'a>,
 }
 
-impl Items for Text<'_> {
+impl ItemsToWrite for Text<'_> {
     ghost use Rattle.per_write.specs.Characters.{counted_characters};
 
     ghost counted = { λ x. counted_characters x.alphabet x.characters.now };
@@ -116,7 +116,7 @@ fn unless_unwritten<A: Allocator + Clone>(
     }
 }
 
-/// Writes the characters of a text behind an unconstrained length, each by its code among those of VisibleString
+/// Writes the characters of a text after an unconstrained length, each by its code among those of VisibleString
 /// (X.691 30.5).
 fn put_text<A: Allocator + Clone>(writer: &mut Writer<A>, text: &[u8]) -> Result<(), EncodeError>
     requires { writer.old.failed ≡ false }

@@ -9,8 +9,8 @@ use Rattle.rasn_types.specs.AllOf.{joined, all_of}
 use Rattle.per_core.specs.Versions.{project, project_slots, project_at, widen, slot_through, slots_through, through_elements, through_bag, through_fields, through_alternative, made, made_both, IsPlain, Newer, NewerParts, NewerType, unchanged, more_items, newer_containing, newer_list, newer_set_of, newer_sequence, newer_choice, no_more, more_parts, also}
 use Rattle.per_core.proofs.LengthForms.{or_left, or_right}
 use Rattle.per_laws.proofs.Carry.{fills_carry}
-use Rattle.per_laws.proofs.Deeper.{deeper}
-use Rattle.per_laws.proofs.Held.{plain_cut}
+use Rattle.per_laws.proofs.DeeperTrees.{deeper}
+use Rattle.per_laws.proofs.OlderReadings.{plain_cut}
 use Rattle.per_laws.proofs.Readers.{deeper_reads, older_answers, newer_answers}
 use Rattle.per_laws.proofs.Successors.{newer_succeeds}
 use Rattle.per_laws.proofs.Transitive.{Slotted, slot_apart, slot_test}
@@ -95,9 +95,9 @@ mutual
   at_project_alike (also h n ns) (cut_part c cs) (cut_part d ds) zero = project_alike n c d
   at_project_alike (also h n ns) (cut_part c cs) (cut_part d ds) (suc i) = at_project_alike ns cs ds i
 
--- what is read of octets is read of them with others behind them, and leaves just the others
-behind_them : (a : Settings) (s : Schema) (v : Value) (os rest after : List ℕ) → fills a s v os → after ≡ rest → front a s v (os ++ rest) after
-behind_them a s v os rest after x e = (os, ap (λ l. os ++ l) (sym e), x)
+-- what is read of octets is read of them with others after them, and leaves just the others
+after_them : (a : Settings) (s : Schema) (v : Value) (os rest after : List ℕ) → fills a s v os → after ≡ rest → front a s v (os ++ rest) after
+after_them a s v os rest after x e = (os, ap (λ l. os ++ l) (sym e), x)
 
 pub older_reader_at : (a : Settings) (T' T : ℕ → Schema) → Unfolds T' → Unfolds T → NewerType T' T → (v' v : Value) (os : List ℕ) (n : ℕ) → meets_cut (T' n) v' ≡ false → read a T' v' os →
     read a T v os ↔ (project (T' n) (T n) v' ≡ Some v)
@@ -109,7 +109,7 @@ older_reader_at a T' T u' u k v' v os n m x =
 
 pub older_reader_reads : (a : Settings) (T' T : ℕ → Schema) → Unfolds T' → Unfolds T → NewerType T' T → (v' v : Value) (os rest after : List ℕ) (n : ℕ) → meets_cut (T' n) v' ≡ false → read a T' v' os →
     (read a T v os ↔ (project (T' n) (T n) v' ≡ Some v)) × (front a (T 128) v (os ++ rest) after ↔ ((project (T' n) (T n) v' ≡ Some v) × (after ≡ rest)))
-older_reader_reads a T' T u' u k v' v os rest after n m x = (r, (λ y. in_front y, λ z. behind_them a (T 128) v os rest after (r.1 z.0) z.1))
+older_reader_reads a T' T u' u k v' v os rest after n m x = (r, (λ y. in_front y, λ z. after_them a (T 128) v os rest after (r.1 z.0) z.1))
   where
     r : read a T v os ↔ (project (T' n) (T n) v' ≡ Some v)
     r = older_reader_at a T' T u' u k v' v os n m x
@@ -133,7 +133,7 @@ newer_reader_at a T' T u' u k v v' os n m x =
 
 pub newer_reader_reads : (a : Settings) (T' T : ℕ → Schema) → Unfolds T' → Unfolds T → NewerType T' T → (v v' : Value) (os rest after : List ℕ) (n : ℕ) → meets_cut (T' n) v' ≡ false → fills_known a (T 128) v os →
     (read a T' v' os ↔ (widen (T' n) (T n) v ≡ Some v')) × (front a (T' 128) v' (os ++ rest) after ↔ ((widen (T' n) (T n) v ≡ Some v') × (after ≡ rest)))
-newer_reader_reads a T' T u' u k v v' os rest after n m x = (r, (λ y. in_front y, λ z. behind_them a (T' 128) v' os rest after (r.1 z.0) z.1))
+newer_reader_reads a T' T u' u k v v' os rest after n m x = (r, (λ y. in_front y, λ z. after_them a (T' 128) v' os rest after (r.1 z.0) z.1))
   where
     r : read a T' v' os ↔ (widen (T' n) (T n) v ≡ Some v')
     r = newer_reader_at a T' T u' u k v v' os n m x

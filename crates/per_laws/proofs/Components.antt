@@ -9,7 +9,7 @@ use Rattle.rasn_schema.specs.Lists.{list_at}
 use Rattle.rasn_schema.specs.Records.{record_at}
 use Rattle.rasn_schema.specs.Schemas.{TagTree, Presence, Order, Schema, Parts, part}
 use Rattle.per_core.specs.Versions.{NewerPresence, Newer, NewerParts, NewerType, unchanged, more_items, newer_containing, newer_list, newer_set_of, newer_sequence, newer_choice, no_more, more_parts, also}
-use Rattle.per_laws.proofs.Itself.{newer_than_itself}
+use Rattle.per_laws.proofs.VersionOfItself.{newer_than_itself}
 use Rattle.per_laws.specs.Components.{AreNewer}
 
 pub of_part : {may : Bool} {t t' : TagTree} {p' p : Presence} {s' s : Schema} {ps' ps : Parts} → NewerParts may (part t' p' s' ps') (part t p s ps) →

@@ -14,10 +14,10 @@ use Rattle.per_core.proofs.Canonical.{canonical}
 use Rattle.per_core.proofs.Unique.{fills_agree}
 use Rattle.per_core.proofs.Laws.{one_value, written_is_read}
 use Rattle.per_laws.proofs.Carry.{fills_carry}
-use Rattle.per_laws.proofs.Deeper.{deeper, uncut}
+use Rattle.per_laws.proofs.DeeperTrees.{deeper, uncut}
 use Rattle.per_laws.proofs.Types.{up_to}
 use Rattle.per_laws.specs.Written.{is_written, writes_cut, slots_write_cut, writes_cut_at}
-use Rattle.per_laws.proofs.Same.{same_writer}
+use Rattle.per_laws.proofs.SameWritten.{same_writer}
 use Rattle.per_laws.proofs.Reading.{SameKind, Reads, ReadsParts, past_cut, one_leaf, of_containing, of_list, of_set, of_sequence, of_choice, none, both, reads_kept}
 
 pub same_kind : (p : Presence) → SameKind p p

@@ -1,4 +1,4 @@
--- What an older writer writes, a newer reader reads as the widening, where nothing that is written stands at a Cut of the reader's tree.
+-- What an older writer writes, a newer reader reads as the widening, where nothing that is written is at a Cut of the reader's tree.
 use Rattle.per_core.specs.Basic
 use Rattle.std.proofs.Common.{◌≡◌, sym, ap, ◌∙◌, subst, ℕ, zero, suc, Bool, true, false, List, [], ◌∷◌, length, arith, Option, Some, None}
 use Rattle.rasn_types.specs.Values.{sorted, before, code, Value, elements, bag_of, fields, alternative, Side, root, added, as_values, as_slots, values, slots}
@@ -19,12 +19,12 @@ use Rattle.per_core.proofs.Canonical.{canonical}
 use Rattle.per_laws.proofs.Older.{made_of, made_both_of, slot_some, slot_meets, same_tags}
 use Rattle.per_laws.proofs.Carry.{Carry, kept, Leads, AllLead, carries, contained_carry}
 use Rattle.per_laws.proofs.Carrying.{lengthy_as, additions_step, record_as, choice_as, rules_on}
-use Rattle.per_laws.proofs.Deeper.{same_cut_tags, cut_count}
+use Rattle.per_laws.proofs.DeeperTrees.{same_cut_tags, cut_count}
 use Rattle.per_laws.proofs.Takes.{slot_meets_not, same_count}
-use Rattle.per_laws.proofs.Held.{newer_takes}
+use Rattle.per_laws.proofs.OlderReadings.{newer_takes}
 use Rattle.per_laws.proofs.Widens.{flags_older_carry, zip_second, filled_left, left_out_grows}
 use Rattle.per_laws.specs.Written.{is_written, writes_cut, slots_write_cut, writes_cut_at}
-use Rattle.per_laws.proofs.Same.{and_false, slot_written_cut, slot_cut_not}
+use Rattle.per_laws.proofs.SameWritten.{and_false, slot_written_cut, slot_cut_not}
 use Rattle.per_laws.proofs.Layers.{Writes, written_rules, chosen_rules, list_layer, bag_layer, record_layer, choice_layer, contained_layer}
 use Rattle.per_laws.proofs.Dropping.{zip_also, length_written, length_chosen}
 

@@ -12,7 +12,7 @@ use Rattle.rasn_schema.specs.Lists.{list_at, list_levelled}
 use Rattle.rasn_schema.specs.Records.{record_at}
 use Rattle.rasn_schema.specs.Schemas.{Presence, required, optional, group, default, Order, listed, by_tag, Schema, Parts, part}
 use Rattle.per_core.specs.Versions.{Newer, NewerParts, unchanged, newer_sequence}
-use Rattle.per_laws.proofs.Itself.{newer_than_itself}
+use Rattle.per_laws.proofs.VersionOfItself.{newer_than_itself}
 use Rattle.per_laws.proofs.Levelled.{levelled_type_unfolds}
 use Rattle.per_laws.specs.Components.{IsLawfulComponent, AreLawfulComponents, IsNewerComponent, AreNewer}
 use Rattle.per_laws.specs.Judged.{judge_choice, judge_record}

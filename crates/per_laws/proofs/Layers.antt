@@ -12,12 +12,12 @@ use Rattle.per_core.specs.Writers.{Writer, written_if}
 use Rattle.per_core.specs.Counts.{list_items}
 use Rattle.per_core.specs.Canon.{canon, members, Member, shown, record_of}
 use Rattle.per_core.specs.Basic.{As, Counted, Rule, Record_in, Open, Fills}
-use Rattle.per_core.proofs.Within.{Within, refused_within, if_within}
+use Rattle.per_core.proofs.WriterSpellings.{Within, refused_within, if_within}
 use Rattle.per_core.proofs.Presenting.{Pairs, record_within, open_within}
 use Rattle.per_core.proofs.Canonical.{as_within, ordered-pairs, list_within, bags_within, choices_within}
 use Rattle.per_laws.proofs.Carry.{Carry}
 use Rattle.per_laws.specs.Written.{is_written}
-use Rattle.per_laws.proofs.Same.{Fits, ordered_root, record_same, written_shown}
+use Rattle.per_laws.proofs.SameWritten.{Fits, ordered_root, record_same, written_shown}
 
 -- the canonical bits, as a spelling
 abbrev pub Writes : Settings → Schema → Value → Spelling

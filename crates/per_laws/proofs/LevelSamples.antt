@@ -64,7 +64,7 @@ unfolding bytes
 default_bytes = (refl, refl, refl)
 
 -- Why the normal form is taken in a tree that holds the value, and not in any tree in which it has an encoding.
--- 1. A group stands at a Cut, and the value has the empty record there, which is no value of the group: in the
+-- 1. A group is at a Cut, and the value has the empty record there, which is no value of the group: in the
 -- shallow tree it counts as vacant and there is an encoding, in the deeper tree there is none.
 abbrev cut_group : Schema
 cut_group = Schema.sequence Order.listed no_parts true (part here group Schema.cut no_parts)

@@ -14,9 +14,9 @@ use Rattle.per_laws.proofs.Types.{up_to}
 use Rattle.rasn_schema.specs.Levels.{TakesNone, ToLevels, PartsToLevels, to_leaf, to_date, no_date, still_cut, no_level, to_containing, to_list, to_set_of, to_sequence, to_choice, to_no_parts, to_part, Levelled}
 use Rattle.per_laws.specs.Levels.{levels_of, Deep, DeepParts}
 use Rattle.per_laws.specs.Written.{writes_cut}
-use Rattle.per_laws.proofs.Deeply.{deep_family_unfolds}
+use Rattle.per_laws.proofs.ShallowValues.{deep_family_unfolds}
 use Rattle.per_laws.proofs.Depths.{writes_at_less, encodes_deeper}
-use Rattle.per_laws.proofs.Few.{none_is_leaf, few_written}
+use Rattle.per_laws.proofs.LevelsBelowCuts.{none_is_leaf, few_written}
 
 mutual
   pub to_cut : {n : ℕ} {s t : Schema} → ToLevels n s t → CutOf s t

@@ -10,12 +10,12 @@ use Rattle.rasn_schema.specs.Schemas.{tags, Schema, Parts, no_parts, part}
 use Rattle.per_core.specs.Basic
 use Rattle.per_core.specs.Basic.{constrained_by, IsConstrainedWhole, InOctets, InFragments, UnconstrainedLength, PaddingIf, length_form, Sized, Marked, Counted, octet, bit, Octets, IsSemiConstrainedWhole, IsUnconstrainedWhole, number_spelling, IsNumber, IsNumberOf, at_least_zero, Small, Fills, Open, Rule, Unknown_in, Additions_in, IsBitmap, Record_in, Chosen, Char, String, YearIn, year_form, IsDay, As, Proper, basic_in, rules_in, fills}
 use Rattle.per_core.specs.Counts.{ItemKind, list_items, octet_items, bit_items, char_items, is_aligned}
-use Rattle.per_core.specs.Spellings.{Settings, Spelling, exactly, Then, AnyPadding, Field}
+use Rattle.per_core.specs.Spellings.{Settings, Spelling, exactly, Then, AnyPadding, BitField}
 use Rattle.per_core.proofs.LengthForms.{Zip}
 use Rattle.per_core.proofs.Readings.{length-rules-in}
 use Rattle.per_laws.proofs.Carry.{Carry, kept, then_carry, either_carry, when_carry, fills_carry, lengthy_carry, AllLead, carries, contained_carry}
 use Rattle.per_laws.proofs.Carrying.{as_carry, additions_step, record_as, choice_as, rules_on}
-use Rattle.per_laws.proofs.Deeper.{Equal, equals, part_equal, along_equal, list_kept, bag_kept, Nothing, none_in, on_either}
+use Rattle.per_laws.proofs.DeeperTrees.{Equal, equals, part_equal, along_equal, list_kept, bag_kept, Nothing, none_in, on_either}
 
 abbrev pub loose : Settings → Settings
 loose a = record { variant = a.variant; strict = false }
@@ -125,7 +125,7 @@ additions_loose a u (r ∷ rs) (s ∷ ss) (true ∷ bs) = then_carry
     (additions_loose a u rs ss bs)
 
 bitmaps : (a : Settings) (bs : List Bool) → Carry (IsBitmap a bs) (IsBitmap (loose a) bs)
-bitmaps a bs = record { carry = λ p b x. record { some = x.some; spelled = (either_carry {f = Then (exactly (false ∷ [])) (Then (Field 6 (length bs - 1)) (exactly bs))} kept (then_carry kept (sizeds bit a any_size bit_items bs))).carry p b x.spelled } }
+bitmaps a bs = record { carry = λ p b x. record { some = x.some; spelled = (either_carry {f = Then (exactly (false ∷ [])) (Then (BitField 6 (length bs - 1)) (exactly bs))} kept (then_carry kept (sizeds bit a any_size bit_items bs))).carry p b x.spelled } }
 
 fields_loose : (a : Settings) (u ext : Bool) (rs adds : List Rule) (ss xs : List (Option Value)) → Carry (Record_in a u ext rs adds ss xs) (Record_in (loose a) u ext rs adds ss xs)
 fields_loose a u false rs adds ss xs = then_carry kept (additions_loose a u adds xs [])

@@ -9,7 +9,7 @@ use Rattle.rasn_constraints.specs.Bounds.{allows, at_least, at_most, Size}
 use Rattle.rasn_schema.specs.Normal.{normal, normal_bits}
 use Rattle.rasn_schema.specs.Schemas.{Schema}
 use Rattle.per_core.proofs.LengthForms.{and_left, and_right}
-use Rattle.per_laws.specs.Named.{MeanTheSame, IsFewest}
+use Rattle.per_laws.specs.NamedBits.{MeanTheSame, IsFewest}
 
 -- bits in normal form are trimmed to the same ones
 trimmed-normal : (l : Option ℕ) (bs : Bits) → trimmed (normal_bits l bs) ≡ trimmed bs

@@ -20,7 +20,7 @@ use Rattle.per_laws.proofs.AnyDepth
 use Rattle.per_laws.proofs.Named.{told_apart}
 use Rattle.per_laws.proofs.Readers
 use Rattle.per_laws.proofs.Normals.{Fixes, elements_fixed, bags_fixed, fields_fixed, alternative_fixed, slots_fixed}
-use Rattle.per_laws.specs.Named.{MeanTheSame, without_names, parts_without_names, NewerButForNames, NewerTypeButForNames}
+use Rattle.per_laws.specs.NamedBits.{MeanTheSame, without_names, parts_without_names, NewerButForNames, NewerTypeButForNames}
 
 pub same_tags : (ps : Parts) → tags (parts_without_names ps) ≡ tags ps
 unfolding parts_without_names

@@ -12,7 +12,7 @@ use Rattle.per_core.specs.Counts.{list_items}
 use Rattle.per_core.specs.Spellings.{Settings, Then}
 use Rattle.rasn_types.specs.AllOf.{joined, all_of}
 use Rattle.per_core.specs.Versions.{widen, widen_slots, widen_at, filled_in, all_filled_in, slot_through, through_elements, through_fields, made, made_both, IsPlain, NewerPresence, Newer, NewerParts, unchanged, more_items, newer_containing, newer_list, newer_set_of, newer_sequence, newer_choice, no_more, more_parts, also}
-use Rattle.per_core.proofs.Agree.{Agree, weaken, then_agree, either_agree, when_agree, never_agree, agree_never, empty_agree, no_yes, yes_no, behind}
+use Rattle.per_core.proofs.SpellingsAgree.{Agree, weaken, then_agree, either_agree, when_agree, never_agree, agree_never, empty_agree, no_yes, yes_no, behind}
 use Rattle.rasn_schema.proofs.Bags.{bag_becomes, any_in_bag}
 use Rattle.per_core.proofs.LengthForms.{Zip, lengthy_agree, or_left, or_right}
 use Rattle.per_core.proofs.Records.{SlotRel, AllKin, Along, holds_agree, root_agree, bitmap_agree}

@@ -12,10 +12,10 @@ use Rattle.rasn_schema.specs.Schemas.{Presence, required, optional, group, defau
 use Rattle.per_core.specs.Basic.{Char, Choice, Chosen, Counted, Item, octet, basic_in, rules_in}
 use Rattle.per_core.specs.Counts.{ItemKind, list_items, octet_items, bit_items, char_items}
 use Rattle.per_core.specs.Spellings.{Settings, Spelling}
-use Rattle.per_core.specs.FewItems.{Each}
+use Rattle.per_core.specs.ItemCounts.{Each}
 use Rattle.per_core.specs.Writers.{after}
 use Rattle.rasn_schema.proofs.Bags.{any_in_bag}
-use Rattle.per_core.proofs.FewLengths.{then_length}
+use Rattle.per_core.proofs.LengthCounts.{then_length}
 use Rattle.per_core.proofs.HeldIn.{HeldIn, SlotHeld, SlotsHeld, lengthy_held, open_held, fields_held, each_map}
 use Rattle.per_core.proofs.LengthForms.{and_right, or_left, or_right}
 use Rattle.per_laws.proofs.Valued.{bag_passes}

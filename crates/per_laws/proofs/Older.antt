@@ -14,7 +14,7 @@ use Rattle.per_core.specs.Counts.{list_items}
 use Rattle.per_core.specs.Spellings.{Settings}
 use Rattle.rasn_types.specs.AllOf.{joined, all_of}
 use Rattle.per_core.specs.Versions.{project, project_slots, project_at, widen, widen_slots, widen_at, slot_through, slots_through, through_elements, through_bag, through_fields, through_alternative, through_item, made, made_both, IsPlain, NewerPresence, Newer, NewerParts, unchanged, more_items, newer_containing, newer_list, newer_set_of, newer_sequence, newer_choice, no_more, more_parts, also}
-use Rattle.per_core.proofs.Agree.{Agree, weaken}
+use Rattle.per_core.proofs.SpellingsAgree.{Agree, weaken}
 use Rattle.rasn_schema.proofs.Bags.{bag_becomes, any_in_bag, joined_of}
 use Rattle.per_core.proofs.LengthForms.{Zip, lengthy_agree, or_left, or_right}
 use Rattle.per_core.proofs.Records.{SlotRel, AllKin, Along, fields_agree}

@@ -13,13 +13,13 @@ use Rattle.per_core.specs.Versions.{element_of, alternatives_of, added_of, proje
 use Rattle.rasn_schema.specs.Normal.{root_of, additions_of}
 use Rattle.per_core.proofs.Presenting.{unpack-complete}
 use Rattle.per_core.proofs.Unique.{fills_agree}
-use Rattle.per_core.proofs.Within.{zero_if}
-use Rattle.per_core.proofs.Agree.{Agree}
+use Rattle.per_core.proofs.WriterSpellings.{zero_if}
+use Rattle.per_core.proofs.SpellingsAgree.{Agree}
 use Rattle.per_core.proofs.Laws.{written_is_read, fronts_agree}
 use Rattle.per_core.proofs.LengthForms.{or_left, or_right, and_no}
 use Rattle.per_laws.proofs.Transitive.{or_both}
 use Rattle.per_laws.proofs.Carry.{fills_carry}
-use Rattle.per_laws.proofs.Deeper.{looser, uncut}
+use Rattle.per_laws.proofs.DeeperTrees.{looser, uncut}
 use Rattle.per_laws.proofs.Readers.{written_is_known}
 use Rattle.per_laws.proofs.Types.{up_to, older_type_answers, newer_type_answers, any_less}
 use Rattle.per_laws.specs.Written.{is_written, writes_cut, slots_write_cut, writes_cut_at}

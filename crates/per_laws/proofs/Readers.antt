@@ -13,12 +13,12 @@ use Rattle.per_core.proofs.Canonical.{canonical}
 use Rattle.per_core.proofs.Laws.{fronts_agree}
 use Rattle.per_core.proofs.Presenting.{unpack-complete}
 use Rattle.per_core.proofs.Unique.{fills_agree}
-use Rattle.per_core.proofs.Within.{zero_if}
+use Rattle.per_core.proofs.WriterSpellings.{zero_if}
 use Rattle.per_laws.proofs.Carry.{fills_carry}
-use Rattle.per_laws.proofs.Deeper.{deeper, shallower, looser}
+use Rattle.per_laws.proofs.DeeperTrees.{deeper, shallower, looser}
 use Rattle.per_laws.proofs.Newer.{newer_reads}
 use Rattle.per_laws.proofs.Older.{older_reads}
-use Rattle.per_laws.proofs.Held.{older_takes, newer_takes}
+use Rattle.per_laws.proofs.OlderReadings.{older_takes, newer_takes}
 
 -- what an older reader reads of the same octets is the projection
 pub older_is_projection : (a : Settings) (s' s : Schema) → Newer s' s → (v' v : Value) (os : List ℕ) → meets_cut s' v' ≡ false → fills a s' v' os → fills a s v os → project s' s v' ≡ Some v

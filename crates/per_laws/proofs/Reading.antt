@@ -1,4 +1,4 @@
--- What a reader has read, stands above the cuts of its tree: whatever else it may have read of the same bits.
+-- What a reader has read, is above the cuts of its tree: whatever else it may have read of the same bits.
 use Rattle.per_core.specs.Basic
 use Rattle.rasn_schema.specs.Schemas
 use Rattle.std.proofs.Common.{◌≡◌, refl, sym, ap, ◌∙◌, subst, ℕ, zero, suc, ◌+◌, Bool, true, false, cond, not, ◌&&◌, List, [], ◌∷◌, length, eq-eqb, Option, Some, None}
@@ -11,14 +11,14 @@ use Rattle.rasn_schema.specs.Depth.{any_of, IsLeaf}
 use Rattle.per_core.specs.Spellings.{Settings}
 use Rattle.per_core.specs.Counts.{list_items}
 use Rattle.per_core.specs.Basic.{FlagOf, IsLeftOut, Record, Counted, Rule, IsConstrainedWhole, Chosen, Open, Fills, basic, basic_in, rules}
-use Rattle.per_core.proofs.Agree.{Agree, weaken, then_agree, agree_never, never_agree, turned}
+use Rattle.per_core.proofs.SpellingsAgree.{Agree, weaken, then_agree, agree_never, never_agree, turned}
 use Rattle.per_core.proofs.LengthForms.{Zip, bounded_agree, lengthy_agree, or_left, or_right, and_no}
 use Rattle.per_core.proofs.Unique.{as_agree, small_agree, open_agree, fills_agree}
 use Rattle.per_core.proofs.Records.{SlotRel, Kin, AllKin, Along, fields_agree}
 use Rattle.per_core.proofs.Readings.{one_reading, item_agree, ordered-kin, along-listed, length-rules, same_flags, same_bit, root_added}
 use Rattle.per_laws.proofs.Transitive.{or_both}
 use Rattle.per_laws.specs.Written.{is_written, writes_cut, slots_write_cut, writes_cut_at}
-use Rattle.per_laws.proofs.Same.{slot_written_cut}
+use Rattle.per_laws.proofs.SameWritten.{slot_written_cut}
 
 -- The reader's tree and the writer's: the same kinds, save that the reader's is cut off, and that one of the two has additions that the other lacks.
 abbrev pub SameKind : Presence → Presence → Type 0

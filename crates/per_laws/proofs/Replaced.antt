@@ -15,7 +15,7 @@ use Rattle.per_laws.proofs.Sound.{holds_sound, open_sound, octets_end, Sound, Ki
 after_both : (p : ℕ) (b c : Bits) → after (after p b) c ≡ after p (b ++ c)
 after_both p b c = omega (arith, length-append b c)
 
--- a spelling, and behind it two of another that pair with it
+-- a spelling, and after it two of another that pair with it
 GoesOn : Spelling → Spelling → Spelling → Pair → Type 0
 GoesOn g k l H = (q : ℕ) (b c d : Bits) → q < 8 → g q b → k (after q b) c → l (after q b) d → H q (b ++ c) (b ++ d)
 
@@ -55,13 +55,13 @@ unknown_on a (true ∷ more) (o ∷ os) (q ∷ qs) m n p c d x y =
       others_join = y.joins;
     }
 
-unknown_behind : (a : Settings) (more : List Bool) (os qs : List (List ℕ)) → count_set more ≡ length os → count_set more ≡ length qs → (shown : List Bool) (p : ℕ) (b c d : Bits) → p < 8 → Unknown_in a false shown p b →
+unknown_after : (a : Settings) (more : List Bool) (os qs : List (List ℕ)) → count_set more ≡ length os → count_set more ≡ length qs → (shown : List Bool) (p : ℕ) (b c d : Bits) → p < 8 → Unknown_in a false shown p b →
     OpenTypes a os (after p b) c → OpenTypes a qs (after p b) d → UnknownAlike a (shown ++ more) p (b ++ c) (b ++ d)
-unknown_behind a more os qs m n [] p b c d l x y z =
+unknown_after a more os qs m n [] p b c d l x y z =
     let e : after p b ≡ p = ap (after p) x ∙ omega arith in
     subst (λ w. UnknownAlike a more p (w ++ c) (w ++ d)) (sym x) (unknown_on a more os qs m n p c d (subst (λ q. OpenTypes a os q c) e y) (subst (λ q. OpenTypes a qs q d) e z))
-unknown_behind a more os qs m n (false ∷ shown) p b c d l x y z = unknown_behind a more os qs m n shown p b c d l x y z
-unknown_behind a more os qs m n (true ∷ shown) p b c d l x y z = absurd x
+unknown_after a more os qs m n (false ∷ shown) p b c d l x y z = unknown_after a more os qs m n shown p b c d l x y z
+unknown_after a more os qs m n (true ∷ shown) p b c d l x y z = absurd x
 
 one_less : {m n : ℕ} {more : List Bool} → (suc m ≡ suc n) ⊎ (more ≡ []) → (m ≡ n) ⊎ (more ≡ [])
 one_less (inl e) = inl (omega (arith, e))
@@ -71,7 +71,7 @@ module _ (a : Settings) (more : List Bool) (os qs : List (List ℕ)) (m : count_
   additions_on : (ks : List Kin) → KinsSound ks → (xs : List (Option Value)) (shown : List Bool) → (length shown ≡ length (rules_of ks)) ⊎ (more ≡ []) →
       GoesOn (Additions_in a false (rules_of ks) xs shown) (OpenTypes a os) (OpenTypes a qs) (AdditionsAlike a ks xs (shown ++ more))
   unfolding GoesOn
-  additions_on [] h [] shown k = λ p b c d l x y z. unknown_behind a more os qs m n shown p b c d l x y z
+  additions_on [] h [] shown k = λ p b c d l x y z. unknown_after a more os qs m n shown p b c d l x y z
   additions_on [] h (s ∷ xs) shown k = λ p b c d l x y z. absurd x
   additions_on (j ∷ ks) h [] shown k = λ p b c d l x y z. absurd x
   additions_on (j ∷ ks) h (s ∷ xs) [] (inl e) = absurd (omega arith)

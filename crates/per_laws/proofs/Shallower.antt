@@ -8,7 +8,7 @@ use Rattle.per_laws.proofs.Successors.{successors_are_newer}
 use Rattle.per_laws.proofs.Types.{less_cut}
 use Rattle.per_laws.proofs.Wider.{narrower}
 use Rattle.per_laws.specs.Successors.{PresenceSucceeds, Succeeds, SucceedsParts, SucceedsType, succeeds_itself, succeeds_items, succeeds_containing, succeeds_list, succeeds_set_of, succeeds_sequence, succeeds_choice, none_succeed, added_parts, succeeds_part}
-use Rattle.per_laws.proofs.Itself.{newer_than_itself}
+use Rattle.per_laws.proofs.VersionOfItself.{newer_than_itself}
 use Rattle.per_laws.proofs.Levelled.{levelled_type_unfolds, levels_up_to, to_cut}
 use Rattle.per_laws.specs.Compared.{comparison}
 use Rattle.per_laws.specs.Verdicts.{allowed}

@@ -12,18 +12,18 @@ use Rattle.per_core.proofs.Laws.{one_spelling, one_value}
 use Rattle.per_core.proofs.Readings.{length-rules}
 use Rattle.per_laws.specs.Unknown.{count_set, OpenTypes, BeforeUnknown, WithUnknown}
 
--- positions behind bits
+-- positions after bits
 after_both : (p : ℕ) (b c : Bits) → after (after p b) c ≡ after p (b ++ c)
 after_both p b c = omega (arith, length-append b c)
 
-behind_front : (p : ℕ) (b c d : Bits) → d ≡ b ++ c → after p d ≡ after (after p b) c
-behind_front p b c d e = ap (after p) e ∙ sym (after_both p b c)
+after_front : (p : ℕ) (b c d : Bits) → d ≡ b ++ c → after p d ≡ after (after p b) c
+after_front p b c d e = ap (after p) e ∙ sym (after_both p b c)
 
--- a spelling that goes on behind another one
-then_behind : (f g h k : Spelling) → ((q : ℕ) (b c : Bits) → q < 8 → g q b → k (after q b) c → h q (b ++ c)) →
+-- a spelling that goes on after another one
+then_after : (f g h k : Spelling) → ((q : ℕ) (b c : Bits) → q < 8 → g q b → k (after q b) c → h q (b ++ c)) →
     (p : ℕ) (b c : Bits) → Then f g p b → k (after p b) c → Then f h p (b ++ c)
-then_behind f g h k each p b c x y =
-    let e = behind_front p x.front x.rest b x.joins in
+then_after f g h k each p b c x y =
+    let e = after_front p x.front x.rest b x.joins in
     record {
       front = x.front;
       rest = x.rest ++ c;
@@ -38,7 +38,7 @@ record Halves (g k : Spelling) (p : ℕ) (b : Bits) : Type 0 where
   behind : Bits
   joins : b ≡ before ++ behind
   is_before : g p before
-  is_behind : k (after p before) behind
+  is_after : k (after p before) behind
 
 then_halves : (f g h k : Spelling) (p : ℕ) (b : Bits) (x : Then f h p b) → Halves g k (after p x.front) x.rest → Halves (Then f g) k p b
 then_halves f g h k p b x y = record {
@@ -46,7 +46,7 @@ then_halves f g h k p b x y = record {
   behind = y.behind;
   joins = x.joins ∙ ap (λ z. x.front ++ z) y.joins ∙ sym (append_assoc x.front y.before y.behind);
   is_before = record { front = x.front; rest = y.before; is_front = x.is_front; is_rest = y.is_before; joins = refl };
-  is_behind = subst (λ q. k q y.behind) (after_both p x.front y.before) y.is_behind;
+  is_after = subst (λ q. k q y.behind) (after_both p x.front y.before) y.is_after;
 }
 
 -- unknown additions are open types of any octets
@@ -99,7 +99,7 @@ no_flags a [] (s ∷ xs) p b x = absurd x
 no_flags a (r ∷ rs) [] p b x = absurd x
 no_flags a (r ∷ rs) (s ∷ xs) p b x = (x.0, no_flags a rs xs p b x.1)
 
--- the additions of the schema, and the unknown ones behind them
+-- the additions of the schema, and the unknown ones after them
 goes_on : (a : Settings) (more : List Bool) (octets : List (List ℕ)) → count_set more ≡ length octets → (rs : List Rule) (xs : List (Option Value)) (shown : List Bool) → length shown ≡ length rs →
     (p : ℕ) (b c : Bits) → p < 8 → Additions_in a false rs xs shown p b → OpenTypes a octets (after p b) c → Additions_in a true rs xs (shown ++ more) p (b ++ c)
 goes_on a more octets n [] [] [] k p b c l x y =
@@ -111,7 +111,7 @@ goes_on a more octets n (r ∷ rs) [] shown k p b c l x y = absurd x
 goes_on a more octets n (r ∷ rs) (s ∷ xs) [] k p b c l x y = absurd (omega arith)
 goes_on a more octets n (r ∷ rs) (s ∷ xs) (false ∷ shown) k p b c l x y = (x.0, goes_on a more octets n rs xs shown (omega arith) p b c l x.1 y)
 goes_on a more octets n (r ∷ rs) (s ∷ xs) (true ∷ shown) k p b c l x y =
-    then_behind _ (Additions_in a false rs xs shown) (Additions_in a true rs xs (shown ++ more)) (OpenTypes a octets) (goes_on a more octets n rs xs shown (omega arith)) p b c x y
+    then_after _ (Additions_in a false rs xs shown) (Additions_in a true rs xs (shown ++ more)) (OpenTypes a octets) (goes_on a more octets n rs xs shown (omega arith)) p b c x y
 
 record Parted (a : Settings) (rs : List Rule) (xs : List (Option Value)) (bs : List Bool) (p : ℕ) (b : Bits) : Type 0 where
   shown : List Bool
@@ -137,7 +137,7 @@ parted a [] [] bs p b l x =
       enough = inl refl;
       octets = r.octets;
       announced = r.announced;
-      halves = record { before = []; behind = b; joins = refl; is_before = refl; is_behind = subst (λ q. OpenTypes a r.octets q b) e r.spelled };
+      halves = record { before = []; behind = b; joins = refl; is_before = refl; is_after = subst (λ q. OpenTypes a r.octets q b) e r.spelled };
     }
 parted a [] (s ∷ xs) bs p b l x = absurd x
 parted a (r ∷ rs) [] bs p b l x = absurd x
@@ -148,7 +148,7 @@ parted a (r ∷ rs) (s ∷ xs) [] p b l x = record {
   enough = inr refl;
   octets = [];
   announced = refl;
-  halves = record { before = b; behind = []; joins = sym (append-nil b); is_before = no_flags a (r ∷ rs) (s ∷ xs) p b x; is_behind = refl };
+  halves = record { before = b; behind = []; joins = sym (append-nil b); is_before = no_flags a (r ∷ rs) (s ∷ xs) p b x; is_after = refl };
 }
 parted a (r ∷ rs) (s ∷ xs) (false ∷ bs) p b l x =
     let q = parted a rs xs bs p b l x.1 in
@@ -159,7 +159,7 @@ parted a (r ∷ rs) (s ∷ xs) (false ∷ bs) p b l x =
       enough = one_more q.enough;
       octets = q.octets;
       announced = q.announced;
-      halves = record { before = q.halves.before; behind = q.halves.behind; joins = q.halves.joins; is_before = (x.0, q.halves.is_before); is_behind = q.halves.is_behind };
+      halves = record { before = q.halves.before; behind = q.halves.behind; joins = q.halves.joins; is_before = (x.0, q.halves.is_before); is_after = q.halves.is_after };
     }
 parted a (r ∷ rs) (s ∷ xs) (true ∷ bs) p b l x =
     let q = parted a rs xs bs (after p x.front) x.rest (omega arith) x.is_rest in
@@ -205,9 +205,9 @@ read_with a o ps adds more octets v p b c x n y =
       is = x.is;
       spelled = inr (record {
         flags = flags;
-        spelled = then_behind _ (Rooted a o ps adds ss xs flags false x.shown) (Rooted a o ps adds ss xs flags true flags) (OpenTypes a octets) (λ q b c l.
-            then_behind _ (Bitmapped a adds xs flags false x.shown) (Bitmapped a adds xs flags true flags) (OpenTypes a octets) (λ q b c l.
-            then_behind _ (Additions_in a false (rules a adds) xs x.shown) (Additions_in a true (rules a adds) xs flags) (OpenTypes a octets)
+        spelled = then_after _ (Rooted a o ps adds ss xs flags false x.shown) (Rooted a o ps adds ss xs flags true flags) (OpenTypes a octets) (λ q b c l.
+            then_after _ (Bitmapped a adds xs flags false x.shown) (Bitmapped a adds xs flags true flags) (OpenTypes a octets) (λ q b c l.
+            then_after _ (Additions_in a false (rules a adds) xs x.shown) (Additions_in a true (rules a adds) xs flags) (OpenTypes a octets)
             (either_on a more octets n (rules a adds) xs x.shown (count adds) (length-rules a adds) x.enough) q b c) q b c) p b c x.spelled y;
       });
     }
@@ -240,9 +240,9 @@ on_flags : (a : Settings) (o : Order) (ps adds : Parts) (ss xs : List (Option Va
     Then (exactly (true ∷ [])) (Rooted a o ps adds ss xs fs false shown) p b → Then (exactly (true ∷ [])) (Rooted a o ps adds ss xs gs false shown) p b
 on_flags a o ps adds ss xs shown fs gs p b e x = subst (λ flags. Then (exactly (true ∷ [])) (Rooted a o ps adds ss xs flags false shown) p b) e x
 
-pub unknown_behind : (a : Settings) (o : Order) (ps adds : Parts) (v : Value) (p : ℕ) (b : Bits) → basic a (Schema.sequence o ps true adds) v p (true ∷ b) → WithUnknown a o ps adds v p (true ∷ b)
+pub unknown_after : (a : Settings) (o : Order) (ps adds : Parts) (v : Value) (p : ℕ) (b : Bits) → basic a (Schema.sequence o ps true adds) v p (true ∷ b) → WithUnknown a o ps adds v p (true ∷ b)
 unfolding basic_in
-unknown_behind a o ps adds v p b x = go x.of.0 x.of.1 x.is x.spelled
+unknown_after a o ps adds v p b x = go x.of.0 x.of.1 x.is x.spelled
   where
     go : (ss xs : List (Option Value)) → v ≡ fields (as_slots ss) (as_slots xs) → Record_in a true true (ordered o (tags ps) (rules a ps)) (rules a adds) (ordered o (tags ps) ss) xs p (true ∷ b) → WithUnknown a o ps adds v p (true ∷ b)
     go ss xs e (inl y) = let h : true ∷ b ≡ false ∷ y.rest = y.joins ∙ ap (λ z. z ++ y.rest) y.is_front in absurd (cc)
@@ -260,7 +260,7 @@ unknown_behind a o ps adds v p b x = go x.of.0 x.of.1 x.is x.spelled
           joins = h.joins;
           is_known = record { components = ss; additions = xs; is = e; shown = q.shown; enough = to_count q.enough; spelled = on_flags a o ps adds ss xs q.shown z.flags (q.shown ++ q.more) p h.before q.joins h.is_before };
           announced = q.announced;
-          is_unknown = h.is_behind;
+          is_unknown = h.is_after;
         }
       where
         to_count : {m : ℕ} {more : List Bool} → (m ≡ length (rules a adds)) ⊎ (more ≡ []) → (m ≡ count adds) ⊎ (more ≡ [])
@@ -288,9 +288,9 @@ padded_whole : (a : Settings) (f : Spelling) (p : ℕ) (b : Bits) (x : Then (Any
 unfolding settled
 padded_whole a f p b x e = omega (arith, ap length x.joins, length-append x.front x.rest, x.is_front.fits)
 
-behind_octets : (a : Settings) (p n : ℕ) (b c d : Bits) → length b ≡ pad a.variant p → length c ≡ 8 → length d ≡ 8 * n → after (after (after p b) c) d ≡ (settled a.variant p + 8 * n) % 8
+after_octets : (a : Settings) (p n : ℕ) (b c d : Bits) → length b ≡ pad a.variant p → length c ≡ 8 → length d ≡ 8 * n → after (after (after p b) c) d ≡ (settled a.variant p + 8 * n) % 8
 unfolding settled
-behind_octets a p n b c d e f g = omega arith
+after_octets a p n b c d e f g = omega arith
 
 fragments_settle : (a : Settings) (k : ℕ) (os : List ℕ) (p : ℕ) (b : Bits) → InFragments a octet k os p b → after p b ≡ settled a.variant p
 fragments_settle a zero os p b x =
@@ -303,7 +303,7 @@ fragments_settle a (suc k) os p b z =
     let q = after (after (after p x.front) y.front) w.front in
     let e : after p b ≡ after q w.rest = omega (arith, ap length x.joins, length-append x.front x.rest, ap length y.joins, length-append y.front y.rest, ap length w.joins, length-append w.front w.rest) in
     e ∙ fragments_settle a k z.others q w.rest w.is_rest
-    ∙ ap (settled a.variant) (behind_octets a p (length z.these) x.front y.front w.front x.is_front.fits y.is_front.spelled.wide (row_length z.these (after (after p x.front) y.front) w.front w.is_front))
+    ∙ ap (settled a.variant) (after_octets a p (length z.these) x.front y.front w.front x.is_front.fits y.is_front.spelled.wide (row_length z.these (after (after p x.front) y.front) w.front w.is_front))
     ∙ settled_again a.variant p (length z.these)
 
 octets_settle : (a : Settings) (os : List ℕ) (p : ℕ) (b : Bits) → Octets a os p b → after p b ≡ settled a.variant p
@@ -315,6 +315,6 @@ end_alike a [] (os ∷ others) p b c x y l = absurd (omega arith)
 end_alike a (os ∷ octets) [] p b c x y l = absurd (omega arith)
 end_alike a (os ∷ octets) (os' ∷ others) p b c x y l =
     let e : after p x.front ≡ after p y.front = octets_settle a os p x.front x.is_front ∙ sym (octets_settle a os' p y.front y.is_front) in
-    behind_front p x.front x.rest b x.joins
+    after_front p x.front x.rest b x.joins
     ∙ end_alike a octets others (after p x.front) x.rest y.rest x.is_rest (subst (λ q. OpenTypes a others q y.rest) (sym e) y.is_rest) (omega arith)
-    ∙ ap (λ q. after q y.rest) e ∙ sym (behind_front p y.front y.rest c y.joins)
+    ∙ ap (λ q. after q y.rest) e ∙ sym (after_front p y.front y.rest c y.joins)

@@ -28,7 +28,7 @@ record HeldAt (may : Bool) (ps' ps : Parts) (i : ℕ) (v : Value) : Type 0 where
   succeeds : SucceedsParts may newer older
   whole : meets_cut_at newer i v ≡ false
 
--- what stands in a successor succeeds
+-- what is in a successor succeeds
 of_contained : {s' s : Schema} → Succeeds (Schema.containing s') (Schema.containing s) → Succeeds s' s
 of_contained (succeeds_itself h) = absurd h
 of_contained (succeeds_containing n) = n
@@ -60,7 +60,7 @@ of_added (succeeds_choice n ns) = ns
 of_part : {may : Bool} {t t' : TagTree} {p p' : Presence} {s s' : Schema} {ps ps' : Parts} → SucceedsParts may (part t' p' s' ps') (part t p s ps) → PresenceSucceeds s' s p' p × Succeeds s' s × SucceedsParts may ps' ps
 of_part (succeeds_part h n ns) = (h, n, ns)
 
--- what stands in a newer version is newer
+-- what is in a newer version is newer
 in_newer_contained : {e' e : Schema} → Newer (Schema.containing e') (Schema.containing e) → Newer e' e
 in_newer_contained (unchanged h) = absurd h
 in_newer_contained (newer_containing n) = n

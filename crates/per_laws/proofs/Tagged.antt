@@ -41,7 +41,7 @@ found_right f us vs e = any_append f us vs ∙ ap (λ b. any_of f us || b) e ∙
     go true = refl
     go false = refl
 
--- no tag stands in both halves
+-- no tag is in both halves
 pub apart : (us vs : List Tag) (t : Tag) → are_distinct (us ++ vs) ≡ true → any_of (same_tag t) us ≡ true → any_of (same_tag t) vs ≡ true → ⊥
 apart [] vs t d e f = absurd (cc)
 apart (u ∷ us) vs t d e f = go (same_tag t u) refl (apart us vs t (and_right (is_new u (us ++ vs)) (are_distinct (us ++ vs)) d))

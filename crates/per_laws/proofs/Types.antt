@@ -8,8 +8,8 @@ use Rattle.per_core.specs.Spellings.{Settings}
 use Rattle.per_core.specs.Versions.{project, widen, NewerType}
 use Rattle.per_core.proofs.LengthForms.{or_left, or_right}
 use Rattle.per_laws.proofs.Carry.{fills_carry}
-use Rattle.per_laws.proofs.Deeper.{deeper, looser, uncut}
-use Rattle.per_laws.proofs.Held.{older_holds, newer_holds}
+use Rattle.per_laws.proofs.DeeperTrees.{deeper, looser, uncut}
+use Rattle.per_laws.proofs.OlderReadings.{older_holds, newer_holds}
 use Rattle.per_laws.proofs.Readers.{older_answers, newer_answers, deeper_reads, shallower_reads}
 use Rattle.per_laws.proofs.Transitive.{or_both}
 

@@ -9,7 +9,7 @@ use Rattle.per_core.specs.Versions.{widen, widen_slots, widen_at, slot_through, 
 use Rattle.rasn_schema.proofs.Bags.{joined_of}
 use Rattle.per_core.proofs.LengthForms.{or_left, or_right}
 use Rattle.per_core.proofs.Readings.{some_same}
-use Rattle.per_laws.proofs.Held.{plain_cut, same_filled}
+use Rattle.per_laws.proofs.OlderReadings.{plain_cut, same_filled}
 use Rattle.per_laws.proofs.Older.{made_of, made_both_of, slot_some}
 use Rattle.per_laws.proofs.Transitive.{Slotted, in_bag, into_slot, slot_apart, slot_test, some_l, some_o}
 use Rattle.per_laws.specs.Successors.{Succeeds, SucceedsParts, succeeds_itself, succeeds_items, succeeds_containing, succeeds_list, succeeds_set_of, succeeds_sequence, succeeds_choice, none_succeed, added_parts, succeeds_part}

@@ -14,7 +14,7 @@ use Rattle.per_core.specs.Counts.{list_items, is_aligned}
 use Rattle.per_core.specs.Spellings.{Settings, Spelling, exactly, When, AnyPadding}
 use Rattle.per_core.specs.Writers.{after}
 
--- two lists of bits that may stand from a position on
+-- two lists of bits that may be from a position on
 abbrev pub Pair : Type 1
 Pair = ℕ → Bits → Bits → Type 0
 
@@ -142,7 +142,7 @@ pub record RootAlike (ks : List Kin) (ss : List (Option Value)) (p : ℕ) (b c :
   pub shown : List Bool
   pub alike : Both (Same (Flags (rules_of ks) shown)) (BodiesAlike ks shown ss) p b c
 
--- X.691 19.7 to 19.9: additions as the same bitmap shows them: those of the schema alike, and behind them any
+-- X.691 19.7 to 19.9: additions as the same bitmap shows them: those of the schema alike, and after them any
 abbrev pub AdditionsAlike : Settings → List Kin → List (Option Value) → List Bool → Pair
 AdditionsAlike a [] [] bs = UnknownAlike a bs
 AdditionsAlike a [] (s ∷ ss) bs = no_pair

@@ -13,7 +13,7 @@ use Rattle.per_laws.specs.Verdicts.{other_alphabet, other_items, other_marker, o
 use Rattle.per_laws.specs.Verdicts.{other_presence, other_default, left_out, put_in, no_end, in_contents}
 use Rattle.per_laws.specs.Verdicts.{in_element, in_root, in_additions, at_place, both, unless, within}
 
--- kinds in which no schema stands: the same, save that items may be added behind a marker
+-- kinds in which no schema stands: the same, save that items may be added after a marker
 abbrev pub compare_leaf : Schema → Schema → Verdict
 compare_leaf Schema.boolean Schema.boolean = allowed
 compare_leaf Schema.null Schema.null = allowed
@@ -96,7 +96,7 @@ abbrev pub compare_end : ℕ → Parts → Verdict
 compare_end i no_parts = allowed
 compare_end i (part t p s ps) = at_place i left_out
 
--- a component, and those behind it, of which verdicts are there
+-- a component, and those after it, of which verdicts are there
 abbrev pub compare_part : Bool → TagTree → Presence → Schema → (Schema → Verdict) → (ℕ → Parts → Verdict) → ℕ → Parts
     → Verdict
 compare_part may t' p' s' f g i no_parts = cond may allowed (at_place i put_in)

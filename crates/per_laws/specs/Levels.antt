@@ -4,7 +4,7 @@ use Rattle.rasn_types.specs.Values.{Value, elements, bag, fields, alternative, d
 use Rattle.rasn_types.specs.Values.{no_slots, absent, there}
 use Rattle.rasn_schema.specs.Schemas.{Schema, Parts, no_parts, part}
 
--- A list, a bag, a record and an alternative are one level above what stands in them; a date is a record that holds a
+-- A list, a bag, a record and an alternative are one level above what is in them; a date is a record that holds a
 -- choice (X.691, section 32).
 unfoldable mutual
   pub levels_of : Value → ℕ
@@ -29,7 +29,7 @@ abbrev pub Below : (ℕ → Type 0) → ℕ → Type 0
 Below f zero = Unit {0}
 Below f (suc n) = f n
 
--- every Cut of the tree stands at least n levels down
+-- every Cut of the tree is at least n levels down
 abbrev mutual
   pub Deep : ℕ → Schema → Type 0
   Deep n Schema.cut = Below (λ m. ⊥) n

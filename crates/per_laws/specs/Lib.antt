@@ -4,7 +4,7 @@ pub mod Levels
 pub mod Listings
 pub mod Written
 pub mod Alike
-pub mod Named
+pub mod NamedBits
 pub mod Sameness
 pub mod Compared
 pub mod Components

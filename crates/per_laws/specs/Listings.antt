@@ -12,7 +12,7 @@ tags_at no_parts i = []
 tags_at (part t p s ps) zero = leaves t
 tags_at (part t p s ps) (suc i) = tags_at ps i
 
--- X.680 29.3: whether a tag is one of the alternative at a place, in the root or behind the extension marker
+-- X.680 29.3: whether a tag is one of the alternative at a place, in the root or after the extension marker
 abbrev pub has_tag : Parts → Parts → Side → ℕ → Tag → Bool
 has_tag ps adds root i t = any_of (same_tag t) (tags_at ps i)
 has_tag ps adds added i t = any_of (same_tag t) (tags_at adds i)

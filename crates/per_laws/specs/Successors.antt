@@ -21,7 +21,7 @@ PresenceSucceeds s' s _ _ = ⊥
 
 mutual
   -- X.680 52: the first schema is an extension successor of the second: the same tree, in which more additions,
-  -- alternatives and items may stand behind an extension marker
+  -- alternatives and items may be after an extension marker
   pub data Succeeds : Schema → Schema → Type 0 where
     succeeds_itself : {s : Schema} → IsPlain s → Succeeds s s
     succeeds_items : {r e e' : ℕ} → e ≤ e' → Succeeds (Schema.items r e' true) (Schema.items r e true)

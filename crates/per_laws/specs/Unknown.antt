@@ -19,7 +19,7 @@ abbrev pub OpenTypes : Settings → List (List ℕ) → Spelling
 OpenTypes a = OneByOne (Octets a)
 
 -- X.691 19: a record with extension bit 1 up to its unknown additions: the root components, a bitmap, in which `more`
--- stands behind the bits for the additions of the schema, and these additions. A bitmap may also be shorter than the
+-- is after the bits for the additions of the schema, and these additions. A bitmap may also be shorter than the
 -- schema's list
 pub record BeforeUnknown (a : Settings) (o : Order) (ps adds : Parts) (more : List Bool) (v : Value) (p : ℕ)
     (bits : Bits) : Type 0 where
@@ -32,7 +32,7 @@ pub record BeforeUnknown (a : Settings) (o : Order) (ps adds : Parts) (more : Li
       (Then (Root (ordered o (tags ps) (rules a ps)) (ordered o (tags ps) components))
       (Then (IsBitmap a (shown ++ more)) (Additions_in a false (rules a adds) additions shown))) p bits
 
--- a record with extension bit 1, and the octets of its unknown additions behind all else
+-- a record with extension bit 1, and the octets of its unknown additions after all else
 pub record WithUnknown (a : Settings) (o : Order) (ps adds : Parts) (v : Value) (p : ℕ) (bits : Bits) : Type 0 where
   pub more : List Bool
   pub octets : List (List ℕ)

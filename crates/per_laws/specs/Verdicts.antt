@@ -19,7 +19,7 @@ pub data Verdict : Type 0 where
   bad_bounds bad_size root_group bad_group many_bits repeated_tag bad_alternative bad_default : Verdict
   -- X.680: a type that holds itself, or has more than 128 levels, of which computing finds no end
   no_end : Verdict
-  -- where it is: in what octets contain, in the elements of a list or bag, in the root or behind the marker, at a place
+  -- where it is: in what octets contain, in the elements of a list or bag, in the root or after the marker, at a place
   -- from 0
   in_contents in_element in_root in_additions : Verdict → Verdict
   at_place : ℕ → Verdict → Verdict

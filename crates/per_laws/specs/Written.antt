@@ -1,4 +1,4 @@
--- Whether a component that is written stands where the reader's tree is cut off.
+-- Whether a component that is written is where the reader's tree is cut off.
 use Rattle.std.specs.Prelude.{ℕ, zero, suc, Bool, true, false, not, ◌&&◌, List, Option}
 use Rattle.rasn_types.specs.Values.{Value, same}
 use Rattle.rasn_schema.specs.Schemas.{Presence, default, Schema, Parts, no_parts, part}

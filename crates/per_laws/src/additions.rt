@@ -9,7 +9,7 @@ ghost use Rattle.per_core.specs.Spellings.{Settings, ZeroIf};
 ghost use Rattle.per_core.specs.Writers.{after};
 ghost use Rattle.per_laws.specs.Unknown.{BeforeUnknown, OpenTypes, WithUnknown, count_set};
 
-/// Whatever octets stand in the unknown additions of a record, of none or of any, it is read as the same value and as
+/// Whatever octets are in the unknown additions of a record, of none or of any, it is read as the same value and as
 /// nothing else. The tree that reads what is known reads all, wherever it is cut off: so they take no level (X.691,
 /// 19.9).
 pub fn unknown_additions_change_nothing()
@@ -20,18 +20,18 @@ pub fn unknown_additions_change_nothing()
 {}
 
 /// Every record that is read with extension bit 1 is of that form.
-pub fn unknown_additions_stand_behind_all_else()
+pub fn unknown_additions_stand_after_all_else()
     ensures { (a : Settings) (o : Order) (ps adds : Parts) (v : Value) (p : ℕ) (bits : Bits) →
         basic a (Schema.sequence o ps true adds) v p (true ∷ bits) → WithUnknown a o ps adds v p (true ∷ bits) }
 {}
 
-/// What follows them begins at the same position modulo 8, whatever octets stand in them (X.691, 11.2).
+/// What follows them begins at the same position modulo 8, whatever octets are in them (X.691, 11.2).
 pub fn open_types_of_any_octets_end_alike()
     ensures { (a : Settings) (octets others : List (List ℕ)) (p : ℕ) (bits other : Bits) → OpenTypes a octets p bits
         → OpenTypes a others p other → length octets ≡ length others → after p bits ≡ after p other }
 {}
 
-/// So a complete encoding is read as the same value whatever octets stand in its unknown additions (X.691, 11.1, 19.9).
+/// So a complete encoding is read as the same value whatever octets are in its unknown additions (X.691, 11.1, 19.9).
 pub fn complete_encoding_is_read_whatever_is_unknown()
     ensures { (a : Settings) (o : Order) (ps adds : Parts) (more : List Bool) (contents : List (List ℕ)) (v w : Value)
         (known unknown spare : Bits) (octets : List ℕ) → BeforeUnknown a o ps adds more v 0 known

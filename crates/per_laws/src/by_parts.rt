@@ -1,5 +1,5 @@
 //! Newer versions by what was added to them, and lawful types by their parts, also where a type that holds itself
-//! stands in them, of which computing finds no end (X.680, 52). Each law is the contract of a function that does
+//! is in them, of which computing finds no end (X.680, 52). Each law is the contract of a function that does
 //! nothing.
 
 ghost use Rattle.std.specs.Prelude.{◌≡◌, ℕ, ◌+◌, ◌++◌, Bool, true, false, List, Some};
@@ -18,20 +18,20 @@ ghost use Rattle.per_laws.specs.Components.{AreLawfulComponents, AreNewer};
 ghost use Rattle.per_laws.specs.Judged.{judge_choice, judge_record};
 ghost use Rattle.per_laws.specs.Verdicts.{allowed};
 
-/// A lawful SEQUENCE or SET with more additions at the end of those behind its marker is a newer version.
+/// A lawful SEQUENCE or SET with more additions at the end of those after its marker is a newer version.
 pub fn more_additions_make_a_newer_version()
     ensures { (o : Order) (roots adds more : List Component) →
         let older = record_at o (parts_of roots) true (parts_of adds) in IsLawfulType older
         → NewerType (record_at o (parts_of roots) true (parts_of (adds ++ more))) older }
 {}
 
-/// A lawful CHOICE with more alternatives at the end of those behind its marker is a newer version.
+/// A lawful CHOICE with more alternatives at the end of those after its marker is a newer version.
 pub fn more_alternatives_make_a_newer_version()
     ensures { (roots adds more : List Component) → let older = alternatives_at roots (Some adds) in IsLawfulType older
         → NewerType (alternatives_at roots (Some (adds ++ more))) older }
 {}
 
-/// An ENUMERATED with more items behind its marker is a newer version.
+/// An ENUMERATED with more items after its marker is a newer version.
 pub fn more_items_make_a_newer_version()
     ensures { (roots adds more : ℕ) →
         NewerType (always (Schema.items roots (adds + more) true)) (always (Schema.items roots adds true)) }
@@ -55,7 +55,7 @@ pub fn contents_of_a_newer_type_are_newer()
         → NewerType (λ n. Schema.containing (newer n)) (λ n. Schema.containing (older n)) }
 {}
 
-/// A SEQUENCE or SET whose components are newer ones is a newer version: the root has as many, and behind the marker
+/// A SEQUENCE or SET whose components are newer ones is a newer version: the root has as many, and after the marker
 /// there may be more.
 pub fn record_of_newer_components_is_newer()
     ensures { (o : Order) (extensible : Bool) (new_roots roots new_adds adds : List Component)
@@ -64,7 +64,7 @@ pub fn record_of_newer_components_is_newer()
         (record_at o (parts_of roots) extensible (parts_of adds)) }
 {}
 
-/// A CHOICE whose alternatives are newer ones is a newer version, and behind the marker there may be more.
+/// A CHOICE whose alternatives are newer ones is a newer version, and after the marker there may be more.
 pub fn choice_of_newer_alternatives_is_newer()
     ensures { (new_roots roots new_adds adds : List Component) → AreNewer false new_roots roots
         → AreNewer true new_adds adds

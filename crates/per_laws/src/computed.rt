@@ -14,7 +14,7 @@ ghost use Rattle.per_laws.specs.Verdicts.{allowed};
 use rasn_schema::schema::AsnType;
 
 /// A type of which the comparison with an older, lawful one finds nothing that isn't allowed is a newer version of it,
-/// at each number of levels: more additions, alternatives or items behind an extension marker, at any depth, and
+/// at each number of levels: more additions, alternatives or items after an extension marker, at any depth, and
 /// nothing else (X.680, 52).
 pub fn compared_type_is_newer()
     ensures { (newer older : ℕ → Schema) → Levelled newer → Levelled older → IsLawfulType older

@@ -53,7 +53,7 @@ pub fn lawful_type_tells_values_apart()
 {}
 
 /// Of a lawful type's canonical bytes, written at any depth, its reader within 128 levels reads their value and no
-/// other; it refuses them exactly where a part that is written stands at a Cut of its tree.
+/// other; it refuses them exactly where a part that is written is at a Cut of its tree.
 pub fn lawful_type_reads()
     ensures { (a : Settings) (family : ℕ → Schema) → IsLawfulType family → (v w : Value) (os : List ℕ) (n : ℕ)
         → bytes a.variant (family n) v ≡ Some os →
@@ -62,7 +62,7 @@ pub fn lawful_type_reads()
 
 /// Of a newer lawful type's canonical bytes an older one's reader within 128 levels reads the projection and nothing
 /// else; it refuses them exactly where there is none, or where a part that is written, outside the additions that are
-/// dropped, stands at a Cut of its tree (X.680, section 52).
+/// dropped, is at a Cut of its tree (X.680, section 52).
 pub fn older_lawful_type_reads()
     ensures { (a : Settings) (newer older : ℕ → Schema) → IsLawfulType newer → IsLawfulType older
         → NewerType newer older → (v w : Value) (os : List ℕ) (m n : ℕ) → m ≤ n → 128 ≤ n →
@@ -72,7 +72,7 @@ pub fn older_lawful_type_reads()
 {}
 
 /// Of an older lawful type's canonical bytes a newer one's reader within 128 levels reads the widening and nothing
-/// else; it refuses them exactly where there is none, or where a part that is written stands at a Cut of its tree
+/// else; it refuses them exactly where there is none, or where a part that is written is at a Cut of its tree
 /// (X.680, section 52).
 pub fn newer_lawful_type_reads()
     ensures { (a : Settings) (newer older : ℕ → Schema) → IsLawfulType newer → IsLawfulType older
@@ -106,7 +106,7 @@ pub fn lawful_type_is_newer_than_itself()
 {}
 
 /// Of lawful types: a newer version is an extension successor at every number of levels, and nothing else: the same
-/// tree, in which more additions, alternatives and items may stand behind an extension marker, and of which a default
+/// tree, in which more additions, alternatives and items may be after an extension marker, and of which a default
 /// is the older one widened. That the older default is a value of its schema follows from the older type's being
 /// lawful (X.680, section 52).
 pub fn lawful_types_are_versions_where_one_succeeds_the_other()

@@ -1,7 +1,7 @@
 //! The laws of depth. A type's schema is a family of trees, one for each number of levels, which lists, bags, records
 //! and choices take one by one; where none is left a tree is cut off, by a Cut. Here it stands that an encoding doesn't
 //! depend on how deep a tree one takes, and that a reader refuses canonical bytes exactly where a component that is
-//! written stands at a Cut of its tree. A part that is left out at its default (X.691, section 19) isn't written.
+//! written is at a Cut of its tree. A part that is left out at its default (X.691, section 19) isn't written.
 
 ghost use Rattle.std.specs.Prelude.{◌≡◌, ◌+◌, ◌<◌, ◌≤◌, ◌++◌, ℕ, suc, false, List, Some};
 ghost use Rattle.rasn_types.specs.Bits.{Bits};
@@ -47,13 +47,13 @@ pub fn levelled_holds()
         → meets_cut (family n) v ≡ false }
 {}
 
-/// What is written in a tree is written in a deeper one, and nothing of it stood at a Cut.
+/// What is written in a tree is written in a deeper one, and nothing of it was at a Cut.
 pub fn deeper_writes()
     ensures { (a : Variant) (s t : Schema) → CutOf s t → (v : Value) (p : ℕ) (b : Bits) → canon a s v p ≡ Some b
         → (canon a t v p ≡ Some b) × (writes_cut s s v ≡ false) }
 {}
 
-/// Where nothing that is written of a value stands at a Cut, a tree and a deeper one write it alike, or both refuse.
+/// Where nothing that is written of a value is at a Cut, a tree and a deeper one write it alike, or both refuse.
 pub fn shallower_writes()
     ensures { (a : Variant) (s t : Schema) → CutOf s t → (v : Value) (p : ℕ) → writes_cut s s v ≡ false
         → canon a s v p ≡ canon a t v p }
@@ -98,7 +98,7 @@ pub fn canonical_encoding_deeper()
         bytes a (family m) (normal (family m) v) ≡ Some os → bytes a (family n) (normal (family n) v) ≡ Some os }
 {}
 
-/// What a reader in a shallower tree makes of canonical bytes: the value, exactly where nothing that is written stands
+/// What a reader in a shallower tree makes of canonical bytes: the value, exactly where nothing that is written is
 /// at a Cut; else nothing.
 pub fn shallower_tree_reads()
     ensures { (a : Settings) (s t : Schema) → CutOf s t → (v : Value) (os : List ℕ) → bytes a.variant t v ≡ Some os →
@@ -106,7 +106,7 @@ pub fn shallower_tree_reads()
         × (writes_cut s s v ≡ false → fills a s v os) }
 {}
 
-/// What a type's own reader makes of its canonical bytes: the value, exactly where nothing that is written stands at a
+/// What a type's own reader makes of its canonical bytes: the value, exactly where nothing that is written is at a
 /// Cut of the tree of 128 levels; else nothing.
 pub fn type_reads()
     ensures { (a : Settings) (family : ℕ → Schema) → Unfolds family → (v : Value) (os : List ℕ) (n : ℕ)
@@ -121,7 +121,7 @@ pub fn uncut_writes()
 {}
 
 /// What an older type's reader makes of a newer type's canonical bytes (X.680, sections 7 and 8): the projection,
-/// exactly where there is one and no component that is written, outside the additions that are dropped, stands at a
+/// exactly where there is one and no component that is written, outside the additions that are dropped, is at a
 /// Cut of the reader's tree of 128 levels; else nothing.
 pub fn older_type_reads()
     ensures { (a : Settings) (newer older : ℕ → Schema) → Unfolds newer → Unfolds older → NewerType newer older
@@ -132,7 +132,7 @@ pub fn older_type_reads()
 {}
 
 /// What a newer type's reader makes of an older type's canonical bytes (X.680, sections 7 and 8): the widening,
-/// exactly where there is one and no component that is written stands at a Cut of the reader's tree of 128 levels;
+/// exactly where there is one and no component that is written is at a Cut of the reader's tree of 128 levels;
 /// else nothing.
 pub fn newer_type_reads()
     ensures { (a : Settings) (newer older : ℕ → Schema) → Unfolds newer → Unfolds older → NewerType newer older

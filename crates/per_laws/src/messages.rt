@@ -19,7 +19,7 @@ pub fn whole_message_is_read_whatever_is_unknown()
 {}
 
 /// Octets in front of others, in which any additions that the reader doesn't know are replaced by others, at any depth
-/// of what it knows, are read as the same value, and the same octets are left behind it (X.691, 19.9).
+/// of what it knows, are read as the same value, and the same octets are left after it (X.691, 19.9).
 pub fn message_in_front_is_read_whatever_is_unknown()
     ensures { (a : Settings) (s : Schema) (v : Value) (octets others rest after : List ℕ) → AreAlike a s octets others →
         front a s v (octets ++ rest) after ↔ front a s v (others ++ rest) after }
@@ -38,7 +38,7 @@ pub fn alike_spell_one_value_and_end_alike()
         → basic a s v p bits × basic a s v p others × (after p bits ≡ after p others) }
 {}
 
-/// Records that are the same up to their unknown additions are alike, whatever octets stand in these, of none or of
+/// Records that are the same up to their unknown additions are alike, whatever octets are in these, of none or of
 /// any.
 pub fn records_are_alike_whatever_is_unknown()
     ensures { (a : Settings) (o : Order) (ps adds : Parts) (more : List Bool) (octets others : List (List ℕ))

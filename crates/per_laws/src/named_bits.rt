@@ -12,7 +12,7 @@ ghost use Rattle.per_core.specs.Basic.{fills, fills_known, front, read};
 ghost use Rattle.per_core.specs.Canon.{bytes};
 ghost use Rattle.per_core.specs.Spellings.{Settings};
 ghost use Rattle.per_core.specs.Versions.{Newer, project, widen};
-ghost use Rattle.per_laws.specs.Named.{MeanTheSame, NewerButForNames, NewerTypeButForNames, without_names};
+ghost use Rattle.per_laws.specs.NamedBits.{MeanTheSame, NewerButForNames, NewerTypeButForNames, without_names};
 
 /// Bits that have names have the same canonical bytes exactly where they are the same but for zero bits at their ends
 /// (X.691, 16.2).

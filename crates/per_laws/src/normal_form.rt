@@ -6,7 +6,7 @@ ghost use Rattle.rasn_types.specs.Values.{Value, bits};
 ghost use Rattle.rasn_constraints.specs.Bounds.{allows, Size};
 ghost use Rattle.rasn_schema.specs.Normal.{normal};
 ghost use Rattle.rasn_schema.specs.Schemas.{Schema};
-ghost use Rattle.per_laws.specs.Named.{MeanTheSame, IsFewest};
+ghost use Rattle.per_laws.specs.NamedBits.{MeanTheSame, IsFewest};
 
 /// The normal form of a normal form is itself (X.691, 19.9).
 pub fn normal_form_of_normal_form_is_itself()

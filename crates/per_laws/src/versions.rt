@@ -31,7 +31,7 @@ pub fn two_versions_read_the_projection()
 {}
 
 /// Of any octets that a newer version reads, canonical or not, an older one reads the projection, wherever there is
-/// one; and of these octets with others behind them it reads nothing else, and leaves just the others (X.680, 52;
+/// one; and of these octets with others after them it reads nothing else, and leaves just the others (X.680, 52;
 /// X.691, 19.9, 23.8).
 pub fn older_version_reads_the_projection()
     ensures { (a : Settings) (newer older : Schema) → Newer newer older →
@@ -51,7 +51,7 @@ pub fn older_version_refuses_without_projection()
 {}
 
 /// Of any octets that an older version reads, no unknown additions being present, a newer one reads the widening,
-/// wherever there is one; and of these octets with others behind them it reads nothing else, and leaves just the
+/// wherever there is one; and of these octets with others after them it reads nothing else, and leaves just the
 /// others (X.680, 52; X.691, 19.5, 19.8).
 pub fn newer_version_reads_the_widening()
     ensures { (a : Settings) (newer older : Schema) → Newer newer older →
@@ -117,7 +117,7 @@ pub fn newer_type_reads_the_widening()
 
 /// Of types of any depth: of any octets that a newer type's reader reads, canonical or not, an older type's reader
 /// reads the projection, taken in trees that hold the value, wherever there is one, and nothing else; and of these
-/// octets with others behind them the same, leaving just the others. No depth is asked of what isn't written, such as a
+/// octets with others after them the same, leaving just the others. No depth is asked of what isn't written, such as a
 /// default of many levels (X.680, 52).
 pub fn older_reader_reads_the_projection()
     ensures { (a : Settings) (newer older : ℕ → Schema) →
@@ -130,7 +130,7 @@ pub fn older_reader_reads_the_projection()
 
 /// Of types of any depth: of any octets that an older type's reader reads, no unknown additions being present, a newer
 /// type's reader reads the widening, taken in trees that hold it, wherever there is one, and nothing else; and of these
-/// octets with others behind them the same, leaving just the others. No depth is asked of what isn't written (X.680,
+/// octets with others after them the same, leaving just the others. No depth is asked of what isn't written (X.680,
 /// 52).
 pub fn newer_reader_reads_the_widening()
     ensures { (a : Settings) (newer older : ℕ → Schema) →

@@ -8,4 +8,4 @@ pub mod Nearest
 pub mod Printing
 pub mod Requests
 pub mod ShownLines
-pub mod Told
+pub mod FaultTexts

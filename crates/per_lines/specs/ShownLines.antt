@@ -4,13 +4,13 @@ use Rattle.hex.specs.Hex.{decode_of}
 use Rattle.per_lines.specs.Types.{schema_of}
 use Rattle.per_lines.specs.Showing.{AreShown, HasNoText}
 use Rattle.line_replies.specs.declared.fault.Fault.TheVariants.{BadHexadecimal}
-use Rattle.per_located.specs.Placed.{IsPlaced}
+use Rattle.per_located.specs.LocatedRefusals.{IsPlaced}
 use Rattle.per_core.specs.declared.decode_error.DecodeErrorKind.TheVariants as Decoding
 use Rattle.per_core.specs.Rows.{Codec, variant_of}
 use Rattle.rasn_per.specs.Calls.{AreUnread, basically, IsInOctets}
 use Rattle.rasn_schema.specs.Schemas.{Schema}
 use Rattle.line_replies.specs.Layouts.{IsLaidOut}
-use Rattle.per_lines.specs.Told.{IsToldAs}
+use Rattle.per_lines.specs.FaultTexts.{IsToldAs}
 use Rattle.per_lines.specs.declared.show_fault.Fault.{Fault}
 use Rattle.per_lines.specs.declared.show_arguments.Showing.{Showing}
 use Rattle.per_lines.specs.declared.show_fault.Fault.TheVariants.{Decode, Encode, OfLines}

@@ -5,7 +5,7 @@ ghost use Rattle.per_lines.specs.Showing.{AreShown};
 ghost use Rattle.per_core.specs.Rows.{variant_of};
 ghost use Rattle.rasn_per.specs.Calls.{basically, Decoded};
 ghost use Rattle.line_replies.specs.declared.fault.Fault.TheVariants.{OutOfMemory};
-ghost use Rattle.per_located.specs.Placed.{IsPlaced, unplaced};
+ghost use Rattle.per_located.specs.LocatedRefusals.{IsPlaced, unplaced};
 ghost use Rattle.per_lines.specs.ShownLines.{AreTold, IsAnswer, IsRefusal, IsReply, IsUnanswered};
 ghost use Rattle.per_lines.specs.declared.show_fault.Fault.TheVariants.{OfLines as lines_fault};
 

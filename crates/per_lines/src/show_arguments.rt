@@ -109,7 +109,7 @@ impl Showing {
     }
 }
 
-/// Which lines, and in which layout, the words behind the type ask for.
+/// Which lines, and in which layout, the words after the type ask for.
 fn form_of_words(words: &[String]) -> Option<(Extent, Layout)>
     ensures some { IfSome result (λ f. map string_bytes words.now ≡ form_words f.0 f.1) }
     ensures none { IfNone result ((e : an_extent) (l : a_layout) → map string_bytes words.now ≢ form_words e l) }
@@ -122,7 +122,7 @@ fn form_of_words(words: &[String]) -> Option<(Extent, Layout)>
     }
 }
 
-/// What one word behind the type asks for.
+/// What one word after the type asks for.
 fn form_of_word(word: &str) -> Option<(Extent, Layout)>
     ensures some { IfSome result (λ f. word.now ∷ [] ≡ form_words f.0 f.1) }
     ensures none { IfNone result ((e : an_extent) (l : a_layout) → word.now ∷ [] ≢ form_words e l) }
@@ -134,7 +134,7 @@ fn form_of_word(word: &str) -> Option<(Extent, Layout)>
     }
 }
 
-/// What two words behind the type ask for.
+/// What two words after the type ask for.
 fn form_of_two(lines: &str, pretty: &str) -> Option<(Extent, Layout)>
     ensures some { IfSome result (λ f. lines.now ∷ pretty.now ∷ [] ≡ form_words f.0 f.1) }
     ensures none { IfNone result ((e : an_extent) (l : a_layout) → lines.now ∷ pretty.now ∷ [] ≢ form_words e l) }

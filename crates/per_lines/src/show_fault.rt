@@ -3,7 +3,7 @@
 ghost use Rattle.std.specs.Prelude.{◌≡◌, ◌≢◌, ◌≤◌, ◌++◌, IfOk, string_bytes};
 ghost use Rattle.line_replies.specs.Faults.{hexadecimal_fault};
 ghost use Rattle.line_replies.specs.declared.fault.Fault.TheVariants.{OutOfMemory};
-ghost use Rattle.per_lines.specs.Told.{IsToldAs, Tells, front_of, of_lines, status_of, text_of};
+ghost use Rattle.per_lines.specs.FaultTexts.{IsToldAs, Tells, front_of, of_lines, status_of, text_of};
 ghost use Rattle.per_lines.specs.declared.show_fault.Fault.TheVariants.{Decode as decode_fault, Encode as encode_fault};
 ghost use Rattle.per_lines.specs.declared.show_fault.Fault.TheVariants.{OfLines as lines_fault};
 

@@ -7,7 +7,7 @@ ghost use Rattle.per_lines.specs.Words.{words};
 ghost use Rattle.per_lines.specs.Ends.{Ends, EndsAnswer, IsOfOutput};
 ghost use Rattle.per_lines.specs.Printing.{Prints};
 ghost use Rattle.per_lines.specs.ShownLines.{IsAnswer};
-ghost use Rattle.per_lines.specs.Told.{Tells, status_of};
+ghost use Rattle.per_lines.specs.FaultTexts.{Tells, status_of};
 ghost use Rattle.per_lines.specs.declared.show_fault.Fault.{Fault as the_fault};
 
 use crate::show::show;

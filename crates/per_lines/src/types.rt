@@ -84,7 +84,7 @@ static TYPES: [NamedType; 60] = [
 ];
 
 impl NamedType {
-    /// The types, each at its place: those of the program over lines, and a message behind them.
+    /// The types, each at its place: those of the program over lines, and a message after them.
     pub fn all() -> &'static [NamedType]
         ensures { result.now ≡ types }
     {

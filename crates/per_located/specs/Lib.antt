@@ -1,2 +1,2 @@
 -- The definitions that the contracts of the crate cite.
-pub mod Placed
+pub mod LocatedRefusals

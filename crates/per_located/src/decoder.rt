@@ -1,4 +1,4 @@
-//! A decoder that knows where it stood when it refused.
+//! A decoder that knows where it was when it refused.
 
 mod counted;
 
@@ -34,16 +34,16 @@ pub trait Positioned: Decoder + Drop {
     /// The open type that is next (X.691 11.2).
     fn open_ahead(&self) -> OpenAhead;
 
-    /// The open type of the next addition of a SEQUENCE, behind the bitmap of its additions where that is still ahead
+    /// The open type of the next addition of a SEQUENCE, after the bitmap of its additions where that is still ahead
     /// (X.691 19.7 to 19.9).
     fn addition_ahead(&self, bitmap: bool) -> OpenAhead;
 
-    /// The open type of an alternative behind the extension marker, behind the index of its CHOICE, which has so many
+    /// The open type of an alternative after the extension marker, after the index of its CHOICE, which has so many
     /// alternatives (X.691 23.8).
     fn alternative_ahead(&self, alternatives: ItemCounts) -> OpenAhead;
 }
 
-/// A decoder that knows where it stood when it refused. Each call is that of the decoder that it holds.
+/// A decoder that knows where it was when it refused. Each call is that of the decoder that it holds.
 #[derive(Drop)]
 pub struct Located<D: Positioned> {
     inner: D,
@@ -65,7 +65,7 @@ impl<D: Positioned> Located<D> {
         Located { inner, trail }
     }
 
-    /// The way to the value that was refused, and how many bits stand in front of where the decoder stood then; or
+    /// The way to the value that was refused, and how many bits are in front of where the decoder stood then; or
     /// where it stands, if none was refused.
     pub fn into_place(mut self) -> (Path, u128) {
         let left = self.inner.left();
@@ -131,6 +131,10 @@ impl<D: Positioned> Decoder for Located<D> {
 
     ghost closes = { D.closes };
 
+    ghost opens_fields = { D.opens_fields };
+
+    ghost closes_fields = { D.closes_fields };
+
     ghost opens_choice = { D.opens_choice };
 
     ghost closes_choice = { D.closes_choice };
@@ -152,6 +156,8 @@ impl<D: Positioned> Decoder for Located<D> {
     ghost awaits_values = { D.awaits_values };
 
     ghost unended = { D.unended };
+
+    ghost unended_fields = { D.unended_fields };
 
     ghost opens_addition = { D.opens_addition };
 
@@ -501,6 +507,8 @@ impl<D: Positioned> Decoder for Located<D> {
     ghost errors = { D.errors };
 
     ghost scopes = { D.scopes };
+
+    ghost fields = { D.fields };
 
     ghost additions = { D.additions };
 

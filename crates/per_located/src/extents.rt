@@ -1,9 +1,9 @@
-//! Which bits of a message a decoder has left, whose open types hide what stands behind them.
+//! Which bits of a message a decoder has left, whose open types hide what is after them.
 
 /// An open type that is still to be read (X.691 11.2).
 #[derive(Clone, Copy)]
 pub enum OpenAhead {
-    /// So many bits stand behind its contents.
+    /// So many bits are after its contents.
     InPlace(u128),
     /// Its contents are in fragments, or there are none, and from its first length on there are so many bits.
     Gathered(u128),
@@ -19,7 +19,7 @@ pub(crate) enum Extent {
 }
 
 impl Extent {
-    /// How many of the message's bits stand in front of the last `left` ones here.
+    /// How many of the message's bits are in front of the last `left` ones here.
     pub(crate) fn position(self, bits: u128, left: u128) -> u128 {
         match self {
             Extent::Before(behind) => bits.saturating_sub(behind).saturating_sub(left),
@@ -27,7 +27,7 @@ impl Extent {
         }
     }
 
-    /// Where the contents of an open type end that stands here, in a message of so many bits.
+    /// Where the contents of an open type end that is here, in a message of so many bits.
     pub(crate) fn of_contents(self, bits: u128, open: OpenAhead) -> Extent {
         match (self, open) {
             (Extent::Before(behind), OpenAhead::InPlace(left)) => {

@@ -1,4 +1,4 @@
-//! Where a decoder of the packed encoding rules stands in a message.
+//! Where a decoder of the packed encoding rules is in a message.
 
 use crate::decoder::Positioned;
 use crate::extents::OpenAhead;

@@ -2,7 +2,7 @@
 //!
 //! `uper` and `aper` have an `encode` and a `decode` that answer as those of `rasn_per` do. A refusal holds the path of
 //! identifiers and numbers from the whole message to the component (X.680 15); that of octets also says how many bits
-//! stand in front of what was refused.
+//! are in front of what was refused.
 //!
 //! A message is read or written again where it was refused, by a decoder or an encoder that keeps a path beside it
 //! (`Located`): so one that isn't refused costs what it costs `rasn_per`.

@@ -1,8 +1,8 @@
-//! Where a value stands in another.
+//! Where a value is in another.
 
 use std::fmt;
 
-/// A step from a value to one that stands in it (X.680 15).
+/// A step from a value to one that is in it (X.680 15).
 #[derive(Clone, Copy, Debug, PartialEq, Eq)]
 pub enum Step {
     /// To the component of a SEQUENCE or a SET, or the alternative of a CHOICE, by its identifier. An addition group,
@@ -11,7 +11,7 @@ pub enum Step {
     /// To the element of a SEQUENCE OF or a SET OF, by its number from 1 on.
     Element(usize),
     /// To the component or the alternative of a type that is data, whose names aren't known here: by its place from 0
-    /// on, those behind the extension marker last. Components of a SET stand in ascending order of their smallest tags.
+    /// on, those after the extension marker last. Components of a SET stand in ascending order of their smallest tags.
     Placed(usize),
 }
 

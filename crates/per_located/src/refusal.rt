@@ -15,9 +15,9 @@ pub struct Refusal {
     pub codec: Codec,
     /// The component that was refused: the innermost one that had begun.
     pub path: Path,
-    /// How many bits stand in front of where the reader stood: of the field that was refused, of what is left over
-    /// behind the last one, or of the end of a list whose size doesn't allow its count. Within an open type in
-    /// fragments, which stands nowhere as a whole, they are those in front of its first length.
+    /// How many bits are in front of where the reader stood: of the field that was refused, of what is left over
+    /// after the last one, or of the end of a list whose size doesn't allow its count. Within an open type in
+    /// fragments, which is nowhere as a whole, they are those in front of its first length.
     pub bit: u128,
     /// How many bits the octets have.
     pub bits: u128,

@@ -10,7 +10,7 @@ use std::alloc::Global;
 #[derive(Clone, Copy)]
 pub(crate) struct RecordFrame {
     root: Components,
-    /// The additions, where they don't go on behind the root.
+    /// The additions, where they don't go on after the root.
     added: Option<Components>,
     /// The step to the component that is read, or was read last.
     current: Option<Step>,
@@ -44,7 +44,7 @@ impl RecordFrame {
     }
 }
 
-/// What stands around the value that is read.
+/// What is around the value that is read.
 #[derive(Clone, Copy)]
 pub(crate) enum Frame {
     Record(RecordFrame),
@@ -56,7 +56,7 @@ pub(crate) enum Frame {
 }
 
 impl Frame {
-    /// The step from what stands around to the value that is read, if one is.
+    /// The step from what is around to the value that is read, if one is.
     fn step(&self) -> Option<Step> {
         match self {
             Frame::Record(record) => record.current,
@@ -75,7 +75,7 @@ pub(crate) struct Trail {
     extent: Extent,
     /// How many bits the message has.
     bits: u128,
-    /// How many bits stand in front of where it stopped.
+    /// How many bits are in front of where it stopped.
     stopped: Option<u128>,
 }
 
@@ -97,7 +97,7 @@ impl Trail {
         }
     }
 
-    /// The innermost of what stands around.
+    /// The innermost of what is around.
     fn frame(&mut self) -> Option<&mut Frame> {
         if self.stopped.is_some() {
             return None;
@@ -113,14 +113,14 @@ impl Trail {
         }
     }
 
-    /// Enters what stands around what follows, where the last `left` bits are left. Without memory it stops there.
+    /// Enters what is around what follows, where the last `left` bits are left. Without memory it stops there.
     pub(crate) fn enter(&mut self, frame: Frame, left: u128) {
         if self.stopped.is_none() && self.frames.push(frame).is_err() {
             self.stop(left);
         }
     }
 
-    /// Leaves what stands around.
+    /// Leaves what is around.
     pub(crate) fn leave(&mut self) {
         if self.stopped.is_some() {
             return;
@@ -141,7 +141,7 @@ impl Trail {
         }
     }
 
-    /// Nothing that stands in the innermost of what stands around is read.
+    /// Nothing that is in the innermost of what is around is read.
     pub(crate) fn pause(&mut self) {
         match self.frame() {
             Some(Frame::Record(record)) => record.current = None,
@@ -202,7 +202,7 @@ impl Trail {
         }
     }
 
-    /// Enters an alternative, where the last `left` bits are left, and the open type of one behind the extension
+    /// Enters an alternative, where the last `left` bits are left, and the open type of one after the extension
     /// marker.
     pub(crate) fn enter_alternative(&mut self, step: Step, open: Option<OpenAhead>, left: u128) {
         let Some(open) = open else {
@@ -224,7 +224,7 @@ impl Trail {
         self.enter(Frame::Contents(outside), left);
     }
 
-    /// How many bits stand in front of where it stopped.
+    /// How many bits are in front of where it stopped.
     pub(crate) fn bit(&self) -> u128 {
         self.stopped.unwrap_or(0)
     }

@@ -10,7 +10,7 @@ use rasn_schema::items::{ItemCounts, Place};
 pub(crate) struct Components {
     /// What they are; none, of a type that is data.
     fields: Option<&'static [Field]>,
-    /// Whether they stand in ascending order of their smallest tags (X.691 21.1), and not as they are listed.
+    /// Whether they are in ascending order of their smallest tags (X.691 21.1), and not as they are listed.
     in_tag_order: bool,
     /// How many of them have begun, or are absent.
     taken: usize,
@@ -119,7 +119,7 @@ impl Elements {
     }
 }
 
-/// The place of an alternative among all of them, those behind the extension marker last.
+/// The place of an alternative among all of them, those after the extension marker last.
 pub(crate) fn place_among(alternatives: ItemCounts, place: Place) -> usize {
     match place {
         Place::Root(index) => index,

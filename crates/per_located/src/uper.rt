@@ -3,7 +3,7 @@
 ghost use Rattle.std.specs.Prelude.{◌≡◌, ◌≤◌, ◌*◌, length, IfErr};
 ghost use Rattle.rasn_types.specs.declared.types.Codec.TheVariants.{Uper};
 ghost use Rattle.rasn_per.specs.Calls.{Decoded, Encoded, AnswersFew};
-ghost use Rattle.per_located.specs.Placed.{IsPlaced, pathless, unplaced};
+ghost use Rattle.per_located.specs.LocatedRefusals.{IsPlaced, pathless, unplaced};
 
 use crate::refusal::{EncodeRefusal, Refusal};
 use crate::tracing::{encode_refusal, refusal};

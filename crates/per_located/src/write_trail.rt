@@ -11,7 +11,7 @@ use std::alloc::Global;
 #[derive(Clone, Copy)]
 pub(crate) struct RecordFrame {
     root: Components,
-    /// The additions, where they don't go on behind the root.
+    /// The additions, where they don't go on after the root.
     added: Option<Components>,
     /// The step to the component that is written, or was written last.
     current: Option<Step>,
@@ -46,9 +46,9 @@ impl RecordFrame {
 pub(crate) struct ChoiceFrame {
     /// The tags of each root alternative.
     root: &'static [TagTree],
-    /// The tags of each alternative behind the extension marker.
+    /// The tags of each alternative after the extension marker.
     added: &'static [TagTree],
-    /// The identifier of each alternative, those behind the marker last.
+    /// The identifier of each alternative, those after the marker last.
     identifiers: &'static [&'static str],
     /// The alternative that is written.
     current: Option<&'static str>,
@@ -84,7 +84,7 @@ impl ChoiceFrame {
     }
 }
 
-/// What stands around the value that is written.
+/// What is around the value that is written.
 #[derive(Clone, Copy)]
 pub(crate) enum Frame {
     Record(RecordFrame),
@@ -97,7 +97,7 @@ pub(crate) enum Frame {
 }
 
 impl Frame {
-    /// The step from what stands around to the value that is written, if one is.
+    /// The step from what is around to the value that is written, if one is.
     fn step(&self) -> Option<Step> {
         match self {
             Frame::Record(record) => record.current,
@@ -133,7 +133,7 @@ impl WriteTrail {
         self.has_stopped = true;
     }
 
-    /// The innermost of what stands around.
+    /// The innermost of what is around.
     fn frame(&mut self) -> Option<&mut Frame> {
         if self.has_stopped {
             return None;
@@ -149,14 +149,14 @@ impl WriteTrail {
         }
     }
 
-    /// Enters what stands around what follows. Without memory it stops there.
+    /// Enters what is around what follows. Without memory it stops there.
     pub(crate) fn enter(&mut self, frame: Frame) {
         if !self.has_stopped && self.frames.push(frame).is_err() {
             self.stop();
         }
     }
 
-    /// Leaves what stands around.
+    /// Leaves what is around.
     pub(crate) fn leave(&mut self) {
         if !self.has_stopped {
             let _ = self.frames.pop();
@@ -178,7 +178,7 @@ impl WriteTrail {
         }
     }
 
-    /// Nothing that stands in the innermost of what stands around is written.
+    /// Nothing that is in the innermost of what is around is written.
     pub(crate) fn pause(&mut self) {
         match self.frame() {
             Some(Frame::Record(record)) => record.current = None,

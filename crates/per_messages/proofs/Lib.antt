@@ -1,4 +1,4 @@
-mod First
+mod FrontOctets
 mod Paths
 mod Refused
 mod Unmade

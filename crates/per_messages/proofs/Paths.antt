@@ -15,7 +15,7 @@ use Rattle.rasn_dynamic.specs.declared.values.Value.{Value as Tree}
 use Rattle.per_messages.specs.Paths.{element_type, HasNoRefused, here, in_part, IsFaultOf, IsLast, IsPlaced, IsRefused, IsRefusedItem, IsRefusedMember, ItemsAreTold, lacking, Leads, LeadsOn}
 use Rattle.per_messages.specs.Paths.{member_at, member_type, members_read, MembersAreTold, onward, to_element, to_member, to_missing, to_other}
 use Rattle.rasn_dynamic_jer.specs.Shown.{kind_within}
-use Rattle.rasn_dynamic_jer.specs.Told.{IsJson, IsNoText, IsUntold, member_count, no_room, told_at, untold}
+use Rattle.rasn_dynamic_jer.specs.FromJson.{IsJson, IsNoText, IsUntold, member_count, no_room, told_at, untold}
 use Rattle.per_messages.specs.declared.located.Fault.{Fault}
 
 pub item_there : {A : Type 0} (vs : List (JsonTree A)) (m : ℕ) (v : JsonTree A) → m < length vs → v ≡ get_or vs m v → get_item m (items_view vs) ≡ Some (value_view v)

@@ -4,7 +4,7 @@ use Rattle.rasn_schema.specs.Normal.{AtDepths, normal}
 use Rattle.rasn_dynamic.specs.Values.{levels_of, value_of}
 use Rattle.rasn_dynamic.specs.declared.types.Types.{Types}
 use Rattle.rasn_dynamic.specs.declared.values.Value.{Value}
-use Rattle.rasn_dynamic_jer.specs.Told.{IsTextOf}
+use Rattle.rasn_dynamic_jer.specs.FromJson.{IsTextOf}
 use Rattle.per_core.specs.Rows.{Codec, variant_of}
 use Rattle.rasn_per.specs.Calls.{HasNoBytes}
 use Rattle.per_core.specs.WritingFaults.{IsInValue}

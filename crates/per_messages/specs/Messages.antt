@@ -9,7 +9,7 @@ use Rattle.rasn_dynamic.specs.declared.types.Types.{Types}
 use Rattle.rasn_dynamic.specs.declared.values.Value.{Value}
 use Rattle.rasn_dynamic_jer.specs.Puts.{IsJsonText}
 use Rattle.rasn_dynamic_jer.specs.Shown.{json_at}
-use Rattle.rasn_dynamic_jer.specs.Told.{IsNoText, IsTextOf}
+use Rattle.rasn_dynamic_jer.specs.FromJson.{IsNoText, IsTextOf}
 use Rattle.per_core.specs.Rows.{Codec, variant_of}
 use Rattle.per_dynamic.specs.OpenTypes.{IsUntaken, Takes}
 use Rattle.per_dynamic.specs.declared.open_types.OpenTypeError.{OpenTypeError}

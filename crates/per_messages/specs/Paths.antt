@@ -15,8 +15,8 @@ use Rattle.rasn_dynamic.specs.declared.types.Record.{Record}
 use Rattle.json.specs.Find.{as_array, as_object, get_item}
 use Rattle.json.specs.Json.{Items, Json, Members, no_members, member, max_depth}
 use Rattle.rasn_dynamic_jer.specs.Shown.{group_in, kind_within}
-use Rattle.rasn_dynamic_jer.specs.Told.{alternative_place, IsJson, IsNoJson, member_count, own_member, row_place}
-use Rattle.rasn_dynamic_jer.specs.Told.{told_at}
+use Rattle.rasn_dynamic_jer.specs.FromJson.{alternative_place, IsJson, IsNoJson, member_count, own_member, row_place}
+use Rattle.rasn_dynamic_jer.specs.FromJson.{told_at}
 use Rattle.rasn_dynamic_jer.specs.declared.from_json_error.FromJsonError.TheVariants.{OutOfMemory}
 use Rattle.per_messages.specs.declared.located.Fault.{Fault}
 

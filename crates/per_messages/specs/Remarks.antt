@@ -39,7 +39,7 @@ pub record Told : Type 0 where
 abbrev pub told : Remark → Told
 told r = record { kind = r.kind; name = string_bytes r.name; path = string_bytes r.path }
 
--- remarks are those before and these behind them
+-- remarks are those before and these after them
 abbrev pub Adds : List Remark → List Remark → List Told → Type 0
 Adds before after more = map told after ≡ map told before ++ more
 

@@ -2,8 +2,9 @@
 
 ghost use Rattle.std.specs.Prelude.{◌≡◌, ◌&&◌, ◌++◌, flat_map, map, string_bytes};
 ghost use Rattle.std.specs.List.{list_all};
-ghost use Rattle.rasn_dynamic_jer.specs.Apart.{addition_names, are_rows_apart, component_names, differ, is_among};
-ghost use Rattle.rasn_dynamic_jer.specs.Apart.{is_kind_apart, is_named_apart, is_row_apart, is_simple_apart};
+ghost use Rattle.rasn_dynamic_jer.specs.DistinctNames.{addition_names, are_rows_apart, component_names, differ};
+ghost use Rattle.rasn_dynamic_jer.specs.DistinctNames.{is_among};
+ghost use Rattle.rasn_dynamic_jer.specs.DistinctNames.{is_kind_apart, is_named_apart, is_row_apart, is_simple_apart};
 ghost use Rattle.rasn_dynamic_jer.specs.Shown.{group_in};
 
 use rasn_dynamic::types::{Alternative, Component, Kind, ObjectSet, Row, Simple, Types};
@@ -60,7 +61,7 @@ fn is_simple_apart(simple: &Simple) -> bool
     }
 }
 
-/// Whether each item has another name than those behind it and than others.
+/// Whether each item has another name than those after it and than others.
 fn are_items_apart(items: &[String], others: &[String]) -> bool
     ensures { (result && differ (map (λ n. string_bytes n) others.now))
         ≡ differ (map (λ n. string_bytes n) items.now ++ map (λ n. string_bytes n) others.now) }
@@ -83,7 +84,7 @@ fn is_item(items: &[String], name: &str) -> bool
     items.iter().any(|own| own.as_str() == name)
 }
 
-/// Whether each alternative has another name than those behind it and than others.
+/// Whether each alternative has another name than those after it and than others.
 fn are_alternatives_apart(alternatives: &[Alternative], others: &[Alternative]) -> bool
     ensures { (result && differ (map (λ a. string_bytes a.name) others.now))
         ≡ differ (map (λ a. string_bytes a.name) alternatives.now ++ map (λ a. string_bytes a.name) others.now) }
@@ -107,7 +108,7 @@ fn is_alternative(alternatives: &[Alternative], name: &str) -> bool
     alternatives.iter().any(|own| own.name.as_str() == name)
 }
 
-/// Whether each component has another name than those behind it and than additions.
+/// Whether each component has another name than those after it and than additions.
 fn are_components_apart(kinds: &[Kind], components: &[Component], additions: &[Component]) -> bool
     ensures { (result && differ (flat_map (λ c. addition_names (group_in kinds.now c) c) additions.now))
         ≡ differ (component_names components.now
@@ -137,7 +138,7 @@ fn are_additions_apart(kinds: &[Kind], additions: &[Component]) -> bool
     }
 }
 
-/// Whether the names of an addition differ, and from those behind it.
+/// Whether the names of an addition differ, and from those after it.
 fn is_addition_apart(kinds: &[Kind], addition: &Component, rest: &[Component]) -> bool
     ensures { (result && differ (flat_map (λ c. addition_names (group_in kinds.now c) c) rest.now))
         ≡ differ (addition_names (group_in kinds.now addition.now) addition.now

@@ -170,7 +170,7 @@ pub fn first_length(
     Ok(size)
 }
 
-/// The value that octets begin with, in the variant of a codec, and the octets behind its encoding.
+/// The value that octets begin with, in the variant of a codec, and the octets after its encoding.
 fn decode_front<'octets>(
     alloc: Global,
     codec: Codec,

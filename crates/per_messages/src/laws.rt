@@ -4,7 +4,7 @@ ghost use Rattle.std.specs.Prelude.{◌≡◌, Result, true};
 ghost use Rattle.json.specs.Json.{max_depth};
 ghost use Rattle.rasn_dynamic.specs.Values.{slot_of};
 ghost use Rattle.rasn_dynamic.specs.declared.values.Value.{Value as Tree};
-ghost use Rattle.rasn_dynamic_jer.specs.Apart.{is_named_apart};
+ghost use Rattle.rasn_dynamic_jer.specs.DistinctNames.{is_named_apart};
 ghost use Rattle.rasn_dynamic_jer.specs.Laws.{HaveOneForm, IsReadBack, Reads};
 ghost use Rattle.rasn_dynamic_jer.specs.Puts.{IsJsonText};
 ghost use Rattle.rasn_dynamic_jer.specs.Shown.{json_at};

@@ -13,7 +13,7 @@ ghost use Rattle.per_messages.specs.Paths.{ItemsAreTold, lacking, Leads, LeadsOn
 ghost use Rattle.per_messages.specs.Paths.{addition_type, component_type, element_type, is_missing, member_type};
 ghost use Rattle.per_messages.specs.Paths.{members_read, missing_in, only_member, onward};
 ghost use Rattle.rasn_dynamic_jer.specs.Shown.{group_in};
-ghost use Rattle.rasn_dynamic_jer.specs.Told.{IsNoText, IsTextOf, IsUntold, told_at};
+ghost use Rattle.rasn_dynamic_jer.specs.FromJson.{IsNoText, IsTextOf, IsUntold, told_at};
 
 use json::{MAX_DEPTH, Reader, Scratch, Value as Json};
 use rasn_dynamic::types::{Component, Kind, Presence, Types, kind_within};
@@ -36,7 +36,7 @@ pub struct Fault {
     /// text. Of more parts that are refused it is the first that is for that reason. The name of a member that an
     /// object's type doesn't have comes last, and so does that of a component of the root that lacks.
     pub path: String,
-    /// Of a text that is no JSON, how many octets stand in front of where its reader stopped.
+    /// Of a text that is no JSON, how many octets are in front of where its reader stopped.
     pub octet: Option<usize>,
 }
 
@@ -65,7 +65,7 @@ pub fn from_json_located(
     }
 }
 
-/// How many octets stand in front of where the reader of JSON stops in a text that is none, where memory lasts.
+/// How many octets are in front of where the reader of JSON stops in a text that is none, where memory lasts.
 fn octets_passed(alloc: Global, text: &[u8]) -> Option<usize>
     ensures { IfSome result (λ n. n ≤ length text.now) }
 {

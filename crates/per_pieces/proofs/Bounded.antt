@@ -69,7 +69,7 @@ octets_of_last m h = go (width (m + 1)) refl (width_holds (m + 1))
     go zero e l = absurd (let k : m + 1 ≤ 2 ^ 0 = subst (λ (w : ℕ). m + 1 ≤ 2 ^ w) (sym e) l in omega arith)
     go (suc w) e l = omega arith
 
--- X.691 11.5.7.4: of more, in the fewest octets behind their count
+-- X.691 11.5.7.4: of more, in the fewest octets after their count
 pub appends_many : (x y z : Pieces) (m o w n : ℕ) → n ≡ octets_of_natural o → w ≡ width (octets_of_natural m) → o ≤ m → 65536 ≤ m → y ≡ with_bits x (to_bits w (n - 1)) →
     Appends y (padding aligned ▹ just (to_bits (8 * n) o)) z → Appends x (constrained_whole aligned (m + 1) o) z
 unfolding natural_bits
@@ -85,7 +85,7 @@ are_octets [] h k = omega arith
 are_octets (o ∷ os) h zero = h.0
 are_octets (o ∷ os) h (suc k) = are_octets os h.1 k
 
--- X.691 11.9.3.5: whole octets, given as bits, behind their count
+-- X.691 11.9.3.5: whole octets, given as bits, after their count
 pub appends_counted : (a : Variant) (x z : Pieces) (all : Bits) (k : ℕ) → length all ≡ 8 * k → k ≤ 16 →
     Appends x ((padding a ▹ just (determinant k)) ▹ just all) z → Appends x (counted_octets a all) z
 unfolding counted_octets
@@ -109,7 +109,7 @@ appends_counted a x z all k wide l p = appends_same x z ((padding a ▹ just (de
         ∙ sym (fragments_of_few a (octet_writers octets) (omega (arith, counted)) q)
         ∙ in_their_fragments a octet_items (octet_writers octets) (omega (arith, counted)) q
 
--- X.691 11.7: the fewest octets without sign behind their count
+-- X.691 11.7: the fewest octets without sign after their count
 pub appends_natural : (a : Variant) (x z : Pieces) (o k : ℕ) → k ≡ octets_of_natural o → k ≤ 16 →
     Appends x ((padding a ▹ just (determinant k)) ▹ just (to_bits (8 * k) o)) z → Appends x (counted_octets a (natural_bits o)) z
 unfolding natural_bits

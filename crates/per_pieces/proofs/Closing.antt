@@ -46,9 +46,9 @@ told fields cs i d c b t m n at e u h =
     h ∙ further (map shape_of fields) cs i f c within n (sym (get_or-map shape_of fields i d f m)) at
     ∙ ap (λ (k : Bool). k && are_of (drop (i + 1) (map shape_of fields)) (drop (i + 1) cs)) (sym e ∙ u)
 
--- behind the last there is none
-pub behind_all : (fs : List Shape) (cs : List Component) (i : ℕ) → length fs ≤ i → length cs ≤ i → are_of (drop i fs) (drop i cs) ≡ true
-behind_all fs cs i m n = ap₂ (λ (x : List Shape) (y : List Component). are_of x y) (drop_all i fs m) (drop_all i cs n)
+-- after the last there is none
+pub after_all : (fs : List Shape) (cs : List Component) (i : ℕ) → length fs ≤ i → length cs ≤ i → are_of (drop i fs) (drop i cs) ≡ true
+after_all fs cs i m n = ap₂ (λ (x : List Shape) (y : List Component). are_of x y) (drop_all i fs m) (drop_all i cs n)
 
 -- memory for so many components, of which none was begun
 pub has_memory : (count : ℕ) (done : List Component) (capacity : ℕ) (spare : List Pieces) → done ≡ [] → count ≤ capacity → spare ≡ replicate count unplaced → HasMemory done capacity None spare

@@ -1,4 +1,4 @@
--- Items behind an unconstrained length, fragment by fragment.
+-- Items after an unconstrained length, fragment by fragment.
 use Rattle.std.proofs.Common.{◌≡◌, refl, sym, ap, ◌∙◌, subst, ℕ, zero, suc, ◌+◌, ◌-◌, ◌*◌, ◌/◌, ◌%◌, ◌^◌, ◌<◌, ◌≤◌, Bool, true, false, cond, min, ltb, lt-ltb, List, [], ◌∷◌, ◌++◌, length, take, drop, replicate, arith, Some, length-take, length-drop, get_or}
 use Rattle.std.proofs.lemmas.Bool.{le-ltb}
 use Rattle.std.specs.Prelude.{slice_range}
@@ -7,12 +7,12 @@ use Rattle.std.proofs.Math.Seq.{take-length}
 use Rattle.rasn_types.specs.Bits.{to_bits, unpack}
 use Rattle.rasn_types.specs.Variants.{Variant, aligned, unaligned}
 use Rattle.per_core.specs.Writers.{Writer, just, ◌▹◌, join, go_on, after, one_by_one, padding, written_if}
-use Rattle.per_core.specs.Counts.{fragment_sizes, unless_zero, in_fragments, determinant, octet_writers, ItemKind, counted_in}
+use Rattle.per_core.specs.Counts.{fragment_sizes, unless_zero, in_fragments, determinant, octet_items, octet_writers, ItemKind, counted_in, unconstrained_octets}
 use Rattle.rasn_constraints.specs.Bounds.{any_size}
-use Rattle.per_pieces.specs.Fragments.{one_fragment}
+use Rattle.per_pieces.specs.Fragments.{one_fragment, unconstrained_length}
 use Rattle.per_pieces.specs.Pieces.{Appends, Pieces, with_bits}
 use Rattle.per_pieces.proofs.Placed.{appends_bits, appends_none, appends_same, appends_then}
-use Rattle.per_pieces.proofs.Writing.{then_assoc, then_nothing}
+use Rattle.per_pieces.proofs.Writing.{then_assoc, then_nothing, then_same}
 
 unless_zero-some : (m : ℕ) → 0 < m → unless_zero m ≡ m ∷ []
 unless_zero-some zero h = absurd (omega arith)
@@ -128,3 +128,15 @@ appends_nothing a x v = subst (λ (b : Variant). Appends x (padding b) x) (sym v
 -- the octets between two places
 pub octets_between : (os : List ℕ) (start end : ℕ) → octet_writers (slice_range os start end) ≡ slice_range (octet_writers os) start end
 octets_between os start end = sym (ap (take (end - start)) (drop-map _ start os) ∙ take-map _ (end - start) (drop start os))
+
+-- octets in one fragment, after their count
+pub appends_counted : (a : Variant) (x y z : Pieces) (os : List ℕ) → length os < 16384 → ((k : ℕ) → get_or os k 0 < 256) → Appends x (unconstrained_length a (length os)) y →
+    z ≡ with_bits y (unpack os) → Appends x (unconstrained_octets a os) z
+appends_counted a x y z os l h c e =
+    let ws = octet_writers os in
+    let n = length-octet_writers os in
+    appends_same x z (unconstrained_length a (length os) ▹ just (unpack os)) (unconstrained_octets a os)
+    (λ p. then_same (unconstrained_length a (length os)) (unconstrained_length a (length ws)) (just (unpack os)) (one_by_one ws)
+    (λ q. ap (λ (m : ℕ). unconstrained_length a m q) (sym n)) (λ q. sym (octets_one_by_one os h q)) p
+    ∙ sym (fragments_of_few a ws (omega (arith, n, l)) p) ∙ in_their_fragments a octet_items ws (omega (arith, n, l)) p)
+    (appends_then x y z (unconstrained_length a (length os)) (just (unpack os)) c (appends_bits y z (unpack os) e))

@@ -8,7 +8,7 @@ pub mod Writing
 pub mod Zeros
 pub mod Bounded
 pub mod Distances
-pub mod FewOctets
+pub mod CountedOctets
 pub mod Fragments
 pub mod SmallNumbers
 pub mod Wholes

@@ -1,26 +1,27 @@
 -- Bits and the places of marks among them, as pieces.
 use Rattle.std.proofs.Common.{◌≡◌, refl, sym, ap, ap₂, ◌∙◌, subst, ℕ, zero, suc, ◌+◌, ◌-◌, ◌≤◌, ◌<◌, Bool, true, false, List, [], ◌∷◌, ◌++◌, length, take, drop, replicate, set, Option, Some, None, arith, append_assoc, length-append, length-drop, get_or, ◌%◌}
-use Rattle.std.specs.Prelude.{Result, Ok, Err, OnOk, OnErr, IsOk}
+use Rattle.std.specs.Prelude.{Result, Ok, Err, OnOk, OnErr, IsOk, ◌==◌}
+use Rattle.std.proofs.lemmas.Bool.{eqb-true}
 use Rattle.std.proofs.lemmas.List.{take-append-le, drop-append-le, take-append-drop, take_all, drop_all, length-replicate}
 use Rattle.std.proofs.Math.Seq.{drop-cons, drop-append_seam, take-append_seam}
 use Rattle.rasn_types.specs.Bits.{Bits, to_bits}
 use Rattle.rasn_types.specs.Variants.{aligned}
 use Rattle.per_core.specs.Writers.{after, just, pad, padding, ◌▹◌}
 use Rattle.per_pieces.specs.Pieces.{Piece, bit, to_octet, Pieces, plain, with_bits, with_bit, bits_of, set_bit, placed_bits, writer_of, Appends, Remains}
-use Rattle.per_pieces.specs.Places.{marked, AreInOrder, places_of, is_placed, pieces}
+use Rattle.per_pieces.specs.MarkPositions.{marked, AreInOrder, places_of, is_placed, pieces}
 use Rattle.per_pieces.proofs.Placed.{appends_bits, appends_mark, appends_padding, appends_then, bits_of_append, bits_of_plain, plain_append, remains_after, remains_all, remains_last, settle_append, settle_plain, settle_same}
 use Rattle.per_pieces.proofs.Writing.{then_assoc}
 use Rattle.per_pieces.proofs.Zeros.{to_bits-zeros}
 
-pub ends_behind : (k : ℕ) (ms : List ℕ) (n : ℕ) → AreInOrder k ms n → k ≤ n
-ends_behind k [] n h = h
-ends_behind k (m ∷ ms) n h = let l = h.0 in let r = ends_behind m ms n h.1 in omega arith
+pub ends_after : (k : ℕ) (ms : List ℕ) (n : ℕ) → AreInOrder k ms n → k ≤ n
+ends_after k [] n h = h
+ends_after k (m ∷ ms) n h = let l = h.0 in let r = ends_after m ms n h.1 in omega arith
 
 pub further : (k : ℕ) (ms : List ℕ) (n m : ℕ) → n ≤ m → AreInOrder k ms n → AreInOrder k ms m
 further k [] n m l h = omega arith
 further k (i ∷ ms) n m l h = (h.0, further i ms n m l h.1)
 
--- a place more, behind all bits
+-- a place more, after all bits
 pub one_further : (k : ℕ) (ms : List ℕ) (n : ℕ) → AreInOrder k ms n → AreInOrder k (ms ++ n ∷ []) n
 one_further k [] n h = (h, let e : n ≤ n = omega arith in e)
 one_further k (m ∷ ms) n h = (h.0, one_further m ms n h.1)
@@ -30,26 +31,26 @@ bits_of_marked k [] bs = bits_of_plain bs
 bits_of_marked k (m ∷ ms) bs = bits_of_append (plain (take (m - k) bs)) (to_octet ∷ marked m ms (drop (m - k) bs))
     ∙ ap₂ (λ (xs ys : Bits). xs ++ ys) (bits_of_plain (take (m - k) bs)) (bits_of_marked m ms (drop (m - k) bs)) ∙ take-append-drop (m - k) bs
 
--- bits more behind the last mark
+-- bits more after the last mark
 pub marked_bits : (k : ℕ) (ms : List ℕ) (bs cs : Bits) (n : ℕ) → n ≡ k + length bs → AreInOrder k ms n → marked k ms (bs ++ cs) ≡ marked k ms bs ++ plain cs
 marked_bits k [] bs cs n e h = plain_append bs cs
 marked_bits k (m ∷ ms) bs cs n e h =
     let l : k ≤ m = h.0 in
-    let r = ends_behind m ms n h.1 in
+    let r = ends_after m ms n h.1 in
     let d : m - k ≤ length bs = omega arith in
     let i : n ≡ m + length (drop (m - k) bs) = omega (arith, length-drop (m - k) bs) in
     ap₂ (λ (xs ys : Bits). plain xs ++ to_octet ∷ marked m ms ys) (take-append-le (m - k) bs cs d) (drop-append-le (m - k) bs cs d)
     ∙ ap (λ (ps : List Piece). plain (take (m - k) bs) ++ to_octet ∷ ps) (marked_bits m ms (drop (m - k) bs) cs n i h.1)
     ∙ sym (append_assoc (plain (take (m - k) bs)) (to_octet ∷ marked m ms (drop (m - k) bs)) (plain cs))
 
--- a mark more behind all bits
+-- a mark more after all bits
 pub marked_mark : (k : ℕ) (ms : List ℕ) (bs : Bits) (n : ℕ) → n ≡ k + length bs → AreInOrder k ms n → marked k (ms ++ n ∷ []) bs ≡ marked k ms bs ++ to_octet ∷ []
 marked_mark k [] bs n e h =
     let d : length bs ≤ n - k = omega arith in
     ap₂ (λ (xs ys : Bits). plain xs ++ to_octet ∷ plain ys) (take_all (n - k) bs d) (drop_all (n - k) bs d)
 marked_mark k (m ∷ ms) bs n e h =
     let l : k ≤ m = h.0 in
-    let r = ends_behind m ms n h.1 in
+    let r = ends_after m ms n h.1 in
     let i : n ≡ m + length (drop (m - k) bs) = omega (arith, length-drop (m - k) bs) in
     ap (λ (ps : List Piece). plain (take (m - k) bs) ++ to_octet ∷ ps) (marked_mark m ms (drop (m - k) bs) n i h.1)
     ∙ sym (append_assoc (plain (take (m - k) bs)) (to_octet ∷ marked m ms (drop (m - k) bs)) (to_octet ∷ []))
@@ -96,7 +97,7 @@ order_mark o ms ns bs n (Ok u) e h l d f =
 order_mark o ms ns bs n (Err g) e h l d f =
     subst (λ (is : List ℕ). AreInOrder 0 is (length bs)) (sym f) (subst (λ (q : Option (List ℕ)). AreInOrder 0 (places_of q) (length bs)) e h)
 
--- X.691 11.1: padding behind bits that begin at position 0
+-- X.691 11.1: padding after bits that begin at position 0
 pub padded_start : (x : Pieces) (o : Option (List ℕ)) (bs cs : Bits) (n : ℕ) → pieces o bs ≡ x → o ≡ None → n ≡ length bs → cs ≡ bs ++ to_bits ((8 - n % 8) % 8) 0 → Appends x (padding aligned) (pieces o cs)
 padded_start x o bs cs n v e l d =
     let w : x ≡ record { list = plain bs; placed = true } = sym v ∙ ap (λ (q : Option (List ℕ)). pieces q bs) e in
@@ -116,7 +117,7 @@ pub record Walks (x y : Pieces) (ms : List ℕ) (bs : Bits) (done index : ℕ) (
   pub order : AreInOrder done (drop index ms) (done + length rest)
   pub remains : Remains x (writer_of (marked 0 ms bs)) y (writer_of (marked done (drop index ms) rest))
 
--- bits, and a mark behind them
+-- bits, and a mark after them
 split_mark : (k m : ℕ) (ms : List ℕ) (front rest : Bits) → length front ≡ m - k → (p : ℕ) → writer_of (marked k (m ∷ ms) (front ++ rest)) p ≡ (just front ▹ (padding aligned ▹ writer_of (marked m ms rest))) p
 split_mark k m ms front rest e p =
     let t : take (m - k) (front ++ rest) ≡ front = ap (λ (n : ℕ). take n (front ++ rest)) (sym e) ∙ take-append_seam front rest in
@@ -131,11 +132,11 @@ split_mark k m ms front rest e p =
 pub walks_first : (x : Pieces) (ms : List ℕ) (bs : Bits) → AreInOrder 0 ms (length bs) → Walks x x ms bs 0 0 bs
 walks_first x ms bs h = record { order = further 0 ms (length bs) (0 + length bs) (omega arith) h; remains = remains_all x (writer_of (marked 0 ms bs)) }
 
--- the next mark is one of them, and so many bits stand in front of it
+-- the next mark is one of them, and so many bits are in front of it
 pub walks_on : (x y : Pieces) (ms : List ℕ) (bs : Bits) (done index : ℕ) (rest : Bits) (m : ℕ) → Walks x y ms bs done index rest → index < length ms → m ≡ get_or ms index 0 → (done ≤ m) × (m - done ≤ length rest)
 walks_on x y ms bs done index rest m h l e =
     let o : AreInOrder done (get_or ms index 0 ∷ drop (suc index) ms) (done + length rest) = subst (λ (ns : List ℕ). AreInOrder done ns (done + length rest)) (drop-cons ms index 0 l) h.order in
-    let r = ends_behind (get_or ms index 0) (drop (suc index) ms) (done + length rest) o.1 in
+    let r = ends_after (get_or ms index 0) (drop (suc index) ms) (done + length rest) o.1 in
     let f = o.0 in
     (omega arith, omega arith)
 
@@ -160,7 +161,7 @@ walks_last x y z ms bs done index rest h l d =
     remains_last x y z (writer_of (marked 0 ms bs)) (writer_of (marked done (drop index ms) rest)) (just rest) h.remains
     (λ p. ap (λ (js : List ℕ). writer_of (marked done js rest) p) (drop_all index ms l) ∙ ap Some (settle_plain rest p)) (appends_bits y z rest d)
 
--- what stands alone from position 0 on
+-- what is alone from position 0 on
 pub settled_alone : (x y : Pieces) (o : Option (List ℕ)) (none bs : Bits) (ps : List Piece) → none ≡ [] → x ≡ record { list = plain none; placed = true } → Appends x (writer_of ps) y → pieces o bs ≡ y → bs ≡ placed_bits ps 0
 settled_alone x y (Some ms) none bs ps n d h e = absurd (let f = ap (λ (q : Pieces). q.placed) e ∙ h.place ∙ ap (λ (q : Pieces). q.placed) d in cc)
 settled_alone x y None none bs ps n d h e =
@@ -172,6 +173,10 @@ settled_alone x y None none bs ps n d h e =
 -- bits without marks
 pub settled_plain : (x : Pieces) (o : Option (List ℕ)) (bs : Bits) → pieces o bs ≡ x → o ≡ None → bs ≡ placed_bits x.list 0
 settled_plain x o bs e n = sym (settle_plain bs 0) ∙ ap (λ (q : Pieces). placed_bits q.list 0) (ap (λ (q : Option (List ℕ)). pieces q bs) (sym n) ∙ e)
+
+pub settled_unmarked : (ms : List ℕ) (bs : Bits) → true ≡ (length ms == 0) → bs ≡ placed_bits (marked 0 ms bs) 0
+settled_unmarked [] bs e = sym (settle_plain bs 0)
+settled_unmarked (m ∷ ms) bs e = absurd (let z : length (m ∷ ms) ≡ 0 = eqb-true (length (m ∷ ms)) 0 (sym e) in omega arith)
 
 -- as many are left as are taken
 pub is_taken : {T E : Type 0} (result : Result T E) (l n : ℕ) → OnErr result (l < n) → n ≤ l → IsOk result

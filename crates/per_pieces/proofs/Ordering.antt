@@ -7,7 +7,7 @@ use Rattle.rasn_schema.specs.Orders.{insert_at, how_many_less, by_tags}
 use Rattle.rasn_schema.specs.Schemas.{Parts, no_parts, part, Tag, TagTree, leaf, one_of, count, smallest, tags}
 use Rattle.rasn_schema.specs.declared.fields.Field.{Field}
 use Rattle.per_core.specs.Writers.{Writer, just, one_by_one, ◌▹◌}
-use Rattle.per_core.specs.Placed.{placed}
+use Rattle.per_core.specs.PlacedSets.{placed}
 use Rattle.per_pieces.specs.Pieces.{Appends, Pieces, Remains, writer_of}
 use Rattle.per_pieces.proofs.Placed.{appends_none, appends_then, remains_after, remains_none}
 use Rattle.per_pieces.specs.OpenSets.{Component, bit_writer, bit_writers, in_order, value_writers}
@@ -47,7 +47,7 @@ map_by_tags g ts [] = refl
 map_by_tags g [] (x ∷ xs) = refl
 map_by_tags g (t ∷ ts) (x ∷ xs) = map_insert g (how_many_less t ts) x (by_tags ts xs) ∙ ap (insert_at (how_many_less t ts) (g x)) (map_by_tags g ts xs)
 
--- what stands at the index of each field is what there is
+-- what is at the index of each field is what there is
 at_each : {Y : Type 0} (at : ℕ → Y) (d : Y) (ps : Parts) (ws : List Y) (i : ℕ) → ((j : ℕ) → at (i + j) ≡ get_or ws j d) → length ws ≡ count ps
     → map (λ (s : Shape). at s.index) (shapes_from i ps) ≡ ws
 at_each at d no_parts [] i h l = refl
@@ -94,7 +94,7 @@ placed_root ps fields sorted ordered ks cs {x = x} {y = y} {z = z} e l o f k g h
     appends_then x y z (placed ps (bit_writers cs)) (placed ps (value_writers cs)) (subst (λ (ws : List Writer). Appends x (one_by_one ws) y) bits g)
     (subst (λ (ws : List Writer). Appends y (one_by_one ws) z) values h)
 
--- nothing stands past the last
+-- nothing is past the last
 pub nothing_past : (x : Pieces) (ws : List Writer) (i : ℕ) → length ws ≤ i → Appends x (get_or ws i (just [])) x
 nothing_past x ws i le = subst (λ (w : Writer). Appends x w x) (sym (get_or_past ws i (just []) le)) (appends_none x)
 

@@ -1,4 +1,4 @@
--- Pieces one behind another, from each position.
+-- Pieces one after another, from each position.
 use Rattle.std.proofs.Common.{◌≡◌, refl, sym, ap, ◌∙◌, ℕ, ◌+◌, ◌-◌, ◌%◌, Bool, true, false, List, [], ◌∷◌, ◌++◌, length, replicate, Some, arith, append_assoc, append-nil, length-append}
 use Rattle.std.proofs.lemmas.List.{length-replicate, map-append}
 use Rattle.rasn_types.specs.Bits.{Bits}
@@ -46,13 +46,13 @@ pub bits_of_plain : (bs : Bits) → bits_of (plain bs) ≡ bs
 bits_of_plain [] = refl
 bits_of_plain (b ∷ bs) = ap (λ (cs : Bits). b ∷ cs) (bits_of_plain bs)
 
--- a bit behind others is set
+-- a bit after others is set
 pub set_seam : (xs ys : List Piece) (c b : Bool) → set_bit (xs ++ bit c ∷ ys) (bit_count xs) b ≡ xs ++ bit b ∷ ys
 set_seam [] ys c b = refl
 set_seam (bit d ∷ xs) ys c b = ap (λ (ps : List Piece). bit d ∷ ps) (set_seam xs ys c b)
 set_seam (to_octet ∷ xs) ys c b = ap (λ (ps : List Piece). to_octet ∷ ps) (set_seam xs ys c b)
 
--- some pieces stand behind others
+-- some pieces are after others
 pub appends_pieces : (x y : Pieces) (ps : List Piece) → y ≡ record { list = x.list ++ ps; placed = x.placed } → Appends x (writer_of ps) y
 appends_pieces x y ps e = record {
   behind = ps;
@@ -92,7 +92,7 @@ appends_then x y z f g h k = record {
 pub appends_mark : (x y : Pieces) → y ≡ record { list = x.list ++ to_octet ∷ []; placed = x.placed } → Appends x (padding aligned) y
 appends_mark x y e = appends_same x y (writer_of (to_octet ∷ [])) (padding aligned) (λ p. ap Some (append-nil (replicate (pad aligned p) false))) (appends_pieces x y (to_octet ∷ []) e)
 
--- X.691 11.1: behind bits that begin at position 0
+-- X.691 11.1: after bits that begin at position 0
 pub appends_padding : (x y : Pieces) (bs : Bits) → x ≡ record { list = plain bs; placed = true } → y ≡ with_bits x (replicate ((8 - length bs % 8) % 8) false) → Appends x (padding aligned) y
 appends_padding x y bs d e =
     let n = (8 - length bs % 8) % 8 in
@@ -128,7 +128,7 @@ remains_last x y z all rest f h e k = record {
   written = λ p b. k.written p (begins_then x y h.place p b) ∙ sym (then_same (writer_of y.list) (writer_of y.list) rest f (λ q. refl) e p) ∙ h.written p b;
 }
 
--- one thing was written, and of what was to be written behind it so much remains
+-- one thing was written, and of what was to be written after it so much remains
 pub remains_behind : (x m y : Pieces) (f g rest : Writer) → Appends x f m → Remains m g y rest → Remains x (f ▹ g) y rest
 remains_behind x m y f g rest h k = record {
   behind = h.behind ++ k.behind;

@@ -7,7 +7,7 @@ use Rattle.per_pieces.specs.Pieces.{Pieces, unplaced}
 use Rattle.per_pieces.specs.OpenSets.{Component, OpenSet, Underway, are_of, begins, begins_value, begins_value_where, begins_where, closed, components, opened, says_present}
 use Rattle.per_pieces.proofs.Closing.{as_many, is_closed}
 
--- of so many components of a SET that stands behind some pieces, the first were presented, and were written as these
+-- of so many components of a SET that is after some pieces, the first were presented, and were written as these
 pub record HasPresented (all : ℕ) (outer : Pieces) (cs : List Component) (u : Underway) : Type 0 where
   pub outside : u.set.outer ≡ outer
   pub done : components u ≡ cs

@@ -6,7 +6,7 @@ use Rattle.rasn_types.specs.Variants.{Variant}
 use Rattle.rasn_schema.specs.Fields.{is_not_required, presence_of, shapes_from}
 use Rattle.rasn_schema.specs.Schemas.{Schema, Parts, no_parts, part, Presence, required, optional, group, default, TagTree, count}
 use Rattle.per_core.specs.Canon.{canon, flagged, if_shown, members, shown}
-use Rattle.per_core.specs.Placed.{each_writes, its_flag, its_value, placed}
+use Rattle.per_core.specs.PlacedSets.{each_writes, its_flag, its_value, placed}
 use Rattle.per_core.specs.Writers.{Writer, just, ◌▹◌}
 use Rattle.per_pieces.specs.Pieces.{Pieces, unplaced, writer_of}
 use Rattle.per_pieces.specs.OpenSets.{Component, are_of, bit_writer, bit_writers, value_writers}

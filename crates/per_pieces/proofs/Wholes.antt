@@ -55,7 +55,7 @@ unfolding whole_bits
 whole_bits_are z k u f e d = low_bits (octets_of_whole z) z (octets_of_i128 z f) (mag_fits z)
     ∙ sym (ap (λ (m : ℕ). to_bits (8 * octets_of_whole z) m) d) ∙ sym (ap (λ (m : ℕ). to_bits (8 * m) u) e)
 
--- X.691 11.8: the fewest octets in two's complement behind their count
+-- X.691 11.8: the fewest octets in two's complement after their count
 pub appends_whole : (a : Variant) (x z : Pieces) (n : ℤ) (k u : ℕ) → FitsSigned w128 n → k ≡ octets_of_whole n → k ≤ 16 → u ≡ cast_unsigned w128 n →
     Appends x ((padding a ▹ just (determinant k)) ▹ just (to_bits (8 * k) u)) z → Appends x (counted_octets a (whole_bits n)) z
 appends_whole a x z n k u f e l d p =

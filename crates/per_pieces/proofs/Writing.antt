@@ -37,6 +37,6 @@ then_nothing g p = go (g p)
     go (Some b) = ap Some (append-nil b)
 
 -- no encoding behind anything
-pub none_behind : (o : Option Bits) (g : Writer) (p : ℕ) → ((q : ℕ) → g q ≡ None) → go_on o g p ≡ None
-none_behind None g p h = refl
-none_behind (Some b) g p h = ap (join b) (h (after p b))
+pub none_after : (o : Option Bits) (g : Writer) (p : ℕ) → ((q : ℕ) → g q ≡ None) → go_on o g p ≡ None
+none_after None g p h = refl
+none_after (Some b) g p h = ap (join b) (h (after p b))

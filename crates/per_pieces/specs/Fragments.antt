@@ -9,7 +9,7 @@ use Rattle.per_core.specs.Counts.{constrained_whole, determinant, padding_if}
 abbrev pub unconstrained_length : Variant → ℕ → Writer
 unconstrained_length a count = padding a ▹ just (determinant count)
 
--- X.691 11.9.3.5: so many octets of a number behind their count as an unconstrained length
+-- X.691 11.9.3.5: so many octets of a number after their count as an unconstrained length
 abbrev pub counted_number : Variant → ℕ → ℕ → Writer
 counted_number a octets n = unconstrained_length a octets ▹ just (to_bits (8 * octets) n)
 
@@ -18,6 +18,6 @@ abbrev pub constrained_length : Variant → ℕ → ℕ → ℕ → Bool → Wri
 constrained_length a lower upper count on_octet = constrained_whole a (upper - lower + 1)
     (count - lower) ▹ padding_if on_octet a
 
--- X.691 11.9.3.5 to 11.9.3.8: items behind one length
+-- X.691 11.9.3.5 to 11.9.3.8: items after one length
 abbrev pub one_fragment : Variant → List Writer → Writer
 one_fragment a items = unconstrained_length a (length items) ▹ one_by_one items

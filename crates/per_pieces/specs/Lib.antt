@@ -1,5 +1,5 @@
 pub mod Pieces
-pub mod Places
+pub mod MarkPositions
 pub mod Fragments
 pub mod OpenSets
 pub mod Turns

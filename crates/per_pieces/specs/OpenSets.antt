@@ -1,5 +1,5 @@
 -- A SET that is open for writing: its root components are presented in the order of its fields, each is written before
--- its place is known, and they stand in ascending order of their smallest tags (ITU-T X.691, 19.2 to 19.6, 21.1).
+-- its place is known, and they are in ascending order of their smallest tags (ITU-T X.691, 19.2 to 19.6, 21.1).
 use Rattle.std.specs.Prelude.{ℕ, zero, suc, ◌+◌, ◌≤◌, ◌≡◌, Bool, true, false, not, ◌&&◌, if◌then◌else◌, List, [], ◌∷◌}
 use Rattle.std.specs.Prelude.{◌++◌, get_or, length, map}
 use Rattle.std.specs.Prelude.{Option, Some, None, is_some, is_none}
@@ -14,7 +14,7 @@ pub record Component : Type 0 where
   pub bit : Option Bool
   pub value : Pieces
 
--- what is kept of an open SET: what stands before it, the components before the last one begun, the presence bit of
+-- what is kept of an open SET: what is before it, the components before the last one begun, the presence bit of
 -- that one (no component where none was begun), whether its value is still to follow, how many may still be begun, and
 -- whether anything came out of turn
 pub record OpenSet : Type 0 where
@@ -30,14 +30,14 @@ pub record Underway : Type 0 where
   pub set : OpenSet
   pub pieces : Pieces
 
--- a SET of so many root components is opened behind some pieces
+-- a SET of so many root components is opened after some pieces
 abbrev pub opened : ℕ → Pieces → Underway
 opened count ps = record {
   set = record { outer = ps; done = []; begun = None; awaits = false; room = count; misplaced = false };
   pieces = unplaced;
 }
 
--- components, and behind them the one that was begun, if one was
+-- components, and after them the one that was begun, if one was
 abbrev pub with_begun : List Component → Option (Option Bool) → Pieces → List Component
 with_begun cs None ps = cs
 with_begun cs (Some bit) ps = cs ++ record { bit = bit; value = ps } ∷ []
@@ -127,6 +127,6 @@ bit_writers = map (λ c. bit_writer c.bit)
 abbrev pub value_writers : List Component → List Writer
 value_writers = map (λ c. writer_of c.value.list)
 
--- what stands at the index of each of some fields
+-- what is at the index of each of some fields
 abbrev pub in_order : List Field → List Writer → List Writer
 in_order fs ws = map (λ f. get_or ws f.index (just [])) fs

@@ -10,7 +10,7 @@ pub data Piece : Type 0 where
   bit : Bool → Piece
   to_octet : Piece
 
--- pieces one behind another, and whether the first stands at position 0; else any position may be its place
+-- pieces one after another, and whether the first is at position 0; else any position may be its place
 pub record Pieces : Type 0 where
   pub list : List Piece
   pub placed : Bool
@@ -27,7 +27,7 @@ unplaced = record { list = []; placed = false }
 abbrev pub plain : Bits → List Piece
 plain = map bit
 
--- pieces and some bits behind them
+-- pieces and some bits after them
 abbrev pub with_bits : Pieces → Bits → Pieces
 with_bits x bs = record { list = x.list ++ plain bs; placed = x.placed }
 
@@ -62,18 +62,18 @@ placed_bits (to_octet ∷ ps) p = replicate (pad aligned p) false ++ placed_bits
 abbrev pub writer_of : List Piece → Writer
 writer_of ps p = Some (placed_bits ps p)
 
--- the positions that the first piece may stand at
+-- the positions that the first piece may be at
 abbrev pub MayBegin : Pieces → ℕ → Type 0
 MayBegin x p = x.placed ≡ true → p ≡ 0
 
--- one thing more was written behind some pieces
+-- one thing more was written after some pieces
 pub record Appends (x : Pieces) (more : Writer) (y : Pieces) : Type 0 where
   pub behind : List Piece
   pub list : y.list ≡ x.list ++ behind
   pub place : y.placed ≡ x.placed
   pub written : (p : ℕ) → MayBegin x p → writer_of y.list p ≡ (writer_of x.list ▹ more) p
 
--- the first of what was to be written was written behind some pieces, and so much remains
+-- the first of what was to be written was written after some pieces, and so much remains
 pub record Remains (x : Pieces) (all : Writer) (y : Pieces) (rest : Writer) : Type 0 where
   pub behind : List Piece
   pub list : y.list ≡ x.list ++ behind

@@ -27,7 +27,7 @@ abbrev pub past : ℕ → Turn → Turn
 past zero t = t
 past (suc n) t = past n (next t)
 
--- a presence bit was given: a bit 0 is a component that is left out, and behind a bit 1 its value is still to come
+-- a presence bit was given: a bit 0 is a component that is left out, and after a bit 1 its value is still to come
 abbrev pub marked : Bool → Turn → Turn
 marked true t = t
 marked false t = next t

@@ -26,7 +26,7 @@ pub enum Enclosed<T> {
 }
 
 /// What encloses what is written next: a scope of which the components are counted or aren't, or the open SET whose
-/// components are gathered. The SET stands in a box, so that little is moved where a value is opened that others stand
+/// components are gathered. The SET is in a box, so that little is moved where a value is opened that others are
 /// in.
 #[derive(Drop)]
 pub struct EnclosingSet<A: Allocator + Clone> {

@@ -1,9 +1,9 @@
 //! Counts in front of items: unconstrained lengths, and counts within bounds (X.691 11.9.3 and 11.9.4).
 
-ghost use Rattle.std.specs.Prelude.{◌≤◌, OnOk};
+ghost use Rattle.std.specs.Prelude.{◌≤◌, ◌<◌, length, OnOk};
 ghost use Rattle.rasn_types.specs.Variants.{variant_of};
 ghost use Rattle.per_core.specs.Writers.{just, padding};
-ghost use Rattle.per_core.specs.Counts.{determinant};
+ghost use Rattle.per_core.specs.Counts.{determinant, unconstrained_octets};
 ghost use Rattle.per_pieces.specs.Fragments.{constrained_length, unconstrained_length};
 ghost use Rattle.per_pieces.specs.Pieces.{Appends};
 
@@ -23,6 +23,19 @@ pub fn push_unconstrained_length<A: Allocator>(
 {
     push_padding(pieces, codec)?;
     push_determinant(pieces, count)
+}
+
+/// Writes octets in one fragment, after their count as an unconstrained length (X.691 11.9.3.6, 11.9.3.7).
+pub fn push_counted_octets<A: Allocator>(
+    pieces: &mut Pieces<A>,
+    codec: Codec,
+    octets: &[u8],
+) -> Result<(), AllocError>
+    requires { length octets.now < 16384 }
+    ensures { OnOk result (Appends pieces.old (unconstrained_octets (variant_of codec) octets.now) pieces.new) }
+{
+    push_unconstrained_length(pieces, codec, octets.len())?;
+    pieces.push_octets(octets)
 }
 
 /// Writes how many items follow, as a constrained whole number, and the padding in front of items that begin on an

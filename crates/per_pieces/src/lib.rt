@@ -18,7 +18,7 @@ ghost use Rattle.per_bits.specs.Octets.{low_bits_of};
 ghost use Rattle.per_core.specs.Writers.{just, padding};
 ghost use Rattle.per_pieces.specs.Pieces.{Appends, bit_count, bits_of, unplaced, plain, placed_bits, writer_of};
 ghost use Rattle.per_pieces.specs.Pieces.{with_bit, with_bits};
-ghost use Rattle.per_pieces.specs.Places.{AreInOrder, marked};
+ghost use Rattle.per_pieces.specs.MarkPositions.{AreInOrder, marked};
 
 use per_bits::{BitList, BitReader};
 use std::alloc::{AllocError, Allocator};
@@ -61,7 +61,7 @@ pub struct Pieces<A: Allocator> {
 impl<A: Allocator> Model for Pieces<A> {
     ghost use Rattle.std.specs.Prelude.{length};
     ghost use Rattle.per_pieces.specs.Pieces.{Pieces};
-    ghost use Rattle.per_pieces.specs.Places.{AreInOrder, pieces, places_of};
+    ghost use Rattle.per_pieces.specs.MarkPositions.{AreInOrder, pieces, places_of};
 
     ghost Value = { Pieces };
 
@@ -72,6 +72,7 @@ impl<A: Allocator> Model for Pieces<A> {
 
 impl<A: Allocator> Pieces<A> {
     /// Bits that begin at position 0.
+    #[inline(always)]
     pub fn from_bits(bits: BitList<A>) -> Self
         ensures { result ≡ record { list = plain bits; placed = true } }
     {
@@ -79,6 +80,7 @@ impl<A: Allocator> Pieces<A> {
     }
 
     /// How many bits there are. Padding whose place isn't known is none of them.
+    #[inline(always)]
     pub fn len(&self) -> u128
         ensures { result ≡ bit_count self.now.list }
     {
@@ -92,7 +94,7 @@ impl<A: Allocator> Pieces<A> {
         &self.bits
     }
 
-    /// Sets the bit at a place among the bits, the first at 0; behind the last there is none. Every other piece stays,
+    /// Sets the bit at a place among the bits, the first at 0; after the last there is none. Every other piece stays,
     /// and no memory is taken.
     #[inline(always)]
     pub fn set(&mut self, place: u128, bit: bool)
@@ -102,6 +104,7 @@ impl<A: Allocator> Pieces<A> {
     }
 
     /// Appends a bit. The only error is want of memory.
+    #[inline(always)]
     pub fn push(&mut self, bit: bool) -> Result<(), AllocError>
         ensures ok { OnOk result (self.new ≡ with_bits self.old (bit ∷ [])) }
         ensures appends { OnOk result (Appends self.old (just (bit ∷ [])) self.new) }
@@ -117,6 +120,15 @@ impl<A: Allocator> Pieces<A> {
         ensures appends { OnOk result (Appends self.old (just (to_bits width number)) self.new) }
     {
         self.bits.push_bits(number, width)
+    }
+
+    /// Appends the low `width` bits of a word, highest first (X.691 11.3). The only error is want of memory.
+    #[inline(always)]
+    pub fn push_field(&mut self, number: u64, width: u32) -> Result<(), AllocError>
+        requires { width ≤ 56 }
+        ensures { OnOk result (self.new ≡ with_bits self.old (to_bits width number)) }
+    {
+        self.bits.push_field(number, width)
     }
 
     /// Appends the bits of octets, the highest of each first. The only error is want of memory.
@@ -144,13 +156,36 @@ impl<A: Allocator> Pieces<A> {
     }
 
     /// Appends zero bits. The only error is want of memory.
+    #[inline(always)]
     pub fn push_zeros(&mut self, count: usize) -> Result<(), AllocError>
+        ensures { OnOk result (self.new ≡ with_bits self.old (replicate count false)) }
+    {
+        if count == 0 {
+            return Ok(());
+        }
+        if count <= 128 {
+            return self.push_few_zeros(count as u32);
+        }
+        self.push_many_zeros(count)
+    }
+
+    /// Appends at most 128 zero bits. The only error is want of memory.
+    #[inline(always)]
+    fn push_few_zeros(&mut self, count: u32) -> Result<(), AllocError>
+        requires { count ≤ 128 }
+        ensures { OnOk result (self.new ≡ with_bits self.old (replicate count false)) }
+    {
+        self.bits.push_zeros(count)
+    }
+
+    /// Appends zero bits, some at a time. The only error is want of memory.
+    fn push_many_zeros(&mut self, count: usize) -> Result<(), AllocError>
         ensures { OnOk result (self.new ≡ with_bits self.old (replicate count false)) }
     {
         let mut left = count;
         while left > 0 {
             let width = left.min(128);
-            self.push_bits(0, width as u128)?;
+            self.push_few_zeros(width as u32)?;
             left -= width;
         }
         Ok(())
@@ -217,7 +252,7 @@ impl<A: Allocator + Clone> Pieces<A> {
     {
         let Pieces { bits, marks } = self;
         match marks {
-            Some(marks) => place_marked(marks.places.as_slice(), &bits),
+            Some(marks) => with_padding(marks.places.as_slice(), bits),
             None => Ok(bits),
         }
     }
@@ -232,6 +267,22 @@ impl<A: Allocator + Clone> Pieces<A> {
             None => place_marked(&[], &self.bits),
         }
     }
+}
+
+/// The bits from position 0 on, with padding at some places among them: where there is none, the bits themselves. The
+/// only error is want of memory.
+#[inline(always)]
+fn with_padding<A: Allocator + Clone>(
+    marks: &[u128],
+    bits: BitList<A>,
+) -> Result<BitList<A>, AllocError>
+    requires { AreInOrder 0 marks.now (length bits) }
+    ensures { IfOk result (λ all. all ≡ placed_bits (marked 0 marks.now bits) 0) }
+{
+    if marks.is_empty() {
+        return Ok(bits);
+    }
+    place_marked(marks, &bits)
 }
 
 /// The bits from position 0 on, with padding at some places among them. The only error is want of memory.

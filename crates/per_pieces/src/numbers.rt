@@ -1,16 +1,17 @@
 //! Whole numbers under bounds (X.691 11.5, 11.7 and 13.2).
 
 ghost use Rattle.std.specs.Prelude.{◌≡◌, ◌+◌, ◌*◌, ◌%◌, ◌^◌, ◌<◌, ◌≤◌, ◌≤ℤ◌, ℤ, true, Some, OnOk};
-ghost use Rattle.rasn_types.specs.Bits.{to_bits, natural_bits, octets_of_natural, octets_of_whole, whole_bits};
+ghost use Rattle.rasn_types.specs.Bits.{to_bits, natural_bits, octets_of_natural, octets_of_whole, whole_bits, width};
 ghost use Rattle.rasn_types.specs.Variants.{variant_of, aligned};
 ghost use Rattle.per_core.specs.Writers.{just, padding, ◌▹◌};
 ghost use Rattle.per_core.specs.Counts.{constrained_whole, counted_octets, number_under};
 ghost use Rattle.rasn_constraints.specs.Bounds.{above, not_above};
 ghost use Rattle.per_pieces.specs.Fragments.{counted_number};
-ghost use Rattle.per_pieces.specs.Pieces.{Appends};
+ghost use Rattle.per_pieces.specs.Pieces.{Appends, with_bits};
 
 use crate::Pieces;
 use crate::lengths::push_padding;
+use per_core::number_forms::NumberForm;
 use rasn_types::types::Codec;
 use rasn_types::width::{width_of, width_to};
 use std::alloc::{AllocError, Allocator};
@@ -45,6 +46,7 @@ fn distance_above(lower: i128, number: i128) -> u128
 
 /// Writes one of the numbers from 0 to `greatest`, a constrained whole number above its lower bound (X.691 11.5): in
 /// the unaligned variant in the fewest bits that tell these numbers apart.
+#[inline(always)]
 pub fn push_constrained_whole<A: Allocator>(
     pieces: &mut Pieces<A>,
     codec: Codec,
@@ -56,12 +58,30 @@ pub fn push_constrained_whole<A: Allocator>(
 {
     match codec {
         Codec::Aper => push_constrained_whole_aligned(pieces, greatest, offset),
-        Codec::Uper => pieces.push_bits(offset, width_to(greatest)),
+        Codec::Uper => push_in_fewest_bits(pieces, greatest, offset),
     }
+}
+
+/// Writes one of the numbers from 0 to `greatest` in the fewest bits that tell these numbers apart.
+#[inline(always)]
+fn push_in_fewest_bits<A: Allocator>(
+    pieces: &mut Pieces<A>,
+    greatest: u128,
+    offset: u128,
+) -> Result<(), AllocError>
+    requires { offset ≤ greatest }
+    ensures { OnOk result (pieces.new ≡ with_bits pieces.old (to_bits (width (greatest + 1)) offset)) }
+{
+    if greatest < 1 << 56 {
+        let width = width_to(u128::from(greatest as u64));
+        return pieces.push_field(offset as u64, width as u32);
+    }
+    pieces.push_bits(offset, width_to(greatest))
 }
 
 /// Writes one of the numbers from 0 to `greatest` in the aligned variant (X.691 11.5.7): of 255 numbers or fewer in
 /// bits, of 256 in an octet, of 65536 or fewer in two, and of more in its fewest octets, which their count precedes.
+#[inline(never)]
 fn push_constrained_whole_aligned<A: Allocator>(
     pieces: &mut Pieces<A>,
     greatest: u128,
@@ -70,16 +90,15 @@ fn push_constrained_whole_aligned<A: Allocator>(
     requires { offset ≤ greatest }
     ensures { OnOk result (Appends pieces.old (constrained_whole aligned (greatest + 1) offset) pieces.new) }
 {
-    if greatest < 255 {
-        pieces.push_bits(offset, width_to(greatest))
-    } else if greatest == 255 {
-        push_on_octet(pieces, offset, 8)
-    } else if greatest < 65536 {
-        push_on_octet(pieces, offset, 16)
-    } else {
-        let octets = octet_count(offset);
-        pieces.push_bits(octets - 1, u128::from(width_of(octet_count(greatest))))?;
-        push_on_octet(pieces, offset, 8 * octets)
+    match NumberForm::of(greatest) {
+        NumberForm::Bits => pieces.push_bits(offset, width_to(greatest)),
+        NumberForm::Octet => push_on_octet(pieces, offset, 8),
+        NumberForm::TwoOctets => push_on_octet(pieces, offset, 16),
+        NumberForm::Counted => {
+            let octets = octet_count(offset);
+            pieces.push_bits(octets - 1, u128::from(width_of(octet_count(greatest))))?;
+            push_on_octet(pieces, offset, 8 * octets)
+        }
     }
 }
 
@@ -97,7 +116,7 @@ fn push_on_octet<A: Allocator>(
 }
 
 /// Writes a number that has a lower bound alone, by how far it is above that (X.691 11.7): its fewest octets without
-/// sign, behind an unconstrained length.
+/// sign, after an unconstrained length.
 pub fn push_semi_constrained_whole<A: Allocator>(
     pieces: &mut Pieces<A>,
     codec: Codec,
@@ -108,7 +127,7 @@ pub fn push_semi_constrained_whole<A: Allocator>(
     push_counted(pieces, codec, octet_count(offset), offset)
 }
 
-/// Writes a number without bounds (X.691 11.8): its fewest octets in two's complement, behind an unconstrained length.
+/// Writes a number without bounds (X.691 11.8): its fewest octets in two's complement, after an unconstrained length.
 pub fn push_unconstrained_whole<A: Allocator>(
     pieces: &mut Pieces<A>,
     codec: Codec,
@@ -124,7 +143,7 @@ pub fn push_unconstrained_whole<A: Allocator>(
     )
 }
 
-/// Writes so many octets of a number, behind their count as an unconstrained length (X.691 11.9.3.6): up to 6 of them
+/// Writes so many octets of a number, after their count as an unconstrained length (X.691 11.9.3.6): up to 6 of them
 /// in one field with the octet of their count, which is then of 56 bits at most.
 #[inline(always)]
 fn push_counted<A: Allocator>(
@@ -138,14 +157,14 @@ fn push_counted<A: Allocator>(
 {
     push_padding(pieces, codec)?;
     if octets <= 6 {
-        return pieces.push_bits(behind_count(octets, number), 8 + 8 * octets);
+        return pieces.push_bits(after_count(octets, number), 8 + 8 * octets);
     }
     pieces.push_bits(octets, 8)?;
     pieces.push_bits(number, 8 * octets)
 }
 
-/// So many octets of a number, behind their count in an octet.
-fn behind_count(octets: u128, number: u128) -> u128
+/// So many octets of a number, after their count in an octet.
+fn after_count(octets: u128, number: u128) -> u128
     requires { octets ≤ 6 }
     ensures { result ≡ octets * 2 ^ (8 * octets) + number % 2 ^ (8 * octets) }
 {

@@ -6,7 +6,7 @@ ghost use Rattle.std.specs.Prelude.{◌≡◌, [], ◌<◌, get_or, length, map,
 ghost use Rattle.std.specs.Prelude.{IfOk, IfSome, OnErr, OnOk};
 ghost use Rattle.rasn_schema.specs.Fields.{shape_of, shapes_from};
 ghost use Rattle.rasn_schema.specs.Schemas.{count, Parts};
-ghost use Rattle.per_core.specs.Placed.{placed};
+ghost use Rattle.per_core.specs.PlacedSets.{placed};
 ghost use Rattle.per_core.specs.Writers.{just, one_by_one, ◌▹◌};
 ghost use Rattle.per_pieces.specs.OpenSets.{are_of, begins, begins_value, bit_writers, closed, in_order, is_of, opened};
 ghost use Rattle.per_pieces.specs.OpenSets.{value_writers, with_begun};
@@ -53,7 +53,7 @@ impl<A: Allocator> Model for Components<A> {
 /// A SET that is open for writing.
 #[derive(Drop)]
 pub struct OpenSet<A: Allocator> {
-    /// What stands before the SET.
+    /// What is before the SET.
     outer: Pieces<A>,
     /// The components before the last one begun, in memory for all.
     done: Vec<Component<A>, A>,
@@ -86,7 +86,7 @@ impl<A: Allocator> Model for OpenSet<A> {
 }
 
 impl<A: Allocator + Clone> OpenSet<A> {
-    /// Opens a SET of so many root components behind some pieces, which wait until it closes: what is written from now
+    /// Opens a SET of so many root components after some pieces, which wait until it closes: what is written from now
     /// on has no place yet. All memory that the SET needs beside its components' pieces is taken here. The only error
     /// is want of memory, and the pieces stay then.
     pub fn open(pieces: &mut Pieces<A>, count: usize) -> Result<Self, AllocError>
@@ -158,7 +158,7 @@ impl<A: Allocator> OpenSet<A> {
         }
     }
 
-    /// Closes a SET with some fields: what stands before it is there again. Answers its components, and none where the
+    /// Closes a SET with some fields: what is before it is there again. Answers its components, and none where the
     /// SET isn't complete: a component for each field, in turn, with a presence bit exactly where it may be absent
     /// (X.691 19.2). Takes no memory.
     pub fn close(self, pieces: &mut Pieces<A>, fields: &Fields) -> Option<Components<A>>
@@ -182,7 +182,7 @@ impl<A: Allocator> OpenSet<A> {
     }
 }
 
-/// Keeps the pieces of the component that was begun, behind those before it. Where none was begun they are dropped.
+/// Keeps the pieces of the component that was begun, after those before it. Where none was begun they are dropped.
 fn keep<A: Allocator>(
     done: &mut Vec<Component<A>, A>,
     begun: Option<Option<bool>>,

@@ -1,11 +1,11 @@
--- Additions are read one after another, as the bitmap says (X.691 19.7 to 19.9): what is read of the first, and of the others behind
+-- Additions are read one after another, as the bitmap says (X.691 19.7 to 19.9): what is read of the first, and of the others after
 -- it, is what all of them spell, and the other way round.
 use Rattle.std.proofs.Common.{◌≡◌, refl, sym, subst, List, [], ◌∷◌, Bool, true, false, Option, Some, None}
 use Rattle.rasn_types.specs.Bits.{Bits}
 use Rattle.rasn_types.specs.Values.{Value}
 use Rattle.per_core.specs.Basic.{Additions, Rule, Unknown}
 use Rattle.per_core.specs.Spellings.{Settings, Spelling, When, exactly, Took}
-use Rattle.per_core.proofs.Took.{nothing_took, then_took, took_map, took_nothing, took_then}
+use Rattle.per_core.proofs.TakenInTurn.{nothing_took, then_took, took_map, took_nothing, took_then}
 use Rattle.per_read.proofs.Fields.{when_took}
 use Rattle.per_core.specs.AdditionFaults.{Addition, NextFlag}
 use Rattle.per_read.specs.Additions.{FirstAddition}
@@ -68,7 +68,7 @@ module _ (a : Settings) (r : Rule) (rs : List Rule) where
         behind = subst (λ z. Took (Additions a rs ss z) b t) g w.1;
       }
 
--- behind the last of the schema's, those that it doesn't know are read
+-- after the last of the schema's, those that it doesn't know are read
 pub unknown_took : (a : Settings) (flags : List Bool) {b t : Bits} → Took (Unknown a flags) b t → Took (Additions a [] [] flags) b t
 unknown_took a flags x = x
 

@@ -9,17 +9,17 @@ use Rattle.rasn_types.specs.Bits.{Bits}
 use Rattle.rasn_types.specs.Bits as binary
 use Rattle.rasn_constraints.specs.Bounds.{count_of, number_of}
 use Rattle.per_core.specs.Basic.{bit}
-use Rattle.per_core.specs.Spellings.{Settings, Spelling, Field, Took, NoneIn}
-use Rattle.per_core.proofs.Took.{took_bit}
+use Rattle.per_core.specs.Spellings.{Settings, Spelling, BitField, Took, NoneIn}
+use Rattle.per_core.proofs.TakenInTurn.{took_bit}
 use Rattle.per_read.specs.Items.{TookItems, TakesItems}
-use Rattle.per_core.specs.FieldFaults.{IsOfField}
+use Rattle.per_core.specs.BitFieldFaults.{IsOfBitField}
 use Rattle.per_read.specs.Kinds.{IsTested}
-use Rattle.per_read.specs.State.{State, settings_of}
+use Rattle.per_read.specs.ReaderState.{ReaderState, settings_of}
 use Rattle.per_read.specs.Takes.{Reason, Takes}
 use Rattle.per_core.specs.declared.decode_error.DecodeErrorKind.{DecodeErrorKind}
 use Rattle.per_read.proofs.Fields.{field_wide, field_one}
 
-module _ {T X : Type 0} {why : Reason} {form : Settings → X → Spelling} {of : (X → Type 0) → T → Type 0} {x y : State} where
+module _ {T X : Type 0} {why : Reason} {form : Settings → X → Spelling} {of : (X → Type 0) → T → Type 0} {x y : ReaderState} where
   -- an answer
   pub answers : (v : T) → y.options ≡ x.options → of (λ w. Took (form (settings_of x) w) x.bits y.bits) v → Takes why form of x (Ok v) y
   answers v e h = record { ok = h; err = tt; kept = e }
@@ -33,8 +33,8 @@ module _ {T X : Type 0} {why : Reason} {form : Settings → X → Spelling} {of 
   passes_on (Ok v) k h e i = absurd h
   passes_on (Err f) k h e i = record { ok = tt; err = subst (λ z. why (settings_of x) x.bits (NoneIn (form (settings_of x)) x.bits) z) (sym h) i; kept = e }
 
-  -- what the last call answers, behind what the others took
-  module _ {Z : Type 0} {because : Reason} {last : Settings → Z → Spelling} {is : (Z → Type 0) → T → Type 0} {m : State} where
+  -- what the last call answers, after what the others took
+  module _ {Z : Type 0} {because : Reason} {last : Settings → Z → Spelling} {is : (Z → Type 0) → T → Type 0} {m : ReaderState} where
     pub takes_last : {r : Result T DecodeErrorKind} → Takes because last is m r y → m.options ≡ x.options
         → ((v : T) → is (λ w. Took (last (settings_of m) w) m.bits y.bits) v → of (λ w. Took (form (settings_of x) w) x.bits y.bits) v)
         → ((k : DecodeErrorKind) → because (settings_of m) m.bits (NoneIn (last (settings_of m)) m.bits) k → why (settings_of x) x.bits (NoneIn (form (settings_of x)) x.bits) k)
@@ -51,7 +51,7 @@ pub if_some : {T E : Type 0} (P : T → Type 0) (r : Result T E) {o : Option T} 
 if_some P (Ok v) e h = subst (λ o. IfSome o P) (sym e) h
 if_some P (Err k) e h = subst (λ o. IfSome o P) (sym e) tt
 
-module _ {C : Type 0} {holds : C → C → List ℕ → Type 0} {why : Reason} {form : Settings → List ℕ → Spelling} {before after : C} {x y : State} where
+module _ {C : Type 0} {holds : C → C → List ℕ → Type 0} {why : Reason} {form : Settings → List ℕ → Spelling} {before after : C} {x y : ReaderState} where
   pub answers_items : (n : ℕ) → y.options ≡ x.options → TookItems holds (form (settings_of x)) n before after x.bits y.bits → TakesItems holds why form before x (Ok n) after y
   answers_items n e h = record { ok = h; err = tt; kept = e }
 
@@ -60,14 +60,14 @@ module _ {C : Type 0} {holds : C → C → List ℕ → Type 0} {why : Reason} {
   passes_on_items (Ok v) k h e i = absurd h
   passes_on_items (Err f) k h e i = record { ok = tt; err = subst (λ z. why (settings_of x) x.bits (NoneIn (form (settings_of x)) x.bits) z) (sym h) i; kept = e }
 
-  pub takes_last_items : {because : Reason} {last : Settings → List ℕ → Spelling} {m : State} {r : Result ℕ DecodeErrorKind} → TakesItems holds because last before m r after y → m.options ≡ x.options
+  pub takes_last_items : {because : Reason} {last : Settings → List ℕ → Spelling} {m : ReaderState} {r : Result ℕ DecodeErrorKind} → TakesItems holds because last before m r after y → m.options ≡ x.options
       → ((n : ℕ) → TookItems holds (last (settings_of m)) n before after m.bits y.bits → TookItems holds (form (settings_of x)) n before after x.bits y.bits)
       → ((k : DecodeErrorKind) → because (settings_of m) m.bits (NoneIn (last (settings_of m)) m.bits) k → why (settings_of x) x.bits (NoneIn (form (settings_of x)) x.bits) k)
       → TakesItems holds why form before x r after y
   takes_last_items {r = r} a e f g = record { ok = IfOk-weaker r _ _ f a.ok; err = IfErr-weaker r _ _ g a.err; kept = a.kept ∙ e }
 
 -- a call from where another one began
-pub from_start : {T X : Type 0} {why : Reason} {form : Settings → X → Spelling} {of : (X → Type 0) → T → Type 0} {x m y : State} {r : Result T DecodeErrorKind}
+pub from_start : {T X : Type 0} {why : Reason} {form : Settings → X → Spelling} {of : (X → Type 0) → T → Type 0} {x m y : ReaderState} {r : Result T DecodeErrorKind}
     → m.bits ≡ x.bits → m.options ≡ x.options → Takes why form of m r y → Takes why form of x r y
 from_start {why = why} {form} {of} {x} {m} {y} {r} e f h = subst (λ z. Takes why form of z r y) same h
   where
@@ -80,14 +80,14 @@ errs (Ok v) k h = absurd h
 errs (Err e) k h = ap Err h
 
 -- too few bits, which tests show
-pub of_short : {w : ℕ} {s : Bits} (k : DecodeErrorKind) → IsOfField w s k → IsTested k
+pub of_short : {w : ℕ} {s : Bits} (k : DecodeErrorKind) → IsOfBitField w s k → IsTested k
 of_short {w} {s} k h = subst IsTested (sym h.missing) (let some : 0 < number_of (count_of (w - length s)) = omega (arith, h.short) in some)
 
 -- fields that aren't there
-pub no_field_in : {w : ℕ} {s : Bits} → length s < w → NoneIn (Field w) s
+pub no_field_in : {w : ℕ} {s : Bits} → length s < w → NoneIn (BitField w) s
 no_field_in h n t b = omega (arith, field_wide b)
 
-pub too_short : {w : ℕ} {s : Bits} → NoneIn (Field w) s → length s < w
+pub too_short : {w : ℕ} {s : Bits} → NoneIn (BitField w) s → length s < w
 too_short {w} {s} none = go (cases_lt (length s) w)
   where
     go : (length s < w) ⊎ (w ≤ length s) → length s < w
@@ -99,10 +99,10 @@ too_short {w} {s} none = go (cases_lt (length s) w)
     }))
 
 -- a bit as a field
-pub field_bit : {n : ℕ} {s t : Bits} → Took (Field 1 n) s t → Took (bit (nat_eq n 1)) s t
+pub field_bit : {n : ℕ} {s t : Bits} → Took (BitField 1 n) s t → Took (bit (nat_eq n 1)) s t
 field_bit {n} {s} {t} a = subst (λ z. Took (bit (nat_eq n 1)) z t) (sym (field_one a)) (took_bit (nat_eq n 1) t)
 
-pub no_bit_in : {s : Bits} → NoneIn (Field 1) s → NoneIn bit s
+pub no_bit_in : {s : Bits} → NoneIn (BitField 1) s → NoneIn bit s
 no_bit_in none b t h = none (binary.number_of h.front) t (record { front = h.front; joins = h.joins; spelled = record { wide = ap length h.spelled; means = refl } })
 
 pub ended : {s : Bits} → NoneIn bit s → s ≡ []
@@ -116,7 +116,7 @@ pub begins : {b d : Bool} {s t : Bits} → Took (bit b) s t → b ≡ d → s �
 begins {t = t} h e = h.joins ∙ ap (λ z. z ++ t) h.spelled ∙ ap (λ z. z ∷ t) e
 
 -- where something is answered, no reason is given
-pub some_for : {T X : Type 0} (because why : Reason) (form : Settings → X → Spelling) (of : (X → Type 0) → T → Type 0) (x y : State) (r : Option T)
+pub some_for : {T X : Type 0} (because why : Reason) (form : Settings → X → Spelling) (of : (X → Type 0) → T → Type 0) (x y : ReaderState) (r : Option T)
     → IfSome r (λ v. Takes because form of x (Ok v) y) → IfSome r (λ v. Takes why form of x (Ok v) y)
 some_for because why form of x y None h = tt
 some_for because why form of x y (Some v) h = record { ok = h.ok; err = tt; kept = h.kept }

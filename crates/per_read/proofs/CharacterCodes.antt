@@ -11,10 +11,10 @@ use Rattle.rasn_types.specs.Variants.{Variant}
 use Rattle.rasn_constraints.specs.Bounds.{Size}
 use Rattle.per_core.specs.Basic.{Char, OneByOne, String}
 use Rattle.per_core.specs.Counts.{char_items}
-use Rattle.per_core.specs.Spellings.{Settings, Field, Took, NoneIn}
-use Rattle.per_core.proofs.Agree.{Agree, field_agree}
+use Rattle.per_core.specs.Spellings.{Settings, BitField, Took, NoneIn}
+use Rattle.per_core.proofs.SpellingsAgree.{Agree, field_agree}
 use Rattle.per_core.proofs.LengthForms.{Zip, lengthy_agree}
-use Rattle.per_core.proofs.Took.{took_agree, took_map, took_nothing, took_then}
+use Rattle.per_core.proofs.TakenInTurn.{took_agree, took_map, took_nothing, took_then}
 use Rattle.per_core.specs.Lengths.{counted_items}
 use Rattle.per_core.specs.SizeFaults.{IsOfItems, HasUnknown, IsUnpermitted, IsOfString}
 use Rattle.per_read.specs.Strings.{AreKnown, AreRead}
@@ -85,7 +85,7 @@ module _ (a : Settings) (alphabet : List ℕ) (size : Size) (mark : Bool) where
   pub characters_took : (characters codes : List ℕ) {s t : Bits} → map (char_code a.variant alphabet) characters ≡ map Some codes → Took (counted_items a size mark CharacterItem codes) s t
       → Took (String a alphabet size mark characters) s t
   characters_took characters codes e b =
-      took_map (λ p c h. lengthy_as IsCode (Field (char_width a.variant alphabet)) (Char a alphabet) (λ n c p b i f. record { index = n; is = i; spelled = f }) a size mark
+      took_map (λ p c h. lengthy_as IsCode (BitField (char_width a.variant alphabet)) (Char a alphabet) (λ n c p b i f. record { index = n; is = i; spelled = f }) a size mark
       (char_items (char_width a.variant alphabet)) codes characters p c (zip_turned characters codes (zip_equal (char_code a.variant alphabet) Some characters codes e)) h) b
     where
       zip_turned : (cs ns : List ℕ) → Zip (λ c n. char_code a.variant alphabet c ≡ Some n) cs ns → Zip IsCode ns cs
@@ -102,14 +102,14 @@ module _ (a : Settings) (alphabet : List ℕ) (size : Size) (mark : Bool) where
   code_of : ℕ → ℕ
   code_of c = code_in (char_code a.variant alphabet c)
 
-  as_code : (c n p : ℕ) (b : Bits) → code_of c ≡ n → Char a alphabet c p b → Field (char_width a.variant alphabet) n p b
+  as_code : (c n p : ℕ) (b : Bits) → code_of c ≡ n → Char a alphabet c p b → BitField (char_width a.variant alphabet) n p b
   unfolding code_of code_in
-  as_code c n p b e h = subst (λ z. Field (char_width a.variant alphabet) z p b) (sym (ap code_in h.is) ∙ e) h.spelled
+  as_code c n p b e h = subst (λ z. BitField (char_width a.variant alphabet) z p b) (sym (ap code_in h.is) ∙ e) h.spelled
 
   pub none_of_characters : {s : Bits} → NoneIn (counted_items a size mark CharacterItem) s → NoneIn (String a alphabet size mark) s
   none_of_characters none cs t b =
       none (map code_of cs) t
-      (took_map (λ p c h. lengthy_as (λ (x n : ℕ). code_of x ≡ n) (Char a alphabet) (Field (char_width a.variant alphabet)) as_code a size mark (char_items (char_width a.variant alphabet)) cs
+      (took_map (λ p c h. lengthy_as (λ (x n : ℕ). code_of x ≡ n) (Char a alphabet) (BitField (char_width a.variant alphabet)) as_code a size mark (char_items (char_width a.variant alphabet)) cs
       (map code_of cs) p c (zip_to code_of cs) h) b)
 
   pub string_kind : (s : Bits) (k : DecodeErrorKind) → IsOfItems a size mark CharacterItem s k → IsOfString a alphabet size mark s k
@@ -117,7 +117,7 @@ module _ (a : Settings) (alphabet : List ℕ) (size : Size) (mark : Bool) where
   string_kind s _ h = h
 
   -- a code that no character has leaves no string
-  one_reading : (n c : ℕ) → Agree (IsCode n c) (Field (char_width a.variant alphabet) n) (Char a alphabet c)
+  one_reading : (n c : ℕ) → Agree (IsCode n c) (BitField (char_width a.variant alphabet) n) (Char a alphabet c)
   one_reading n c = record {
     agree = λ p b d s t x y e.
         let r = (field_agree (char_width a.variant alphabet) n y.index).agree p b d s t x y.spelled e in
@@ -129,7 +129,7 @@ module _ (a : Settings) (alphabet : List ℕ) (size : Size) (mark : Bool) where
   unpermitted codes {s} {t} u b = (
     record { codes = codes; rest = t; took = b; unknown = u },
     λ cs v c.
-        let z = (took_agree (lengthy_agree IsCode (Field (char_width a.variant alphabet)) (Char a alphabet) one_reading a size mark (char_items (char_width a.variant alphabet)) codes cs) b c).0 in
+        let z = (took_agree (lengthy_agree IsCode (BitField (char_width a.variant alphabet)) (Char a alphabet) one_reading a size mark (char_items (char_width a.variant alphabet)) codes cs) b c).0 in
         go u.front u.rest cs (subst (λ x. Zip IsCode x cs) u.joins z),
   )
     where
@@ -146,7 +146,7 @@ pub has_all_among : (xs ys cs : List ℕ) → ((c : ℕ) → has xs c ≡ true �
 has_all_among xs ys [] h e = refl
 has_all_among xs ys (c ∷ cs) h e = let p = and_parts (has xs c) (has_all xs cs) e in and_from (has ys c) (has_all ys cs) (h c p.0) (has_all_among xs ys cs h p.1)
 
--- with all of these behind those that were read
+-- with all of these after those that were read
 pub known_all : (a : Alphabet) (flag : Bool) (characters xs cs : List ℕ) → map (char_code a.variant a.characters) cs ≡ map Some cs → AreRead a flag characters xs → AreRead a flag (characters ++ cs) (xs ++ cs)
 known_all a true characters xs cs e h = record {
   front = h.front;
@@ -160,14 +160,14 @@ known_all a false characters xs cs e h =
 
 -- their bits are spelled by them
 pub own_took : (a : Alphabet) (cs : List ℕ) → map (char_code a.variant a.characters) cs ≡ map Some cs →
-    Took (OneByOne (Field (char_width a.variant a.characters)) cs) (low_bits_of (char_width a.variant a.characters) cs) []
+    Took (OneByOne (BitField (char_width a.variant a.characters)) cs) (low_bits_of (char_width a.variant a.characters) cs) []
 own_took a [] e = took_nothing []
 own_took a (c ∷ cs) e =
     let w = char_width a.variant a.characters in
     let first : char_code a.variant a.characters c ≡ Some c = cc in
     let others : map (char_code a.variant a.characters) cs ≡ map Some cs = cc in
     let below : c < 2 ^ w = subst (λ (o : Option ℕ). IfSome o (λ k. k < 2 ^ w)) first (code_fits a.variant a.characters c) in
-    took_then {f = Field w c} {g = OneByOne (Field w) cs} {s = to_bits w c ++ low_bits_of w cs} {m = low_bits_of w cs} {t = []} (record {
+    took_then {f = BitField w c} {g = OneByOne (BitField w) cs} {s = to_bits w c ++ low_bits_of w cs} {m = low_bits_of w cs} {t = []} (record {
       front = to_bits w c;
       joins = refl;
       spelled = record { wide = length-to_bits w c; means = number-to_bits w c ∙ mod-eq_of_lt below };

@@ -4,10 +4,10 @@ use Rattle.rasn_types.specs.Bits.{Bits, number_of}
 use Rattle.rasn_constraints.specs.Bounds.{Size, any_size, allows}
 use Rattle.per_core.specs.Basic.{OneByOne, LastCount, Fragment, InFragments, UnconstrainedLength, PaddingIf, IsConstrainedWhole, length_form, Sized, Counted, bit}
 use Rattle.per_core.specs.Counts.{ItemKind, bit_items, is_aligned}
-use Rattle.per_core.specs.Spellings.{Settings, Spelling, Then, Field, Took, NoneIn}
+use Rattle.per_core.specs.Spellings.{Settings, Spelling, Then, BitField, Took, NoneIn}
 use Rattle.per_core.specs.Writers.{after}
 use Rattle.per_core.proofs.LengthForms.{Zip}
-use Rattle.per_core.proofs.Took.{took_map}
+use Rattle.per_core.proofs.TakenInTurn.{took_map}
 use Rattle.per_read.specs.Items.{bit_code}
 use Rattle.per_core.specs.Lengths.{counted_items}
 use Rattle.per_core.specs.declared.items.Item.TheVariants.{Bit}
@@ -140,7 +140,7 @@ zip_equal h i (x ∷ xs) [] e = absurd (cc)
 zip_equal h i (x ∷ xs) (y ∷ ys) e = let j : h x ≡ i y = cc in let k : map h xs ≡ map i ys = cc in (j, zip_equal h i xs ys k)
 
 -- a bit and its code
-bit_as : (n : ℕ) (b : Bool) (p : ℕ) (c : Bits) → bit_code b ≡ n → Field 1 n p c → bit b p c
+bit_as : (n : ℕ) (b : Bool) (p : ℕ) (c : Bits) → bit_code b ≡ n → BitField 1 n p c → bit b p c
 bit_as n b p [] e h = absurd (omega (arith, h.wide))
 bit_as n b p (x ∷ y ∷ c) e h = absurd (omega (arith, h.wide))
 bit_as n true p (true ∷ []) e h = refl
@@ -148,7 +148,7 @@ bit_as n false p (false ∷ []) e h = refl
 bit_as n true p (false ∷ []) e h = absurd (omega (arith, h.means, e))
 bit_as n false p (true ∷ []) e h = absurd (omega (arith, h.means, e))
 
-as_bit : (b : Bool) (n : ℕ) (p : ℕ) (c : Bits) → bit_code b ≡ n → bit b p c → Field 1 n p c
+as_bit : (b : Bool) (n : ℕ) (p : ℕ) (c : Bits) → bit_code b ≡ n → bit b p c → BitField 1 n p c
 as_bit true n p c e h = record { wide = ap length h; means = ap number_of h ∙ e }
 as_bit false n p c e h = record { wide = ap length h; means = ap number_of h ∙ e }
 
@@ -156,9 +156,9 @@ module _ (a : Settings) (size : Size) (mark : Bool) where
   pub bits_took : (bits : Bits) (codes : List ℕ) {s t : Bits} → map bit_code bits ≡ codes → Took (counted_items a size mark Bit codes) s t → Took (Counted a size mark bit_items bit bits) s t
   bits_took bits codes e b =
       let z : Zip (λ (n : ℕ) (x : Bool). bit_code x ≡ n) codes bits = subst (λ z. Zip (λ (n : ℕ) (x : Bool). bit_code x ≡ n) z bits) e (zip_from bit_code bits) in
-      took_map (λ p c h. lengthy_as (λ (n : ℕ) (x : Bool). bit_code x ≡ n) (Field 1) bit bit_as a size mark bit_items codes bits p c z h) b
+      took_map (λ p c h. lengthy_as (λ (n : ℕ) (x : Bool). bit_code x ≡ n) (BitField 1) bit bit_as a size mark bit_items codes bits p c z h) b
 
   pub none_of_bits : {s : Bits} → NoneIn (counted_items a size mark Bit) s → NoneIn (Counted a size mark bit_items bit) s
   none_of_bits none bits t b =
       none (map bit_code bits) t
-      (took_map (λ p c h. lengthy_as (λ (x : Bool) (n : ℕ). bit_code x ≡ n) bit (Field 1) as_bit a size mark bit_items bits (map bit_code bits) p c (zip_to bit_code bits) h) b)
+      (took_map (λ p c h. lengthy_as (λ (x : Bool) (n : ℕ). bit_code x ≡ n) bit (BitField 1) as_bit a size mark bit_items bits (map bit_code bits) p c (zip_to bit_code bits) h) b)

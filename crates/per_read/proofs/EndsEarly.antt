@@ -6,15 +6,15 @@ use Rattle.rasn_constraints.specs.Bounds.{Bounds, Size, above, any_size, unbound
 use Rattle.rasn_constraints.specs.declared.count.Count.{Count}
 use Rattle.per_core.specs.Basic.{InOctets, IsBitmap, IsNumber, IsNumberOf, Marked, Octets, Sized, UnconstrainedLength, constrained_by, constrained_form, number_spelling}
 use Rattle.per_core.specs.Counts.{ItemKind, bit_items, is_aligned, octet_items, bits_of, counted_of}
-use Rattle.per_core.specs.Spellings.{AnyPadding, Field, Settings, Spelling, Then, Took, place, NoneIn}
-use Rattle.per_core.proofs.Agree.{cancel, fronts}
-use Rattle.per_core.proofs.Took.{took_map}
+use Rattle.per_core.specs.Spellings.{AnyPadding, BitField, Settings, Spelling, Then, Took, bit_offset, NoneIn}
+use Rattle.per_core.proofs.SpellingsAgree.{cancel, fronts}
+use Rattle.per_core.proofs.TakenInTurn.{took_map}
 use Rattle.per_core.specs.declared.items.Item.{Item}
 use Rattle.per_core.specs.AdditionFaults.{IsOfBitmap, IsOfLargeBitmap, IsOfSmallBitmap}
 use Rattle.per_read.specs.Bitmaps.{large_bitmap, small_bitmap}
-use Rattle.per_core.specs.FieldFaults.{IsOfCount, IsOfField, IsOfFragments, IsOfLength, IsOfMarked, IsOfPadded}
-use Rattle.per_core.specs.FieldFaults.{IsOfUnconstrained, Says, count_field, in_items, in_length, past_fragment}
-use Rattle.per_core.specs.FieldFaults.{too_many}
+use Rattle.per_core.specs.BitFieldFaults.{IsOfCount, IsOfBitField, IsOfFragments, IsOfLength, IsOfMarked, IsOfPadded}
+use Rattle.per_core.specs.BitFieldFaults.{IsOfUnconstrained, Says, count_field, in_items, in_length, past_fragment}
+use Rattle.per_core.specs.BitFieldFaults.{too_many}
 use Rattle.per_core.specs.Lengths.{coded, counted_items, CountOf, LengthOf, Between, under_size}
 use Rattle.per_read.specs.Items.{sized_items, unconstrained_items}
 use Rattle.per_core.specs.Lengths as lengths
@@ -32,21 +32,21 @@ use Rattle.per_read.proofs.Coded.{none_of_bits}
 use Rattle.per_read.proofs.Fields.{exactly_took, when_took}
 use Rattle.per_read.proofs.Forms
 use Rattle.per_read.proofs.Fronts.{front_took}
-use Rattle.per_read.proofs.Maps.{no_large_bits, no_small_bits, no_small_field, took_bitmap}
+use Rattle.per_read.proofs.BitmapForms.{no_large_bits, no_small_bits, no_small_field, took_bitmap}
 use Rattle.per_read.proofs.Marked.{in_mark, no_mark, past_mark}
 use Rattle.per_read.proofs.Miscounts.{none_sized}
 use Rattle.per_read.proofs.Naturals.{no_length_no_natural}
 use Rattle.per_read.proofs.OneByOne.{items_exact, items_wide, no_more}
-use Rattle.per_read.proofs.Parts.{Tail, first_part, one_length}
+use Rattle.per_read.proofs.FragmentItems.{Tail, first_part, one_length}
 use Rattle.per_read.proofs.SizeForms.{no_code_from, no_count_between, short_between}
-use Rattle.per_read.proofs.Under.{no_length_no_whole}
+use Rattle.per_read.proofs.NumbersUnderBounds.{no_length_no_whole}
 
 -- any settings
 pub any_settings : Settings
 any_settings = record { variant = unaligned; strict = false }
 
 -- how many bits are missing
-missing_is : {w : ℕ} {s : Bits} {missing : Count} → IsOfField w s (Incomplete missing) → number_of missing ≡ w - length s
+missing_is : {w : ℕ} {s : Bits} {missing : Count} → IsOfBitField w s (Incomplete missing) → number_of missing ≡ w - length s
 missing_is {w} {s} {missing} h =
     let e : missing ≡ count_of (w - length s) = let i : Incomplete missing ≡ Incomplete (count_of (w - length s)) = h.missing in cc in
     ap number_of e ∙ omega arith
@@ -59,15 +59,15 @@ goes_on {f} {s} {t} more whole a = record {
   spelled = subst (λ (p : ℕ). f p a.front) same a.spelled;
 }
   where
-    same : place s ≡ place (s ++ more)
+    same : bit_offset s ≡ bit_offset (s ++ more)
     same = omega (arith, length-append s more, whole)
 
 module _ (a : Settings) (missing : Count) (more : Bits) (whole : length more % 8 ≡ 0) (few : length more < number_of missing) where
   -- a field, and a length
-  field_short : {w : ℕ} {s : Bits} → IsOfField w s (Incomplete missing) → length (s ++ more) < w
+  field_short : {w : ℕ} {s : Bits} → IsOfBitField w s (Incomplete missing) → length (s ++ more) < w
   field_short {w} {s} h = omega (arith, length-append s more, missing_is h, few)
 
-  pub no_field : {w : ℕ} {s : Bits} → IsOfField w s (Incomplete missing) → NoneIn (Field w) (s ++ more)
+  pub no_field : {w : ℕ} {s : Bits} → IsOfBitField w s (Incomplete missing) → NoneIn (BitField w) (s ++ more)
   no_field h = no_field_in (field_short h)
 
   no_count : {s : Bits} → IsOfCount s (Incomplete missing) → NoneIn CountOf (s ++ more)
@@ -80,7 +80,7 @@ module _ (a : Settings) (missing : Count) (more : Bits) (whole : length more % 8
       nothing : (t : Bits) → length (t ++ more) < 1 → t ++ more ≡ []
       nothing t h = no_more (t ++ more) (omega arith)
 
-      go : (front t : Bits) → s ≡ front ++ t → IsOfField (count_field front) t (Incomplete missing) → NoneIn CountOf (s ++ more)
+      go : (front t : Bits) → s ≡ front ++ t → IsOfBitField (count_field front) t (Incomplete missing) → NoneIn CountOf (s ++ more)
       go [] t e h = ended_first (s ++ more) (joined [] t e ∙ nothing t (field_short h))
       go (false ∷ []) t e h = ended_short (s ++ more) (t ++ more) false (joined (false ∷ []) t e) refl (field_short h)
       go (true ∷ []) t e h = ended_second (s ++ more) (t ++ more) true (joined (true ∷ []) t e) refl (nothing t (field_short h))
@@ -98,7 +98,7 @@ module _ (a : Settings) (missing : Count) (more : Bits) (whole : length more % 8
   no_length (inr h) = Counts.no_length (goes_on more whole h.1) (no_count h.2)
 
   -- constrained whole numbers
-  no_padded : {w : ℕ} {s : Bits} → IsOfPadded a w s (Incomplete missing) → NoneIn (λ n. Then (AnyPadding a) (Field w n)) (s ++ more)
+  no_padded : {w : ℕ} {s : Bits} → IsOfPadded a w s (Incomplete missing) → NoneIn (λ n. Then (AnyPadding a) (BitField w n)) (s ++ more)
   no_padded (inl h) = absurd (unpadded h.0)
   no_padded {w} (inr h) = Forms.no_padded w (goes_on more whole h.1) (field_short h.2)
 
@@ -109,8 +109,8 @@ module _ (a : Settings) (missing : Count) (more : Bits) (whole : length more % 8
   pub no_constrained : (n : ℕ) (s : Bits) → IsOfConstrained a n s (Incomplete missing) → NoneIn (constrained_form a n) (s ++ more)
   no_constrained n s h = go a.variant h
     where
-      by : (b c d : Bool) → cond b (IsOfField (width n)) (cond c (IsOfPadded a 8) (cond d (IsOfPadded a 16) (IsOfCounted a n))) s (Incomplete missing)
-          → NoneIn (λ o. cond b (Field (width n) o) (cond c (Then (AnyPadding a) (Field 8 o)) (cond d (Then (AnyPadding a) (Field 16 o)) (InOctets a n o)))) (s ++ more)
+      by : (b c d : Bool) → cond b (IsOfBitField (width n)) (cond c (IsOfPadded a 8) (cond d (IsOfPadded a 16) (IsOfCounted a n))) s (Incomplete missing)
+          → NoneIn (λ o. cond b (BitField (width n) o) (cond c (Then (AnyPadding a) (BitField 8 o)) (cond d (Then (AnyPadding a) (BitField 16 o)) (InOctets a n o)))) (s ++ more)
       by true c d x = no_field x
       by false true d x = no_padded x
       by false false true x = no_padded x
@@ -121,26 +121,26 @@ module _ (a : Settings) (missing : Count) (more : Bits) (whole : length more % 8
       go aligned x = by (leb n 255) (eqb n 256) (leb n 65536) x
 
   -- items in fragments
-  no_fragments : {w n : ℕ} {s : Bits} → IsOfFragments a w (Incomplete missing) n s → NoneIn (UnconstrainedLength a (Field w)) (s ++ more)
+  no_fragments : {w n : ℕ} {s : Bits} → IsOfFragments a w (Incomplete missing) n s → NoneIn (UnconstrainedLength a (BitField w)) (s ++ more)
   no_fragments {w} {s = s} (in_length h) xs t b =
-      let p = first_part (Field w) a xs (s ++ more) t b in no_length h p.head p.behind p.is_length
+      let p = first_part (BitField w) a xs (s ++ more) t b in no_length h p.head p.behind p.is_length
   no_fragments {w} {s = s} (in_items {m = m} l took h) xs t b =
-      let p = first_part (Field w) a xs (s ++ more) t b in
+      let p = first_part (BitField w) a xs (s ++ more) t b in
       let x = one_length a p.head l (s ++ more) p.behind (m ++ more) p.is_length (goes_on more whole took) in
       let many : w * length p.these ≡ w * lengths.count_of l = ap (λ (n : ℕ). w * n) (p.many ∙ ap lengths.count_of x.0) in
       omega (arith, items_wide w p.these p.are_these, many, ap length x.1, field_short h)
   no_fragments (too_many l took g e) xs t b = absurd (let i : Incomplete missing ≡ ExceedsMaxLength = e in cc)
   no_fragments {w} {s = s} (past_fragment {j = j} {m = m} {r = r} items took e wide h) xs t b =
-      let p = first_part (Field w) a xs (s ++ more) t b in
+      let p = first_part (BitField w) a xs (s ++ more) t b in
       let x = one_length a p.head (Fragment j) (s ++ more) p.behind (m ++ more) p.is_length (goes_on more whole took) in
       let many : w * length p.these ≡ w * j = ap (λ (n : ℕ). w * n) (p.many ∙ ap lengths.count_of x.0) in
       let c = p.are_these in
       let same : c.front ++ p.rest ≡ items ++ (r ++ more) = sym c.joins ∙ x.1 ∙ ap (λ z. z ++ more) e ∙ append_assoc items r more in
       let i : c.front ≡ items = fronts c.front items p.rest (r ++ more) (items_exact w p.these c ∙ many ∙ sym wide) same in
       let rest : p.rest ≡ r ++ more = cancel items p.rest (r ++ more) (ap (λ z. z ++ p.rest) (sym i) ∙ same) in
-      no_fragments h p.others t (subst (λ z. Took (UnconstrainedLength a (Field w) p.others) z t) rest (subst (λ z. Tail (Field w) a z p.others p.rest t) x.0 p.tail))
+      no_fragments h p.others t (subst (λ z. Took (UnconstrainedLength a (BitField w) p.others) z t) rest (subst (λ z. Tail (BitField w) a z p.others p.rest t) x.0 p.tail))
 
-  pub no_unconstrained : (w : ℕ) (kind : ItemKind) {s : Bits} → IsOfUnconstrained a w s (Incomplete missing) → NoneIn (Sized a any_size kind (Field w)) (s ++ more)
+  pub no_unconstrained : (w : ℕ) (kind : ItemKind) {s : Bits} → IsOfUnconstrained a w s (Incomplete missing) → NoneIn (Sized a any_size kind (BitField w)) (s ++ more)
   no_unconstrained w kind h xs t b = no_fragments h xs t (took_map (λ p c x. x.spelled) b)
 
   pub no_octets : {s : Bits} → IsOfUnconstrained a 8 s (Incomplete missing) → NoneIn (Octets a) (s ++ more)
@@ -167,7 +167,7 @@ module _ (a : Settings) (missing : Count) (more : Bits) (whole : length more % 8
       go true x = no_between lb ub i s x
       go false x = no_unconstrained (bits_of i) (counted_of i) x
 
-  -- behind an extension bit
+  -- after an extension bit
   no_marked : {X : Type 0} (mark : Bool) (f g : X → Spelling) (inside outside : Says) (s : Bits) → ((t : Bits) → inside t (Incomplete missing) → NoneIn f (t ++ more))
       → ((t : Bits) → outside t (Incomplete missing) → NoneIn g (t ++ more)) → IsOfMarked mark inside outside s (Incomplete missing) → NoneIn (Marked mark f g) (s ++ more)
   no_marked false f g inside outside s k l h = k s h

@@ -3,11 +3,11 @@ use Rattle.std.proofs.Common.{◌≡◌, ◌<◌, refl, sym, ap, ◌∙◌, ℕ,
 use Rattle.std.proofs.lemmas.List.{take-append-drop, take-append-le}
 use Rattle.rasn_types.specs.Bits.{Bits, number_of, pack}
 use Rattle.per_core.specs.Basic.{OneByOne, bit, octet}
-use Rattle.per_core.specs.Spellings.{Spelling, Took, place, NoneIn}
+use Rattle.per_core.specs.Spellings.{Spelling, Took, bit_offset, NoneIn}
 use Rattle.per_core.specs.Writers.{after}
 use Rattle.per_read.specs.Takes.{Front}
 use Rattle.per_read.proofs.Fronts.{front_took}
-use Rattle.per_read.specs.Stands.{LastTaken}
+use Rattle.per_read.specs.TakenPositions.{LastTaken}
 
 -- one that isn't there
 pub no_front_in : {n : ℕ} {s : Bits} → length s < n → NoneIn (Front n) s
@@ -29,7 +29,7 @@ octets_in_row (suc n) bits l p = record {
 }
 
 pub octets_took : (n : ℕ) (bits : Bits) {s t : Bits} → Took (Front (8 * n) bits) s t → Took (OneByOne octet (pack n bits)) s t
-octets_took n bits {s} {t} a = let r = front_took a in record { front = bits; joins = r.1; spelled = octets_in_row n bits r.0 (place s) }
+octets_took n bits {s} {t} a = let r = front_took a in record { front = bits; joins = r.1; spelled = octets_in_row n bits r.0 (bit_offset s) }
 
 -- bits, one after another
 bits_in_row : (bits : Bits) (p : ℕ) → OneByOne bit bits p bits
@@ -37,12 +37,12 @@ bits_in_row [] p = refl
 bits_in_row (b ∷ bits) p = record { front = b ∷ []; rest = bits; is_front = refl; is_rest = bits_in_row bits (after p (b ∷ [])); joins = refl }
 
 pub bits_took : (n : ℕ) (bits : Bits) {s t : Bits} → Took (Front n bits) s t → Took (OneByOne bit bits) s t
-bits_took n bits {s} {t} a = let r = front_took a in record { front = bits; joins = r.1; spelled = bits_in_row bits (place s) }
+bits_took n bits {s} {t} a = let r = front_took a in record { front = bits; joins = r.1; spelled = bits_in_row bits (bit_offset s) }
 
--- a front behind something else is what was taken last
+-- a front after something else is what was taken last
 pub last_front : {f : Spelling} {n : ℕ} {bits s m t : Bits} → Took f s m → Took (Front n bits) m t → LastTaken n bits s t
 last_front a b = let r = front_took b in record { before = a.front; joins = a.joins ∙ ap (λ z. a.front ++ z) r.1; wide = r.0 }
 
--- and behind one more bit
-pub last_behind : {n : ℕ} {bits s m t : Bits} (b : Bool) → s ≡ b ∷ m → LastTaken n bits m t → LastTaken n bits s t
-last_behind b e h = record { before = b ∷ h.before; joins = e ∙ ap (λ z. b ∷ z) h.joins; wide = h.wide }
+-- and after one more bit
+pub last_after : {n : ℕ} {bits s m t : Bits} (b : Bool) → s ≡ b ∷ m → LastTaken n bits m t → LastTaken n bits s t
+last_after b e h = record { before = b ∷ h.before; joins = e ∙ ap (λ z. b ∷ z) h.joins; wide = h.wide }

@@ -7,14 +7,14 @@ use Rattle.rasn_types.specs.Bits.{Bits, unsigned}
 use Rattle.per_core.specs.Basic.{IsSemiConstrainedWhole, Octets}
 use Rattle.per_core.specs.Spellings.{Settings, Took}
 use Rattle.per_read.specs.Items.{Adds}
-use Rattle.per_core.specs.FieldFaults.{IsOfField}
-use Rattle.per_read.specs.State.{State}
+use Rattle.per_core.specs.BitFieldFaults.{IsOfBitField}
+use Rattle.per_read.specs.ReaderState.{ReaderState}
 use Rattle.per_core.specs.declared.decode_error.DecodeErrorKind.{DecodeErrorKind}
 use Rattle.per_read.specs.SmallNumbers.{AppendsOctets, Means, MeansSince, OfIndex}
 use Rattle.per_read.proofs.Naturals.{octets_natural, unsigned_more}
 
 module _ (n r : Option ℕ) (o : ℕ) (small : o < 256) where
-  -- behind a number that is past 64 bits
+  -- after a number that is past 64 bits
   pub adds_past : n ≡ None → r ≡ None → Adds MeansSince n (o ∷ []) r
   adds_past e f = record {
     behind = λ start xs m. rw f (
@@ -24,7 +24,7 @@ module _ (n r : Option ℕ) (o : ℕ) (small : o < 256) where
         l);
   }
 
-  -- behind one that is so with any octet
+  -- after one that is so with any octet
   pub adds_beyond : (m : ℕ) → n ≡ Some m → r ≡ None → 2 ^ 64 ≤ m * 256 → Adds MeansSince n (o ∷ []) r
   adds_beyond m e f g = record {
     behind = λ start xs h. rw f (
@@ -58,7 +58,7 @@ of_index P Q (Some n) f h = f n h
 of_index P Q None f h = (h.0, h.1, f h.0 h.2)
 
 -- a call that appends nothing
-pub none_appended : {n : ℕ} {before after : Option ℕ} {x y : State} (r : Result (Unit {0}) DecodeErrorKind) (k : DecodeErrorKind) → IsErrAnd r (λ e. e ≡ k) → y.options ≡ x.options →
-    IsOfField (8 * n) x.bits k × (length x.bits < 8 * n) → AppendsOctets n before x r after y
+pub none_appended : {n : ℕ} {before after : Option ℕ} {x y : ReaderState} (r : Result (Unit {0}) DecodeErrorKind) (k : DecodeErrorKind) → IsErrAnd r (λ e. e ≡ k) → y.options ≡ x.options →
+    IsOfBitField (8 * n) x.bits k × (length x.bits < 8 * n) → AppendsOctets n before x r after y
 none_appended (Ok v) k h e i = absurd h
-none_appended {n} {x = x} (Err f) k h e i = record { ok = tt; err = subst (λ z. IsOfField (8 * n) x.bits z × (length x.bits < 8 * n)) (sym h) i; kept = e }
+none_appended {n} {x = x} (Err f) k h e i = record { ok = tt; err = subst (λ z. IsOfBitField (8 * n) x.bits z × (length x.bits < 8 * n)) (sym h) i; kept = e }

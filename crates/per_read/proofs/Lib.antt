@@ -9,11 +9,11 @@ pub mod OfFields
 pub mod OfLists
 pub mod OctetsInWords
 pub mod OneByOne
-pub mod Parts
+pub mod FragmentItems
 pub mod ReadAsField
 pub mod OpenLists
 pub mod Openings
-pub mod Under
+pub mod NumbersUnderBounds
 pub mod Refusals
 pub mod Unbounded
 pub mod Marked
@@ -29,11 +29,11 @@ pub mod Fronts
 pub mod InPlace
 pub mod SmallForms
 pub mod Additions
-pub mod Filled
+pub mod CompleteEncodings
 pub mod Opened
 pub mod Records
 pub mod FrontItems
 pub mod Pieces
-pub mod Maps
+pub mod BitmapForms
 pub mod Skipped
 pub mod Turns

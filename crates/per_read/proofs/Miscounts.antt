@@ -6,7 +6,7 @@ use Rattle.per_core.specs.Spellings.{Settings, never, NoneIn}
 use Rattle.per_core.specs.Counts.{bits_of, counted_of}
 use Rattle.per_read.specs.Items.{TookItems, unconstrained_items, sized_items}
 use Rattle.per_core.specs.Lengths.{coded, counted_items}
-use Rattle.per_core.specs.FieldFaults.{IsOfField, IsOfUnconstrained}
+use Rattle.per_core.specs.BitFieldFaults.{IsOfBitField, IsOfUnconstrained}
 use Rattle.per_read.specs.Kinds.{Faulty}
 use Rattle.per_core.specs.SizeFaults.{IsOfItems, IsOfUnder}
 use Rattle.per_read.specs.Sizes.{items_under}
@@ -47,7 +47,7 @@ module _ (a : Settings) (i : Item) where
         → Faulty (IsOfItems a size false i s) (NoneIn (sized_items a size i) s) k
     none_faulty {s} k = faulty_map k (of_items a size false i s k) none_sized
 
-    -- behind an extension bit
+    -- after an extension bit
     module _ {s m : Bits} where
       pub in_size : {C : Type 0} {holds : C → C → List ℕ → Type 0} {n : ℕ} {before after : C} {t : Bits} → s ≡ false ∷ m → TookItems holds (sized_items a size i) n before after m t
           → TookItems holds (counted_items a size true i) n before after s t
@@ -82,5 +82,5 @@ module _ (a : Settings) (i : Item) where
       faulty_past k e =
           faulty_map k (λ h. of_items a size true i s k (past_marked (IsOfUnder a size.least size.most i) (IsOfUnconstrained a (bits_of i)) k e h)) (λ none xs t b. none xs t (past_mark (sized_items a size i) (sized_items a any_size i) e xs t b))
 
-    pub no_bit : {s : Bits} (k : DecodeErrorKind) → IsOfField 1 s k × (s ≡ []) → Faulty (IsOfItems a size true i s) (NoneIn (counted_items a size true i) s) k
+    pub no_bit : {s : Bits} (k : DecodeErrorKind) → IsOfBitField 1 s k × (s ≡ []) → Faulty (IsOfItems a size true i s) (NoneIn (counted_items a size true i) s) k
     no_bit {s} k h = inr (of_items a size true i s k (inl h.0), no_mark (sized_items a size i) (sized_items a any_size i) h.1)

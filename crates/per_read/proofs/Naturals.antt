@@ -9,7 +9,7 @@ use Rattle.rasn_types.proofs.Reading.{number_of-append}
 use Rattle.per_core.specs.Spellings.{Settings, Took}
 use Rattle.per_core.specs.Basic.{Octets, IsSemiConstrainedWhole}
 use Rattle.per_core.proofs.LengthForms.{same_octets}
-use Rattle.per_core.proofs.Took.{took_agree, took_map}
+use Rattle.per_core.proofs.TakenInTurn.{took_agree, took_map}
 use Rattle.per_read.specs.Numbers.{OfNatural}
 
 -- one octet more

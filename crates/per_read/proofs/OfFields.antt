@@ -7,11 +7,11 @@ use Rattle.rasn_constraints.specs.Bounds.{Size}
 use Rattle.per_core.specs.Counts.{is_aligned, bits_of, counted_of}
 use Rattle.per_core.specs.Spellings.{Settings, exactly, Took}
 use Rattle.per_core.proofs.ConstrainedLengths.{IsConstrained, IsFree}
-use Rattle.per_core.proofs.Took.{took_bit}
+use Rattle.per_core.proofs.TakenInTurn.{took_bit}
 use Rattle.per_core.specs.declared.items.Item.{Item}
-use Rattle.per_core.specs.FieldFaults.{IsOfCount, IsOfField, IsOfFragments, IsOfLength, IsOfMarked, IsOfPadded}
-use Rattle.per_core.specs.FieldFaults.{IsOfPadding, IsOfUnconstrained, Says, in_items, in_length, past_fragment}
-use Rattle.per_core.specs.FieldFaults.{too_many}
+use Rattle.per_core.specs.BitFieldFaults.{IsOfCount, IsOfBitField, IsOfFragments, IsOfLength, IsOfMarked, IsOfPadded}
+use Rattle.per_core.specs.BitFieldFaults.{IsOfPadding, IsOfUnconstrained, Says, in_items, in_length, past_fragment}
+use Rattle.per_core.specs.BitFieldFaults.{too_many}
 use Rattle.per_read.specs.Kinds.{IsTested}
 use Rattle.per_core.specs.NumberFaults.{IsOfConstrained, IsOfConstrainedBy, IsOfCounted, IsOfOctets}
 use Rattle.per_core.specs.SizeFaults.{IsOfBetween, IsOfItems, IsOfPaddingIf, IsOfUnder}
@@ -21,7 +21,7 @@ use Rattle.per_core.specs.declared.decode_error.DecodeErrorKind.TheVariants.{Une
 use Rattle.per_read.proofs.Calls.{of_short}
 use Rattle.per_read.proofs.Forms.{differs}
 
--- of padding, lengths and fields behind padding
+-- of padding, lengths and fields after padding
 pub padding_tested : {a : Settings} {s : Bits} (k : DecodeErrorKind) → IsOfPadding a s k → IsTested k
 padding_tested k h = subst IsTested (sym h.0) tt
 
@@ -45,7 +45,7 @@ counted_tested a n k (inr h) = padded_tested k h.1.2
 pub constrained_tested : (a : Settings) (n : ℕ) (s : Bits) (k : DecodeErrorKind) → IsOfConstrained a n s k → IsTested k
 constrained_tested a n s k h = go a.variant h
   where
-    by : (b c d : Bool) → cond b (IsOfField (width n)) (cond c (IsOfPadded a 8) (cond d (IsOfPadded a 16) (IsOfCounted a n))) s k → IsTested k
+    by : (b c d : Bool) → cond b (IsOfBitField (width n)) (cond c (IsOfPadded a 8) (cond d (IsOfPadded a 16) (IsOfCounted a n))) s k → IsTested k
     by true c d x = of_short k x
     by false true d x = padded_tested k x
     by false false true x = padded_tested k x
@@ -65,7 +65,7 @@ fragments_tested k (past_fragment items b e l h) = fragments_tested k h
 pub unconstrained_tested : {a : Settings} {w : ℕ} {s : Bits} (k : DecodeErrorKind) → IsOfUnconstrained a w s k → IsTested k
 unconstrained_tested k h = fragments_tested k h
 
--- behind an extension bit
+-- after an extension bit
 module _ (inside outside : Says) where
   pub marked_tested : (mark : Bool) (s : Bits) (k : DecodeErrorKind) → ((t : Bits) → inside t k → IsTested k) → ((t : Bits) → outside t k → IsTested k)
       → IsOfMarked mark inside outside s k → IsTested k
@@ -127,7 +127,7 @@ module _ (a : Settings) (i : Item) where
 
 -- of constrained whole numbers in the ALIGNED variant
 module _ (a : Settings) (n : ℕ) where
-  pub of_few : n ≤ 255 → IsOfConstrainedBy aligned a n ≡ IsOfField (width n)
+  pub of_few : n ≤ 255 → IsOfConstrainedBy aligned a n ≡ IsOfBitField (width n)
   of_few h = rw (le-leb n 255 h) refl
 
   pub of_one_octet : n ≡ 256 → IsOfConstrainedBy aligned a n ≡ IsOfPadded a 8
@@ -143,8 +143,8 @@ module _ (a : Settings) (n : ℕ) where
 pub as_many : (a : Settings) (s : Bits) (k : DecodeErrorKind) {d e : ℕ} → d ≡ e → IsOfConstrained a (d + 1) s k → IsOfConstrained a (e + 1) s k
 as_many a s k e h = subst (λ (m : ℕ). IsOfConstrained a (m + 1) s k) e h
 
-pub as_lacking : {v w : ℕ} {s : Bits} {k : DecodeErrorKind} → v ≡ w → IsOfField v s k → IsOfField w s k
-as_lacking {s = s} {k} e h = subst (λ (m : ℕ). IsOfField m s k) e h
+pub as_lacking : {v w : ℕ} {s : Bits} {k : DecodeErrorKind} → v ≡ w → IsOfBitField v s k → IsOfBitField w s k
+as_lacking {s = s} {k} e h = subst (λ (m : ℕ). IsOfBitField m s k) e h
 
 -- numbers and octets
 pub of_octets : (a : Settings) (s : Bits) (k : DecodeErrorKind) → IsOfUnconstrained a 8 s k → IsOfOctets a s k

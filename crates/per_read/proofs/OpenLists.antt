@@ -9,11 +9,11 @@ use Rattle.per_core.specs.Basic
 use Rattle.per_core.specs.Basic.{OneByOne, UnconstrainedLength}
 use Rattle.per_core.specs.Counts.{list_items}
 use Rattle.per_core.specs.Spellings.{Settings, Spelling, Took, NoneIn}
-use Rattle.per_core.proofs.Agree.{Agree}
-use Rattle.per_core.proofs.Took.{took_then, then_took, took_map, took_agree, took_nothing, nothing_took}
+use Rattle.per_core.proofs.SpellingsAgree.{Agree}
+use Rattle.per_core.proofs.TakenInTurn.{took_then, then_took, took_map, took_agree, took_nothing, nothing_took}
 use Rattle.per_core.specs.Lengths.{LengthOf, count_of, is_followed, InWhole, LengthUpTo, UpTo, UpToFragment}
 use Rattle.per_core.specs.Lengths.{UpToUnconstrained, WholeFragments}
-use Rattle.per_core.specs.FieldFaults.{IsOfLength}
+use Rattle.per_core.specs.BitFieldFaults.{IsOfLength}
 use Rattle.per_core.specs.SizeFaults.{AreUncounted, IsOfList, Miscounted}
 use Rattle.per_read.specs.Lists.{AreOpenItems, AwaitsItem, IsLeft, ListRule, RefusesList, Rest, RestUpTo, RestUpToLength, list_form}
 use Rattle.per_core.specs.declared.decode_error.DecodeErrorKind.{DecodeErrorKind}
@@ -23,7 +23,7 @@ use Rattle.per_core.specs.declared.lengths.Length.TheVariants.{Last, Fragment}
 use Rattle.per_read.specs.declared.lists.UnreadElements.{UnreadElements}
 use Rattle.per_read.proofs.OfFields.{length_tested}
 use Rattle.per_read.proofs.OfLists.{of_list}
-use Rattle.per_read.proofs.Parts.{Tail, first_part, last_part, more_parts, one_length}
+use Rattle.per_read.proofs.FragmentItems.{Tail, first_part, last_part, more_parts, one_length}
 use Rattle.per_read.proofs.SizeForms.{countable}
 
 module _ {X : Type 0} (item : X → Spelling) where
@@ -54,7 +54,7 @@ module _ {X : Type 0} (item : X → Spelling) where
   nothing_more a (x ∷ xs) b = absurd b.spelled
 
   module _ (a : Settings) (more : Bool) where
-    -- what is still to be read of a list, as the items behind its lengths and what is behind these
+    -- what is still to be read of a list, as the items after its lengths and what is after these
     pub rest_split : (n : ℕ) (xs : List X) {s t : Bits} → Took (Rest a item more n xs) s t → Split (Rest a item more zero) n xs s t
     rest_split zero xs {s} b = record { these = []; others = xs; middle = s; all = refl; many = refl; are_these = took_nothing s; behind = b }
     rest_split (suc n) [] b = absurd b.spelled
@@ -66,7 +66,7 @@ module _ {X : Type 0} (item : X → Spelling) where
     split_rest (suc n) [] others l b c = absurd (omega arith)
     split_rest (suc n) (x ∷ xs) others l b c = let q = then_took b in took_then q.1 (split_rest n xs others (omega arith) q.2 c)
 
-    -- up to a further item: one behind its lengths, or one behind these
+    -- up to a further item: one after its lengths, or one after these
     abbrev pub UpToSplit : ℕ → List X → Bits → Bits → Type 0
     UpToSplit n xs s t = ((length xs < n) × Took (OneByOne item xs) s t) ⊎ Split (RestUpTo a item more zero) n xs s t
 
@@ -79,7 +79,7 @@ module _ {X : Type 0} (item : X → Spelling) where
         go c (inl d) = inl (omega (arith, d.0), took_then c d.1)
         go c (inr d) = inr (split_more c d)
 
-    -- up to a further length, these and what is behind them
+    -- up to a further length, these and what is after them
     pub length_split : (n : ℕ) (xs : List X) {s t : Bits} → Took (RestUpToLength a item more n xs) s t → Split (RestUpToLength a item more zero) n xs s t
     length_split zero xs {s} b = record { these = []; others = xs; middle = s; all = refl; many = refl; are_these = took_nothing s; behind = b }
     length_split (suc n) [] b = absurd b.spelled
@@ -102,7 +102,7 @@ pub empty_length : {a : Settings} (l : Length) {s t : Bits} → Took (LengthOf a
 empty_length (Last n) b e = refl
 empty_length (Fragment n) b e = let q = then_took b in absurd (omega (arith, e, q.2.spelled.some, q.2.spelled.is))
 
--- behind a length, what is still to be read is what an unconstrained length and its items are
+-- after a length, what is still to be read is what an unconstrained length and its items are
 module _ {X : Type 0} {a : Settings} {item : X → Spelling} {s m : Bits} where
   pub on_length : (l : Length) → Took (LengthOf a l) s m → (xs : List X) (t : Bits) → Took (Rest a item (is_followed l) (count_of l) xs) m t → Took (UnconstrainedLength a item xs) s t
   on_length (Last n) b xs t c = let d = of_counted item a xs c in last_part item b d.0 d.1
@@ -254,7 +254,7 @@ module _ {X : Type 0} (f : ListRule X) {start : Bits} {before : List X} where
       let s = rest_split f.item f.settings l.more l.left i.others i.took in
       omega (arith, few, many, some, h.count, ap length i.all, length-append before i.others, ap length s.all, length-append s.these s.others, s.many)
 
-  -- behind the last item
+  -- after the last item
   module _ {l : UnreadElements} {here : Bits} (none : l.left ≡ 0) (last : l.more ≡ false) (h : AreOpenItems f start before l here) where
     ended : Took (Rest f.settings f.item l.more l.left []) here here
     ended = subst (λ z. Took (Rest f.settings f.item z l.left []) here here) (sym last) (subst (λ z. Took (Rest f.settings f.item false z []) here here) (sym none) (took_nothing here))

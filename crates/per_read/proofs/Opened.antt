@@ -4,11 +4,11 @@ use Rattle.rasn_types.specs.Bits.{Bits, AreOctets, unpack}
 use Rattle.rasn_types.proofs.Bits.{number_below}
 use Rattle.per_core.specs.Basic.{Fills, InFragments, Octets, OneByOne, Open, octet}
 use Rattle.per_core.specs.Spellings.{Settings, Spelling, Took, NoneIn}
-use Rattle.per_core.proofs.Agree.{Agree}
+use Rattle.per_core.proofs.SpellingsAgree.{Agree}
 use Rattle.per_core.proofs.LengthForms.{same_octets}
-use Rattle.per_core.proofs.Took.{took_agree, took_map}
+use Rattle.per_core.proofs.TakenInTurn.{took_agree, took_map}
 use Rattle.per_read.specs.Ends.{EndsAs}
-use Rattle.per_read.proofs.Filled.{fills_took, took_fills}
+use Rattle.per_read.proofs.CompleteEncodings.{fills_took, took_fills}
 
 -- octets that are read are below 256
 both_octets : (os qs : List ℕ) → AreOctets os → AreOctets qs → AreOctets (os ++ qs)

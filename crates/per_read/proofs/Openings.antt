@@ -1,4 +1,4 @@
--- How lists are opened: what stands in front of their first item (X.691 20).
+-- How lists are opened: what is in front of their first item (X.691 20).
 use Rattle.std.proofs.Common.{◌≡◌, inl, inr, ℕ, ◌^◌, ◌&&◌, ltb, Bool, true, false, List, [], ◌∷◌, ◌++◌, length, Option, Some, None, refl, sym, ◌∙◌, ap, subst, append_assoc}
 use Rattle.std.proofs.lemmas.Bool.{lt-ltb, le-ltb}
 use Rattle.std.proofs.lemmas.Result.{IfOk-weaker, IfErr-weaker}
@@ -11,12 +11,12 @@ use Rattle.rasn_schema.specs.Schemas.{Schema}
 use Rattle.per_core.specs.Basic.{OneByOne, PaddingIf, Sized, UnconstrainedLength}
 use Rattle.per_core.specs.Counts.{list_items}
 use Rattle.per_core.specs.Spellings.{Settings, Spelling, never, Took, NoneIn}
-use Rattle.per_core.proofs.Took.{took_then, then_took, took_map, took_agree, took_nothing, nothing_took}
+use Rattle.per_core.proofs.TakenInTurn.{took_then, then_took, took_map, took_agree, took_nothing, nothing_took}
 use Rattle.per_core.specs.SizeFaults.{IsOfOpening}
 use Rattle.per_read.specs.Lists.{AreOpenItems, Leaves, ListRule, OpensList, Rest, RestUpTo, list_form, list_rule}
 use Rattle.per_core.specs.Lengths.{Between, CountFrom, under_size, LengthUpToSized, UpToBetween, UpToSized}
 use Rattle.per_core.specs.Lengths.{UpToUnconstrained, WholeFragments}
-use Rattle.per_read.specs.State.{State, settings_of}
+use Rattle.per_read.specs.ReaderState.{ReaderState, settings_of}
 use Rattle.per_core.specs.declared.decode_error.DecodeErrorKind.{DecodeErrorKind}
 use Rattle.per_read.specs.declared.lists.UnreadElements.{UnreadElements}
 use Rattle.per_read.proofs.Marked.{mark_in, mark_past, in_mark, past_mark, no_mark}
@@ -81,7 +81,7 @@ module _ {X : Type 0} (a : Settings) (item : X → Spelling) where
         as_under : (xs : List X) (t : Bits) → ltb (length xs) (2 ^ 64) ≡ true → Took (UnconstrainedLength a item xs) s t → Took (under xs) s t
         as_under xs t few c = subst (λ z. Took z s t) (sym (is xs)) (took_map (λ p b y. record { allowed = few; spelled = y }) c)
 
-    -- behind a constrained count, so many items are still to be read
+    -- after a constrained count, so many items are still to be read
     module _ {lb ub : ℕ} (bounds : IsConstrained (start_of size) (end_of size) lb ub) where
       is_between : (xs : List X) → under xs ≡ Between a lb ub list_items item xs
       is_between xs = under_constrained a list_items item xs bounds
@@ -118,7 +118,7 @@ module _ {X : Type 0} (a : Settings) (item : X → Spelling) where
       pub none_counted : {s : Bits} → NoneIn (CountFrom a lb ub) s → NoneIn (list_form (rule (size_between size) false)) s
       none_counted {s} none xs t c = no_count_between a lb ub list_items item none xs t (subst (λ z. Took z s t) (is_between xs) (of_sized a list_items item xs (size_between size) c))
 
-  -- behind an extension bit
+  -- after an extension bit
   abbrev outside : List X → Spelling
   outside = Sized a any_size list_items item
 
@@ -169,19 +169,19 @@ module _ {X : Type 0} (a : Settings) (item : X → Spelling) where
 pub leaves_all : (s : Bits) → Leaves s s
 leaves_all s = record { front = []; joins = refl }
 
-pub leaves_behind : {T E : Type 0} {s m : Bits} (t : Bits) (r : Result T E) → Leaves s m → OnOk r (Leaves m t) → OnOk r (Leaves s t)
-leaves_behind t (Ok v) a b = record { front = a.front ++ b.front; joins = a.joins ∙ ap (λ z. a.front ++ z) b.joins ∙ sym (append_assoc a.front b.front t) }
-leaves_behind t (Err e) a b = tt
+pub leaves_after : {T E : Type 0} {s m : Bits} (t : Bits) (r : Result T E) → Leaves s m → OnOk r (Leaves m t) → OnOk r (Leaves s t)
+leaves_after t (Ok v) a b = record { front = a.front ++ b.front; joins = a.joins ∙ ap (λ z. a.front ++ z) b.joins ∙ sym (append_assoc a.front b.front t) }
+leaves_after t (Err e) a b = tt
 
--- what a call opens behind others that took the bit
-pub opens_behind : {size other : Size} {mark marked : Bool} {x m y : State} {r : Result UnreadElements DecodeErrorKind} → OpensList other marked m r y → m.options ≡ x.options → Leaves x.bits m.bits
+-- what a call opens after others that took the bit
+pub opens_after : {size other : Size} {mark marked : Bool} {x m y : ReaderState} {r : Result UnreadElements DecodeErrorKind} → OpensList other marked m r y → m.options ≡ x.options → Leaves x.bits m.bits
     → ((l : UnreadElements) (e : Schema) → AreOpenItems (list_rule (settings_of x) other marked e) m.bits [] l y.bits → AreOpenItems (list_rule (settings_of x) size mark e) x.bits [] l y.bits)
     → ((k : DecodeErrorKind) → IsOfOpening (settings_of x) other marked m.bits k → IsOfOpening (settings_of x) size mark x.bits k)
     → ((e : Schema) → NoneIn (list_form (list_rule (settings_of x) other marked e)) m.bits → NoneIn (list_form (list_rule (settings_of x) size mark e)) x.bits)
     → OpensList size mark x r y
-opens_behind {y = y} {r = r} h same leaves f i g = record {
+opens_after {y = y} {r = r} h same leaves f i g = record {
   ok = IfOk-weaker r _ _ (λ l amid e. f l e (rw (sym same) (amid e))) h.ok;
   err = IfErr-weaker r _ _ (λ k none. (i k (rw (sym same) none.0), λ e. g e (rw (sym same) (none.1 e)))) h.err;
-  leaves = leaves_behind y.bits r leaves h.leaves;
+  leaves = leaves_after y.bits r leaves h.leaves;
   kept = h.kept ∙ same;
 }

@@ -5,28 +5,28 @@ use Rattle.rasn_types.specs.Variants.{variant_of}
 use Rattle.rasn_types.specs.declared.types.Codec.{Codec}
 use Rattle.rasn_types.specs.declared.types.Codec.TheVariants.{Aper, Uper}
 use Rattle.rasn_types.proofs.Packing.{number-zeros}
-use Rattle.per_core.specs.Spellings.{AnyPadding, Settings, Spelling, Then, ZeroIf, place, Took, NoneIn}
+use Rattle.per_core.specs.Spellings.{AnyPadding, Settings, Spelling, Then, ZeroIf, bit_offset, Took, NoneIn}
 use Rattle.per_core.specs.Writers.{pad}
-use Rattle.per_core.proofs.Agree.{fronts}
-use Rattle.per_core.proofs.Took.{then_took}
-use Rattle.per_core.proofs.Within.{zero_if}
+use Rattle.per_core.proofs.SpellingsAgree.{fronts}
+use Rattle.per_core.proofs.TakenInTurn.{then_took}
+use Rattle.per_core.proofs.WriterSpellings.{zero_if}
 use Rattle.per_core.proofs.Zeros.{zeros}
-use Rattle.per_core.specs.FieldFaults.{AreNonzero}
+use Rattle.per_core.specs.BitFieldFaults.{AreNonzero}
 use Rattle.per_read.specs.Options.{settings}
 use Rattle.per_read.specs.Takes.{alone}
 use Rattle.per_read.specs.declared.ReaderOptions.{ReaderOptions}
 
--- what is behind padding isn't there where the padding isn't
+-- what is after padding isn't there where the padding isn't
 pub no_padding : {X : Type 0} {a : Settings} {s : Bits} (f : X → Spelling) → NoneIn (alone AnyPadding a) s → NoneIn (λ x. Then (AnyPadding a) (f x)) s
 no_padding f none x t b = let q = then_took b in none tt q.0 q.1
 
 module _ (o : ReaderOptions) where
   -- in ALIGNED the bits beyond whole octets
   module _ (s f t : Bits) (l : ℕ) (e : o.codec ≡ Uper → ⊥) (joins : s ≡ f ++ t) (odd : length f ≡ l % 8) (all : l ≡ length s) where
-    fits : length f ≡ pad (variant_of o.codec) (place s)
+    fits : length f ≡ pad (variant_of o.codec) (bit_offset s)
     fits = go o.codec e
       where
-        go : (c : Codec) → (c ≡ Uper → ⊥) → length f ≡ pad (variant_of c) (place s)
+        go : (c : Codec) → (c ≡ Uper → ⊥) → length f ≡ pad (variant_of c) (bit_offset s)
         go Aper e = omega (arith, odd, all)
         go Uper e = absurd (e refl)
 

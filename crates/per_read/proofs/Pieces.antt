@@ -1,4 +1,4 @@
--- Items that come behind one length alone, and octets that are skipped piece by piece (X.691 11.9.3.5 to 11.9.3.8).
+-- Items that come after one length alone, and octets that are skipped piece by piece (X.691 11.9.3.5 to 11.9.3.8).
 use Rattle.std.proofs.Common.{◌≡◌, inl, inr, sym, ℕ, ◌*◌, ◌^◌, true, List, length, arith}
 use Rattle.std.proofs.lemmas.Bool.{lt-ltb}
 use Rattle.rasn_types.specs.Bits.{Bits, pack, unpack}
@@ -7,15 +7,15 @@ use Rattle.rasn_constraints.specs.Bounds.{allows, any_size}
 use Rattle.per_core.specs.Basic.{Octets, OneByOne, Sized, octet}
 use Rattle.per_core.specs.Counts.{ItemKind, octet_items}
 use Rattle.per_core.specs.Spellings.{Settings, Spelling, Took, NoneIn}
-use Rattle.per_core.proofs.Took.{took_map}
+use Rattle.per_core.proofs.TakenInTurn.{took_map}
 use Rattle.per_read.specs.Items.{TookItems}
-use Rattle.per_core.specs.FieldFaults.{Says}
+use Rattle.per_core.specs.BitFieldFaults.{Says}
 use Rattle.per_read.specs.Kinds.{Faulty}
 use Rattle.per_core.specs.Lengths.{LengthOf}
 use Rattle.per_read.specs.Takes.{Front}
 use Rattle.per_core.specs.declared.decode_error.DecodeErrorKind.{DecodeErrorKind}
 use Rattle.per_core.specs.declared.lengths.Length.TheVariants.{Last, Fragment}
-use Rattle.per_read.proofs.Parts.{items_begin, last_part, no_items_length, no_items_short, small_length}
+use Rattle.per_read.proofs.FragmentItems.{items_begin, last_part, no_items_length, no_items_short, small_length}
 use Rattle.per_read.specs.OpenTypes.{fragments_of}
 use Rattle.per_read.specs.Reasons.{gathering}
 use Rattle.per_read.proofs.FrontItems.{octets_took}
@@ -29,7 +29,7 @@ Anything before after codes = Unit {0}
 pub skipped : (n : ℕ) (bits : Bits) {s t : Bits} → Took (Front (8 * n) bits) s t → TookItems Anything (OneByOne octet) n tt tt s t
 skipped n bits b = record { codes = pack n bits; count = length-pack n bits; added = record { behind = λ start xs h. tt }; took = octets_took n bits b }
 
--- items behind one length
+-- items after one length
 pub one_piece : {X : Type 0} (a : Settings) (item : X → Spelling) (kind : ItemKind) (xs : List X) (n : ℕ) {s m t : Bits} → Took (LengthOf a (Last n)) s m → length xs ≡ n → Took (OneByOne item xs) m t
     → Took (Sized a any_size kind item xs) s t
 one_piece a item kind xs n b e c =
@@ -41,7 +41,7 @@ pub octets_are : (n : ℕ) (bits : Bits) {s t : Bits} → Took (Front (8 * n) bi
 octets_are n bits c = sym (unpack-pack n bits (front_took c).0)
 
 module _ (a : Settings) {s : Bits} where
-  -- octets behind one length
+  -- octets after one length
   pub octets_in_place : (n : ℕ) (bits : Bits) {m t : Bits} → Took (LengthOf a (Last n)) s m → Took (Front (8 * n) bits) m t → Took (Octets a (pack n bits)) s t
   octets_in_place n bits b c = one_piece a octet octet_items (pack n bits) n b (length-pack n bits) (octets_took n bits c)
 

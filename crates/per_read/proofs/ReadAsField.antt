@@ -15,28 +15,28 @@ use Rattle.rasn_types.proofs.Reading.{number_of-append}
 use Rattle.rasn_constraints.specs.Bounds.{allows, any_size}
 use Rattle.per_core.specs.Basic.{LastCount, Octets, OneByOne, octet}
 use Rattle.per_core.specs.Counts.{octet_items}
-use Rattle.per_core.specs.Spellings.{AnyPadding, Settings, Field, ZeroIf, place, Took, NoneIn}
+use Rattle.per_core.specs.Spellings.{AnyPadding, Settings, BitField, ZeroIf, bit_offset, Took, NoneIn}
 use Rattle.per_core.specs.Writers.{pad}
-use Rattle.per_core.proofs.Took.{took_map, took_then, then_took}
-use Rattle.per_read.specs.FewOctets.{AreOctetsOf, AtOnce, TookFew, TakesFew}
-use Rattle.per_core.specs.FieldFaults.{IsOfUnconstrained}
+use Rattle.per_core.proofs.TakenInTurn.{took_map, took_then, then_took}
+use Rattle.per_read.specs.OctetFields.{AreOctetsOf, AtOnce, TookOctetField, TakesOctetField}
+use Rattle.per_core.specs.BitFieldFaults.{IsOfUnconstrained}
 use Rattle.per_core.specs.Lengths.{LengthOf, count_of}
-use Rattle.per_read.specs.State.{State, settings_of}
+use Rattle.per_read.specs.ReaderState.{ReaderState, settings_of}
 use Rattle.per_core.specs.declared.decode_error.DecodeErrorKind.{DecodeErrorKind}
-use Rattle.per_read.specs.declared.few_octets.FewOctets.{FewOctets}
+use Rattle.per_read.specs.declared.octet_fields.OctetField.{OctetField}
 use Rattle.per_core.specs.declared.lengths.Length.{Length}
 use Rattle.per_core.specs.declared.lengths.Length.TheVariants.{Last}
 use Rattle.per_read.proofs.OneByOne.{items_wide, octets_one_by_one, took_within}
-use Rattle.per_read.proofs.Parts.{items_begin, last_part, no_items_length, no_items_short}
+use Rattle.per_read.proofs.FragmentItems.{items_begin, last_part, no_items_length, no_items_short}
 
 -- ---- what is read
 
 -- the octets of a field, which other bits follow
-octets_of_field : (c : ℕ) {n : ℕ} {s t : Bits} (b : Took (Field (8 * c) n) s t) → Took (OneByOne (Field 8) (pack c b.front)) s t
+octets_of_field : (c : ℕ) {n : ℕ} {s t : Bits} (b : Took (BitField (8 * c) n) s t) → Took (OneByOne (BitField 8) (pack c b.front)) s t
 octets_of_field c b = took_within 8 (pack c b.front) (octets_one_by_one c b.front b.spelled.wide) b.joins
 
-pub few_took : {a : Settings} {l : Length} (c n : ℕ) {s m t : Bits} → Took (LengthOf a l) s m → l ≡ Last c → 0 < c → c ≤ 16 → Took (Field (8 * c) n) m t
-    → TookFew a (record { number = n; count = c }) s t
+pub few_took : {a : Settings} {l : Length} (c n : ℕ) {s m t : Bits} → Took (LengthOf a l) s m → l ≡ Last c → 0 < c → c ≤ 16 → Took (BitField (8 * c) n) m t
+    → TookOctetField a (record { number = n; count = c }) s t
 few_took {a} c n {s} {m} {t} b e some few d = record {
   octets = pack c d.front;
   are = record {
@@ -48,18 +48,18 @@ few_took {a} c n {s} {m} {t} b e some few d = record {
   took =
       let last : Took (LengthOf a (Last c)) s m = subst (λ z. Took (LengthOf a z) s m) e b in
       let allowed : allows any_size (length (pack c d.front)) ≡ true = lt-ltb (length (pack c d.front)) (2 ^ 64) (omega (arith, length-pack c d.front)) in
-      took_map (λ p x y. record { allowed = allowed; spelled = y }) (last_part (Field 8) last (length-pack c d.front) (octets_of_field c d));
+      took_map (λ p x y. record { allowed = allowed; spelled = y }) (last_part (BitField 8) last (length-pack c d.front) (octets_of_field c d));
 }
 
 -- padding of no bits
-pub no_padding_there : {a : Settings} {s : Bits} → pad a.variant (place s) ≡ 0 → Took (AnyPadding a) s s
+pub no_padding_there : {a : Settings} {s : Bits} → pad a.variant (bit_offset s) ≡ 0 → Took (AnyPadding a) s s
 no_padding_there {a} {s} h = record { front = []; joins = refl; spelled = record { fits = sym h; zeros = none a.strict } }
   where
     none : (strict : Bool) → ZeroIf strict []
     none true = refl
     none false = tt
 
--- the first 56 bits, with zeros behind the last
+-- the first 56 bits, with zeros after the last
 abbrev pub padded : Bits → Bits
 padded s = take 56 (s ++ replicate 56 false)
 
@@ -87,9 +87,9 @@ padded_is k n s h i = ap (λ (m : ℕ). m % 2 ^ 64) whole ∙ mod-eq_of_lt (let 
     whole : n * 2 ^ (56 - k) ≡ number_of (padded s)
     whole = go (cases_lt (length s) 56)
 
--- a field of 56 bits: the length c, as many octets, and what is behind them
+-- a field of 56 bits: the length c, as many octets, and what is after them
 pub at_once : {a : Settings} (w c n : ℕ) {s t : Bits} (f : Bits) → w ≡ number_of (padded s) → c ≤ 6 → s ≡ f ++ t → length f ≡ 8 + 8 * c
-    → pad a.variant (place s) ≡ 0 → c ≡ w / 2 ^ 48 → 0 < c → n ≡ w * 2 ^ 16 % 2 ^ 64 / 2 ^ (64 - 8 * c) → TookFew a (record { number = n; count = c }) s t
+    → pad a.variant (bit_offset s) ≡ 0 → c ≡ w / 2 ^ 48 → 0 < c → n ≡ w * 2 ^ 16 % 2 ^ 64 / 2 ^ (64 - 8 * c) → TookOctetField a (record { number = n; count = c }) s t
 at_once {a} w c n {s} {t} f is few joins wide unpadded e some i =
     few_took c n (took_then (no_padding_there {a = a} {s = s} unpadded) counted) refl some (omega arith) (record { front = octets; joins = refl; spelled = record { wide = octets_wide; means = number_is } })
   where
@@ -111,28 +111,28 @@ at_once {a} w c n {s} {t} f is few joins wide unpadded e some i =
     behind : ℕ
     behind = number_of (octets ++ rest)
 
-    behind_wide : length (octets ++ rest) ≡ 48
-    behind_wide = length-append octets rest ∙ omega (arith, octets_wide, rest_wide)
+    after_wide : length (octets ++ rest) ≡ 48
+    after_wide = length-append octets rest ∙ omega (arith, octets_wide, rest_wide)
 
-    behind_below : behind < 2 ^ 48
-    behind_below = subst (λ (k : ℕ). behind < 2 ^ k) behind_wide (number_below (octets ++ rest))
+    after_below : behind < 2 ^ 48
+    after_below = subst (λ (k : ℕ). behind < 2 ^ k) after_wide (number_below (octets ++ rest))
 
     field_parts : padded s ≡ first ++ (octets ++ rest)
     field_parts = ap (λ z. padded z) joins ∙ ap₂ (λ (k : ℕ) z. take k z) (let l : 56 ≡ length f + (48 - 8 * c) = omega arith in l) (append_assoc f t (replicate 56 false)) ∙ take-append-add f (t ++ replicate 56 false) (48 - 8 * c)
         ∙ ap (λ z. z ++ rest) (sym (take-append-drop 8 f)) ∙ append_assoc first octets rest
 
     parts : w ≡ number_of first * 2 ^ 48 + behind
-    parts = is ∙ ap number_of field_parts ∙ number_of-append first (octets ++ rest) ∙ ap (λ (k : ℕ). number_of first * 2 ^ k + behind) behind_wide
+    parts = is ∙ ap number_of field_parts ∙ number_of-append first (octets ++ rest) ∙ ap (λ (k : ℕ). number_of first * 2 ^ k + behind) after_wide
 
     counted : Took (LastCount c) s (octets ++ t)
     counted = record {
       front = first;
       joins = joins ∙ ap (λ z. z ++ t) (sym (take-append-drop 8 f)) ∙ append_assoc first octets t;
-      spelled = inl (omega arith, record { wide = length-take 8 f ∙ omega arith; means = omega (arith, parts, behind_below) });
+      spelled = inl (omega arith, record { wide = length-take 8 f ∙ omega arith; means = omega (arith, parts, after_below) });
     }
 
     moved : w * 2 ^ 16 % 2 ^ 64 ≡ behind * 2 ^ 16
-    moved = omega (arith, parts, behind_below)
+    moved = omega (arith, parts, after_below)
 
     back : behind * 2 ^ 16 / 2 ^ 16 ≡ number_of octets * 2 ^ (48 - 8 * c) + number_of rest
     back = (let b : behind * 2 ^ 16 / 2 ^ 16 ≡ behind = omega arith in b) ∙ number_of-append octets rest ∙ ap (λ (k : ℕ). number_of octets * 2 ^ k + number_of rest) rest_wide
@@ -142,9 +142,9 @@ at_once {a} w c n {s} {t} f is few joins wide unpadded e some i =
         ∙ ap (λ (x : ℕ). x / 2 ^ (48 - 8 * c)) back
         ∙ shr_high (number_of octets) (48 - 8 * c) (number_of rest) (subst (λ (k : ℕ). number_of rest < 2 ^ k) rest_wide (number_below rest)))
 
--- octets that stand there so
+-- octets that are there so
 module _ {a : Settings} {os : List ℕ} {s t : Bits} (b : Took (AtOnce a os) s t) where
-  once_parts : (m : Bits) × Took (Field 8 (length os)) s m × Took (OneByOne octet os) m t
+  once_parts : (m : Bits) × Took (BitField 8 (length os)) s m × Took (OneByOne octet os) m t
   once_parts = then_took (record { front = b.front; joins = b.joins; spelled = b.spelled.spelled })
 
   pub once_wide : 8 + 8 * length os ≤ length s
@@ -157,7 +157,7 @@ module _ {a : Settings} {os : List ℕ} {s t : Bits} (b : Took (AtOnce a os) s t
       m : Bits
       m = once_parts.0
 
-      c : Took (Field 8 (length os)) s m
+      c : Took (BitField 8 (length os)) s m
       c = once_parts.1
 
       rest : Bits
@@ -182,21 +182,21 @@ module _ (a : Settings) (s : Bits) where
   few_short {l} c {m} b e h = no_items_short (items_begin (λ x y zs. Unit {0}) a 8 s (tt {0})) octet_items l m b
       (λ few. subst (λ (n : ℕ). length m < 8 * n) (sym (ap count_of e)) h)
 
-pub few_refused : {x y : State} (r : Result (Option FewOctets) DecodeErrorKind) (k : DecodeErrorKind) → IsErrAnd r (λ e. e ≡ k) → y.options ≡ x.options
-    → IsOfUnconstrained (settings_of x) 8 x.bits k × NoneIn (Octets (settings_of x)) x.bits → TakesFew x r y
+pub few_refused : {x y : ReaderState} (r : Result (Option OctetField) DecodeErrorKind) (k : DecodeErrorKind) → IsErrAnd r (λ e. e ≡ k) → y.options ≡ x.options
+    → IsOfUnconstrained (settings_of x) 8 x.bits k × NoneIn (Octets (settings_of x)) x.bits → TakesOctetField x r y
 few_refused (Ok v) k h e i = absurd h
 few_refused {x} (Err f) k h e i = record { ok = tt; err = subst (λ z. IsOfUnconstrained (settings_of x) 8 x.bits z × NoneIn (Octets (settings_of x)) x.bits) (sym h) i; kept = e }
 
 -- a call where nothing was taken before
-pub few_after : {x m y : State} {r : Result (Option FewOctets) DecodeErrorKind} → m.bits ≡ x.bits → m.options ≡ x.options → TakesFew m r y → TakesFew x r y
-few_after {x} {m} {y} {r} e f h = subst (λ z. TakesFew z r y) same h
+pub few_after : {x m y : ReaderState} {r : Result (Option OctetField) DecodeErrorKind} → m.bits ≡ x.bits → m.options ≡ x.options → TakesOctetField m r y → TakesOctetField x r y
+few_after {x} {m} {y} {r} e f h = subst (λ z. TakesOctetField z r y) same h
   where
     same : m ≡ x
     same = ap (λ b. record { bits = b; options = m.options }) e ∙ ap (λ o. record { bits = x.bits; options = o }) f
 
 -- ---- what it means in two's complement
 
-pub few_below : {f : FewOctets} {os : List ℕ} → AreOctetsOf os f → f.number < 2 ^ (8 * f.count)
+pub few_below : {f : OctetField} {os : List ℕ} → AreOctetsOf os f → f.number < 2 ^ (8 * f.count)
 few_below {f} {os} h =
     let l : length (unpack os) ≡ 8 * f.count = length-unpack os ∙ ap (λ (n : ℕ). 8 * n) h.count in
     subst (λ (n : ℕ). f.number < 2 ^ n) l (omega (arith, h.means, number_below (unpack os)))
@@ -204,7 +204,7 @@ few_below {f} {os} h =
 abbrev pub AreSigned : ℕ → ℕ → Bits → Type 0
 AreSigned w n bs = (length bs ≡ suc w) × (number_of bs ≡ n)
 
-few_bits : {f : FewOctets} {os : List ℕ} → AreOctetsOf os f → AreSigned (8 * f.count - 1) f.number (unpack os)
+few_bits : {f : OctetField} {os : List ℕ} → AreOctetsOf os f → AreSigned (8 * f.count - 1) f.number (unpack os)
 few_bits {f} {os} h = (omega (arith, length-unpack os, h.count, h.some), h.means)
 
 natural_bits : (w n : ℕ) (bs : Bits) → AreSigned w n bs → n < 2 ^ w → pos n ≡ signed_bits bs
@@ -223,23 +223,23 @@ negative_bits w n (true ∷ bs) h l =
     let e : 2 ^ length bs ≡ 2 ^ w = ap (λ (k : ℕ). 2 ^ k) (let i : length bs ≡ w = omega (arith, h.0) in i) in
     ap negsuc (omega (arith, h.1, e))
 
-pub signed_natural : {f : FewOctets} {os : List ℕ} → AreOctetsOf os f → f.number < 2 ^ (8 * f.count - 1) → pos f.number ≡ signed os
+pub signed_natural : {f : OctetField} {os : List ℕ} → AreOctetsOf os f → f.number < 2 ^ (8 * f.count - 1) → pos f.number ≡ signed os
 signed_natural {f} {os} h l = natural_bits (8 * f.count - 1) f.number (unpack os) (few_bits h) l
 
-pub signed_negative : {f : FewOctets} {os : List ℕ} → AreOctetsOf os f → 2 ^ (8 * f.count - 1) ≤ f.number
+pub signed_negative : {f : OctetField} {os : List ℕ} → AreOctetsOf os f → 2 ^ (8 * f.count - 1) ≤ f.number
     → negsuc (2 ^ (8 * f.count - 1) - 1 - (f.number - 2 ^ (8 * f.count - 1))) ≡ signed os
 signed_negative {f} {os} h l = negative_bits (8 * f.count - 1) f.number (unpack os) (few_bits h) l
 
 -- half of the numbers of a field, as the program has it
-pub half_is : {f : FewOctets} {os : List ℕ} → AreOctetsOf os f → (1 * 2 ^ (8 * f.count - 1) % 2 ^ 128 ≡ 2 ^ (8 * f.count - 1)) × (2 ^ (8 * f.count - 1) ≤ 2 ^ 127)
+pub half_is : {f : OctetField} {os : List ℕ} → AreOctetsOf os f → (1 * 2 ^ (8 * f.count - 1) % 2 ^ 128 ≡ 2 ^ (8 * f.count - 1)) × (2 ^ (8 * f.count - 1) ≤ 2 ^ 127)
 half_is {f} h =
     let m : 2 ^ (8 * f.count - 1) ≤ 2 ^ 127 = pow_mono {i = 8 * f.count - 1} {j = 127} (omega (arith, h.few)) in
     (omega (arith, m), m)
 
-pub twice_half : {f : FewOctets} {os : List ℕ} → AreOctetsOf os f → 2 ^ (8 * f.count) ≡ 2 * 2 ^ (8 * f.count - 1)
+pub twice_half : {f : OctetField} {os : List ℕ} → AreOctetsOf os f → 2 ^ (8 * f.count) ≡ 2 * 2 ^ (8 * f.count - 1)
 twice_half {f} h = ap (λ (n : ℕ). 2 ^ n) (let e : 8 * f.count ≡ suc (8 * f.count - 1) = omega (arith, h.some) in e) ∙ (let i : 2 ^ suc (8 * f.count - 1) ≡ 2 * 2 ^ (8 * f.count - 1) = omega (arith, pow-suc 2 (8 * f.count - 1)) in i)
 
-pub negative_is : {f : FewOctets} {os : List ℕ} → AreOctetsOf os f → (half : ℕ) → half ≡ 2 ^ (8 * f.count - 1) → half ≤ 2 ^ 127 → 0 < half → half ≤ f.number
+pub negative_is : {f : OctetField} {os : List ℕ} → AreOctetsOf os f → (half : ℕ) → half ≡ 2 ^ (8 * f.count - 1) → half ≤ 2 ^ 127 → 0 < half → half ≤ f.number
     → to_z w128 (of_z w128 (negsuc 0 -ℤ to_z w128 (half - 1 - (f.number - half)))) ≡ signed os
 negative_is {f} {os} h half e few some l =
     ap (λ z. to_z w128 (of_z w128 (negsuc 0 -ℤ z))) (to_z_pos w128 k (omega (arith, few, some)))
@@ -252,13 +252,13 @@ negative_is {f} {os} h half e few some l =
     k = half - 1 - (f.number - half)
 
 -- the same in a word
-pub half_word_is : {f : FewOctets} {os : List ℕ} → AreOctetsOf os f → f.count ≤ 6
+pub half_word_is : {f : OctetField} {os : List ℕ} → AreOctetsOf os f → f.count ≤ 6
     → (1 * 2 ^ (8 * f.count - 1) % 2 ^ 64 ≡ 2 ^ (8 * f.count - 1)) × (2 ^ (8 * f.count - 1) ≤ 2 ^ 47)
 half_word_is {f} h few =
     let m : 2 ^ (8 * f.count - 1) ≤ 2 ^ 47 = pow_mono {i = 8 * f.count - 1} {j = 47} (omega (arith, few)) in
     (omega (arith, m), m)
 
-pub negative_word_is : {f : FewOctets} {os : List ℕ} → AreOctetsOf os f → (half : ℕ) → half ≡ 2 ^ (8 * f.count - 1) → half ≤ 2 ^ 47 → 0 < half → half ≤ f.number
+pub negative_word_is : {f : OctetField} {os : List ℕ} → AreOctetsOf os f → (half : ℕ) → half ≡ 2 ^ (8 * f.count - 1) → half ≤ 2 ^ 47 → 0 < half → half ≤ f.number
     → to_z w64 (of_z w64 (negsuc 0 -ℤ to_z w64 (half - 1 - (f.number - half)))) ≡ signed os
 negative_word_is {f} {os} h half e few some l =
     ap (λ z. to_z w64 (of_z w64 (negsuc 0 -ℤ z))) (to_z_pos w64 k (omega (arith, few, some)))

@@ -1,4 +1,4 @@
--- Octets that are skipped, behind one length that counts them all (X.691 11.9, 17).
+-- Octets that are skipped, after one length that counts them all (X.691 11.9, 17).
 use Rattle.std.proofs.Common.{◌≡◌, ◌∙◌, ◌<◌, ◌*◌, ◌^◌, ℕ, true, false, List, ◌++◌, length, length-append, refl, sym, ap, arith}
 use Rattle.rasn_types.specs.Bits.{Bits}
 use Rattle.rasn_constraints.specs.Bounds.{allows, Size}
@@ -6,14 +6,14 @@ use Rattle.per_core.specs.Basic.{OneByOne, octet}
 use Rattle.per_core.specs.Counts.{octet_items}
 use Rattle.per_core.specs.Spellings.{Settings, Spelling, Took, NoneIn}
 use Rattle.per_core.specs.declared.items.Item.TheVariants.{Octet}
-use Rattle.per_core.proofs.Took.{then_took, took_map}
+use Rattle.per_core.proofs.TakenInTurn.{then_took, took_map}
 use Rattle.per_read.specs.Items.{HasCount, TookItems, items_below, sized_items, unconstrained_items}
 use Rattle.per_core.specs.Lengths.{LengthOf, count_of}
 use Rattle.per_read.specs.Sizes.{items_under}
 use Rattle.per_core.specs.declared.lengths.Length.TheVariants.{Last, Fragment}
 use Rattle.per_read.proofs.Fields.{when_took}
 use Rattle.per_read.proofs.OneByOne.{items_within, octets_skipped}
-use Rattle.per_read.proofs.Parts.{first_part, items_begin, items_end, no_items_length, no_items_short, one_length}
+use Rattle.per_read.proofs.FragmentItems.{first_part, items_begin, items_end, no_items_length, no_items_short, one_length}
 use Rattle.per_read.proofs.SizeForms.{of_sized, one_size}
 
 -- nothing is held of them
@@ -38,7 +38,7 @@ pub none_below : {n : ℕ} {form : List ℕ → Spelling} {s : Bits} → NoneIn 
 none_below none xs t b = none xs t (when_took b).1
 
 module _ (a : Settings) {s : Bits} where
-  -- behind an unconstrained length
+  -- after an unconstrained length
   pub no_length_no_octets : NoneIn (LengthOf a) s → NoneIn (items_below 16384 (unconstrained_items a Octet)) s
   no_length_no_octets none = none_below (no_items_length (items_begin Nothing a 8 s tt) octet_items none)
 

@@ -9,10 +9,10 @@ use Rattle.rasn_constraints.specs.Bounds.{allows, any_size, at_least, at_most, h
 use Rattle.per_core.specs.Basic.{OneByOne, UnconstrainedLength, PaddingIf, Sized, InOctets, IsConstrainedWhole, length_form, constrained_by, constrained_form}
 use Rattle.per_core.specs.Counts.{ItemKind, is_aligned}
 use Rattle.per_core.proofs.ConstrainedLengths.{IsConstrained, IsFree}
-use Rattle.per_core.specs.Spellings.{Settings, Spelling, Then, AnyPadding, Field, Took, NoneIn}
-use Rattle.per_core.proofs.Agree.{Agree, weaken, when_agree, padding_agree, field_agree}
+use Rattle.per_core.specs.Spellings.{Settings, Spelling, Then, AnyPadding, BitField, Took, NoneIn}
+use Rattle.per_core.proofs.SpellingsAgree.{Agree, weaken, when_agree, padding_agree, field_agree}
 use Rattle.per_core.proofs.LengthForms.{Zip-same, bounded_form_agree, unsized_agree, and_left, and_right}
-use Rattle.per_core.proofs.Took.{took_then, then_took, took_map, took_agree, nothing_took}
+use Rattle.per_core.proofs.TakenInTurn.{took_then, then_took, took_map, took_agree, nothing_took}
 use Rattle.per_read.specs.Items.{TookItems}
 use Rattle.per_read.specs.Takes.{alone}
 use Rattle.per_core.specs.Lengths.{CountFrom, Between, under_size}
@@ -26,10 +26,10 @@ cond_took false c = inr (refl, c)
 
 -- a code among 65536 numbers is below 65536
 module _ (a : Settings) (o : ℕ) {s t : Bits} where
-  in_field : (w v : ℕ) → w ≤ v → Took (Field w o) s t → o < 2 ^ v
+  in_field : (w v : ℕ) → w ≤ v → Took (BitField w o) s t → o < 2 ^ v
   in_field w v l c = omega (arith, field_below c, pow_mono {i = w} {j = v} l)
 
-  in_padded : (w v : ℕ) → w ≤ v → Took (Then (AnyPadding a) (Field w o)) s t → o < 2 ^ v
+  in_padded : (w v : ℕ) → w ≤ v → Took (Then (AnyPadding a) (BitField w o)) s t → o < 2 ^ v
   in_padded w v l c = let q = then_took c in omega (arith, field_below q.2, pow_mono {i = w} {j = v} l)
 
   pub few_codes : (n : ℕ) → n ≤ 65536 → Took (constrained_form a n o) s t → o < 65536
@@ -38,16 +38,16 @@ module _ (a : Settings) (o : ℕ) {s t : Bits} where
       narrow : width n ≤ 16
       narrow = width_least n 16 h
 
-      two : ((leb n 65536 ≡ true) × Took (Then (AnyPadding a) (Field 16 o)) s t) ⊎ ((leb n 65536 ≡ false) × Took (InOctets a n o) s t) → o < 65536
+      two : ((leb n 65536 ≡ true) × Took (Then (AnyPadding a) (BitField 16 o)) s t) ⊎ ((leb n 65536 ≡ false) × Took (InOctets a n o) s t) → o < 65536
       two (inl c) = in_padded 16 16 (omega arith) c.1
       two (inr c) = let e : true ≡ false = sym (le-leb n 65536 h) ∙ c.0 in absurd (cc)
 
-      one : ((eqb n 256 ≡ true) × Took (Then (AnyPadding a) (Field 8 o)) s t) ⊎ ((eqb n 256 ≡ false) × Took (cond (leb n 65536) (Then (AnyPadding a) (Field 16 o)) (InOctets a n o)) s t) → o < 65536
+      one : ((eqb n 256 ≡ true) × Took (Then (AnyPadding a) (BitField 8 o)) s t) ⊎ ((eqb n 256 ≡ false) × Took (cond (leb n 65536) (Then (AnyPadding a) (BitField 16 o)) (InOctets a n o)) s t) → o < 65536
       one (inl c) = in_padded 8 16 (omega arith) c.1
       one (inr c) = two (cond_took (leb n 65536) c.1)
 
-      none : ((leb n 255 ≡ true) × Took (Field (width n) o) s t)
-          ⊎ ((leb n 255 ≡ false) × Took (cond (eqb n 256) (Then (AnyPadding a) (Field 8 o)) (cond (leb n 65536) (Then (AnyPadding a) (Field 16 o)) (InOctets a n o))) s t) → o < 65536
+      none : ((leb n 255 ≡ true) × Took (BitField (width n) o) s t)
+          ⊎ ((leb n 255 ≡ false) × Took (cond (eqb n 256) (Then (AnyPadding a) (BitField 8 o)) (cond (leb n 65536) (Then (AnyPadding a) (BitField 16 o)) (InOctets a n o))) s t) → o < 65536
       none (inl c) = in_field (width n) 16 narrow c.1
       none (inr c) = one (cond_took (eqb n 256) c.1)
 
@@ -58,7 +58,7 @@ module _ (a : Settings) (o : ℕ) {s t : Bits} where
   pub one_code : Took (constrained_form a 1 o) s t → o ≡ 0
   one_code b = go a.variant b
     where
-      in_none : Took (Field (width 1) o) s t → o ≡ 0
+      in_none : Took (BitField (width 1) o) s t → o ≡ 0
       in_none c = let h : o < 1 = in_field (width 1) 0 (width_least 1 0 (omega arith)) c in omega arith
 
       go : (v : Variant) → Took (constrained_by v a 1 o) s t → o ≡ 0
@@ -79,7 +79,7 @@ few_counted a lb ub o {s} {t} h l b = go (cases_lt ub lb)
         let z = one_code a o (subst (λ (n : ℕ). Took (constrained_form a n o) s t) e b) in omega arith
     go (inr k) = let z = few_codes a o (ub - lb + 1) (omega arith) b in omega arith
 
--- items behind a count from lb to ub
+-- items after a count from lb to ub
 padding_once : (a : Settings) (b : Bool) {s t u : Bits} → Took (PaddingIf b a) s t → Took (PaddingIf b a) s u → t ≡ u
 padding_once a true c d = (took_agree (padding_agree a) c d).1
 padding_once a false c d = sym (nothing_took c) ∙ nothing_took d
@@ -97,14 +97,14 @@ count_from a lb ub o {s} {t} b =
 pub count_agree : (a : Settings) (lb ub n m : ℕ) → Agree (n ≡ m) (CountFrom a lb ub n) (CountFrom a lb ub m)
 count_agree a lb ub n m = when_agree (λ h k. weaken (λ e. omega (arith, h, k, e)) (bounded_form_agree a (ub - lb + 1) (n - lb) (m - lb)))
 
--- the count of what is spelled behind it
+-- the count of what is spelled after it
 pub count_between : {X : Type 0} (a : Settings) (lb ub : ℕ) (kind : ItemKind) (item : X → Spelling) (n : ℕ) {s m : Bits} → Took (CountFrom a lb ub n) s m
     → (xs : List X) (u : Bits) → Took (Between a lb ub kind item xs) s u → length xs ≡ n
 count_between a lb ub kind item n b xs u c = let r = then_took c in (took_agree (count_agree a lb ub (length xs) n) r.1 b).0
 
 module _ (a : Settings) (lb ub : ℕ) (kind : ItemKind) (w n : ℕ) {s m : Bits} (b : Took (CountFrom a lb ub n) s m) where
   pub between_took : {C : Type 0} {holds : C → C → List ℕ → Type 0} {before after : C} {l t : Bits} {test : Bool} → test ≡ (ltb 0 n && is_aligned kind lb ub) → Took (PaddingIf test a) m l
-      → TookItems holds (OneByOne (Field w)) n before after l t → TookItems holds (Between a lb ub kind (Field w)) n before after s t
+      → TookItems holds (OneByOne (BitField w)) n before after l t → TookItems holds (Between a lb ub kind (BitField w)) n before after s t
   between_took {l = l} {t = t} i p r = record {
     codes = r.codes;
     count = r.count;
@@ -115,7 +115,7 @@ module _ (a : Settings) (lb ub : ℕ) (kind : ItemKind) (w n : ℕ) {s m : Bits}
         took_then c (took_then q r.took);
   }
 
-  pub short_between : {l : Bits} {test : Bool} → test ≡ (ltb 0 n && is_aligned kind lb ub) → Took (PaddingIf test a) m l → length l < w * n → NoneIn (Between a lb ub kind (Field w)) s
+  pub short_between : {l : Bits} {test : Bool} → test ≡ (ltb 0 n && is_aligned kind lb ub) → Took (PaddingIf test a) m l → length l < w * n → NoneIn (Between a lb ub kind (BitField w)) s
   short_between {l} {test} i p k xs u c =
       let r = then_took c in
       let v = then_took r.2 in
@@ -127,7 +127,7 @@ module _ (a : Settings) (lb ub : ℕ) (kind : ItemKind) (w n : ℕ) {s m : Bits}
       let y : w * length xs ≡ w * n = ap (λ (z : ℕ). w * z) f in
       omega (arith, items_wide w xs v.2, g, y, k)
 
-  pub no_padding_between : {test : Bool} → test ≡ (ltb 0 n && is_aligned kind lb ub) → NoneIn (alone (PaddingIf test) a) m → NoneIn (Between a lb ub kind (Field w)) s
+  pub no_padding_between : {test : Bool} → test ≡ (ltb 0 n && is_aligned kind lb ub) → NoneIn (alone (PaddingIf test) a) m → NoneIn (Between a lb ub kind (BitField w)) s
   no_padding_between {test} i none xs u c =
       let r = then_took c in
       let v = then_took r.2 in
@@ -202,18 +202,18 @@ module _ {X : Type 0} (a : Settings) (kind : ItemKind) (item : X → Spelling) (
           (λ y. record { allowed = countable (record { least = Some l; most = Some u }) (length xs) h; spelled = y }) x
 
 -- there is one count under a size
-pub one_size : (a : Settings) (l u : Option ℕ) (kind : ItemKind) (w : ℕ) (xs ys : List ℕ) (s t v : Bits) → Took (under_size a l u kind (Field w) xs) s t → Took (under_size a l u kind (Field w) ys) s v → length xs ≡ length ys
+pub one_size : (a : Settings) (l u : Option ℕ) (kind : ItemKind) (w : ℕ) (xs ys : List ℕ) (s t v : Bits) → Took (under_size a l u kind (BitField w) xs) s t → Took (under_size a l u kind (BitField w) ys) s v → length xs ≡ length ys
 one_size a l u kind w xs ys s t v b c = go l u b c
   where
-    plain : Took (Sized a any_size kind (Field w) xs) s t → Took (Sized a any_size kind (Field w) ys) s v → length xs ≡ length ys
+    plain : Took (Sized a any_size kind (BitField w) xs) s t → Took (Sized a any_size kind (BitField w) ys) s v → length xs ≡ length ys
     plain b c =
-        ap length (Zip-same xs ys (took_agree (unsized_agree (λ x y. x ≡ y) (Field w) (Field w) (field_agree w) a xs ys) (took_map (λ p d x. x.spelled) b) (took_map (λ p d x. x.spelled) c)).0)
+        ap length (Zip-same xs ys (took_agree (unsized_agree (λ x y. x ≡ y) (BitField w) (BitField w) (field_agree w) a xs ys) (took_map (λ p d x. x.spelled) b) (took_map (λ p d x. x.spelled) c)).0)
 
-    both : (lb ub : ℕ) (z : Bool) → Took (cond z (Between a lb ub kind (Field w) xs) (Sized a any_size kind (Field w) xs)) s t → Took (cond z (Between a lb ub kind (Field w) ys) (Sized a any_size kind (Field w) ys)) s v → length xs ≡ length ys
-    both lb ub true b c = let r = then_took c in count_between a lb ub kind (Field w) (length ys) r.1 xs t b
+    both : (lb ub : ℕ) (z : Bool) → Took (cond z (Between a lb ub kind (BitField w) xs) (Sized a any_size kind (BitField w) xs)) s t → Took (cond z (Between a lb ub kind (BitField w) ys) (Sized a any_size kind (BitField w) ys)) s v → length xs ≡ length ys
+    both lb ub true b c = let r = then_took c in count_between a lb ub kind (BitField w) (length ys) r.1 xs t b
     both lb ub false b c = plain b c
 
-    go : (l u : Option ℕ) → Took (under_size a l u kind (Field w) xs) s t → Took (under_size a l u kind (Field w) ys) s v → length xs ≡ length ys
+    go : (l u : Option ℕ) → Took (under_size a l u kind (BitField w) xs) s t → Took (under_size a l u kind (BitField w) ys) s v → length xs ≡ length ys
     go None u b c = plain b c
     go (Some l) None b c = plain b c
     go (Some l) (Some u) b c = both l u (ltb u 65536) b c

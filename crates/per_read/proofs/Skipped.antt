@@ -3,10 +3,10 @@ use Rattle.std.proofs.Common.{◌≡◌, sym, subst, inl, inr, List, [], ◌∷�
 use Rattle.rasn_types.specs.Bits.{Bits}
 use Rattle.per_core.specs.Basic.{Unknown}
 use Rattle.per_core.specs.Spellings.{Settings, Took, NoneIn}
-use Rattle.per_core.proofs.Took.{then_took, took_agree, took_nothing, took_then}
+use Rattle.per_core.proofs.TakenInTurn.{then_took, took_agree, took_nothing, took_then}
 use Rattle.per_core.proofs.Unique.{open_agree}
 use Rattle.per_core.specs.AdditionFaults.{IsOfUnknown, skipped_unknown, skipped_open}
-use Rattle.per_core.specs.FieldFaults.{IsOfUnconstrained}
+use Rattle.per_core.specs.BitFieldFaults.{IsOfUnconstrained}
 use Rattle.per_core.specs.declared.decode_error.DecodeErrorKind.{DecodeErrorKind}
 
 -- The additions from `start` on are those that were skipped and those from here.

@@ -3,27 +3,27 @@ use Rattle.std.proofs.Common.{◌≡◌, ◌⊎◌, ◌&&◌, ap, subst, ℕ, �
 use Rattle.rasn_types.specs.Bits.{Bits}
 use Rattle.rasn_constraints.specs.Bounds.{fits_i128}
 use Rattle.per_core.specs.Basic.{IsNumber, IsSemiConstrainedWhole, Small, at_least_zero}
-use Rattle.per_core.specs.Spellings.{Settings, Then, exactly, Field, Took}
-use Rattle.per_core.proofs.Took.{took_then, then_took, took_map}
-use Rattle.per_core.specs.FieldFaults.{IsOfField, IsOfMarked, IsOfUnconstrained}
+use Rattle.per_core.specs.Spellings.{Settings, Then, exactly, BitField, Took}
+use Rattle.per_core.proofs.TakenInTurn.{took_then, then_took, took_map}
+use Rattle.per_core.specs.BitFieldFaults.{IsOfBitField, IsOfMarked, IsOfUnconstrained}
 use Rattle.per_core.specs.NumberFaults.{IsOfOctets, small_form}
 use Rattle.per_read.specs.SmallNumbers.{IsOfSmall}
 use Rattle.per_core.specs.declared.decode_error.DecodeErrorKind.{DecodeErrorKind}
 use Rattle.per_core.specs.declared.decode_error.DecodeErrorKind.TheVariants.{UnexpectedEmptyInput}
 use Rattle.per_read.proofs.Calls.{of_short}
 use Rattle.per_read.proofs.Fields.{either_took}
-use Rattle.per_read.proofs.Marked.{behind_bit}
+use Rattle.per_read.proofs.Marked.{after_bit}
 use Rattle.per_read.proofs.OfFields.{marked_tested, past_marked, unconstrained_tested}
 
 -- what a kind says of a field of one
-pub field_small : (a : Settings) (s : Bits) (k : DecodeErrorKind) → IsOfMarked true (IsOfField 6) (IsOfUnconstrained a 8) s k → IsOfSmall a s k
-field_small a s UnexpectedEmptyInput h = absurd (marked_tested (IsOfField 6) (IsOfUnconstrained a 8) true s UnexpectedEmptyInput (λ t x. of_short UnexpectedEmptyInput x) (λ t x. unconstrained_tested UnexpectedEmptyInput x) h)
+pub field_small : (a : Settings) (s : Bits) (k : DecodeErrorKind) → IsOfMarked true (IsOfBitField 6) (IsOfUnconstrained a 8) s k → IsOfSmall a s k
+field_small a s UnexpectedEmptyInput h = absurd (marked_tested (IsOfBitField 6) (IsOfUnconstrained a 8) true s UnexpectedEmptyInput (λ t x. of_short UnexpectedEmptyInput x) (λ t x. unconstrained_tested UnexpectedEmptyInput x) h)
 field_small a s _ h = h
 
 -- the octets of a large form
 pub octets_small : (a : Settings) (s m : Bits) (k : DecodeErrorKind) → s ≡ true ∷ m → IsOfOctets a m k → IsOfSmall a s k
-octets_small a s m UnexpectedEmptyInput e h = (h.0, behind_bit true e h.0 h.1)
-octets_small a s m k e h = past_marked (IsOfField 6) (IsOfUnconstrained a 8) k e h
+octets_small a s m UnexpectedEmptyInput e h = (h.0, after_bit true e h.0 h.1)
+octets_small a s m k e h = past_marked (IsOfBitField 6) (IsOfUnconstrained a 8) k e h
 
 -- a number that 64 bits hold is within an i128
 fits_small : (i : ℕ) → i < 2 ^ 64 → fits_i128 (pos i) ≡ true
@@ -41,7 +41,7 @@ natural a i p b x = subst (λ (n : ℕ). IsSemiConstrainedWhole a n p b) {x = i 
 pub small_took : (a : Settings) (i : ℕ) {m t : Bits} → i < 2 ^ 64 → Took (small_form a i) m t → Took (Small a i) m t
 small_took a i {m} {t} h b = go (either_took b)
   where
-    go : Took (Then (exactly (false ∷ [])) (Field 6 i)) m t ⊎ Took (Then (exactly (true ∷ [])) (IsSemiConstrainedWhole a i)) m t → Took (Small a i) m t
+    go : Took (Then (exactly (false ∷ [])) (BitField 6 i)) m t ⊎ Took (Then (exactly (true ∷ [])) (IsSemiConstrainedWhole a i)) m t → Took (Small a i) m t
     go (inl d) = record { front = d.front; joins = d.joins; spelled = inl d.spelled }
     go (inr d) =
         let q = then_took d in
@@ -51,7 +51,7 @@ small_took a i {m} {t} h b = go (either_took b)
 pub took_small : (a : Settings) (i : ℕ) {m t : Bits} → Took (Small a i) m t → Took (small_form a i) m t
 took_small a i {m} {t} b = go (either_took b)
   where
-    go : Took (Then (exactly (false ∷ [])) (Field 6 i)) m t ⊎ Took (Then (exactly (true ∷ [])) (IsNumber a at_least_zero (pos i))) m t → Took (small_form a i) m t
+    go : Took (Then (exactly (false ∷ [])) (BitField 6 i)) m t ⊎ Took (Then (exactly (true ∷ [])) (IsNumber a at_least_zero (pos i))) m t → Took (small_form a i) m t
     go (inl d) = record { front = d.front; joins = d.joins; spelled = inl d.spelled }
     go (inr d) =
         let q = then_took d in

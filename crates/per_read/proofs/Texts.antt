@@ -5,8 +5,8 @@ use Rattle.rasn_types.specs.Contents.{TextKind, is_text}
 use Rattle.per_core.specs.Basic.{Octets, Proper}
 use Rattle.per_core.specs.Spellings.{Settings, Took, NoneIn}
 use Rattle.per_core.proofs.LengthForms.{same_octets}
-use Rattle.per_core.proofs.Took.{took_map, took_agree}
-use Rattle.per_core.specs.FieldFaults.{IsOfUnconstrained}
+use Rattle.per_core.proofs.TakenInTurn.{took_map, took_agree}
+use Rattle.per_core.specs.BitFieldFaults.{IsOfUnconstrained}
 use Rattle.per_core.specs.SizeFaults.{IsNoText, IsOfText}
 use Rattle.per_core.specs.declared.decode_error.DecodeErrorKind.{DecodeErrorKind}
 use Rattle.per_core.specs.declared.decode_error.DecodeErrorKind.TheVariants.{StringConversionFailed}

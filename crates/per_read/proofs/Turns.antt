@@ -12,13 +12,13 @@ one_bit s (true ∷ []) t n e l m = e ∙ ap (λ z. nat_eq z 1 ∷ t) (sym m)
 one_bit s (false ∷ []) t n e l m = e ∙ ap (λ z. nat_eq z 1 ∷ t) (sym m)
 
 -- a bit at an index
-behind_bit_at : (bits : Bits) (i : ℕ) → i < length bits → NextFlag (drop i bits) (slice_get bits i) (drop (suc i) bits)
-behind_bit_at [] i l = absurd (omega arith)
-behind_bit_at (b ∷ bits) zero l = refl
-behind_bit_at (b ∷ bits) (suc i) l = behind_bit_at bits i (omega arith)
+after_bit_at : (bits : Bits) (i : ℕ) → i < length bits → NextFlag (drop i bits) (slice_get bits i) (drop (suc i) bits)
+after_bit_at [] i l = absurd (omega arith)
+after_bit_at (b ∷ bits) zero l = refl
+after_bit_at (b ∷ bits) (suc i) l = after_bit_at bits i (omega arith)
 
 pub bit_at : (bits : Bits) (i : ℕ) → i < length bits → NextFlag (drop i bits) (slice_get bits i) (drop (i + 1) bits)
-bit_at bits i l = let e : suc i ≡ i + 1 = omega arith in subst (λ (n : ℕ). NextFlag (drop i bits) (slice_get bits i) (drop n bits)) e (behind_bit_at bits i l)
+bit_at bits i l = let e : suc i ≡ i + 1 = omega arith in subst (λ (n : ℕ). NextFlag (drop i bits) (slice_get bits i) (drop n bits)) e (after_bit_at bits i l)
 
 pub none_at : (bits : Bits) (i : ℕ) → length bits ≤ i → drop i bits ≡ []
 none_at [] zero l = refl

@@ -6,7 +6,7 @@ use Rattle.per_core.specs.Spellings.{Settings, Took}
 use Rattle.per_core.specs.Basic.{Octets, IsNumberOf}
 use Rattle.per_core.specs.NumberFaults.{IsUnheld}
 use Rattle.per_core.proofs.LengthForms.{same_octets}
-use Rattle.per_core.proofs.Took.{took_agree, took_map}
+use Rattle.per_core.proofs.TakenInTurn.{took_agree, took_map}
 
 -- the octets of a number
 pub record NumberOctets (a : Settings) (range : Bounds) (z : ℤ) (s t : Bits) : Type 0 where

@@ -1,7 +1,7 @@
 -- What contracts see of a bitmap.
 use Rattle.std.specs.Prelude.{◌≡◌, List, Bool, drop}
 use Rattle.rasn_types.specs.Bits.{Bits}
-use Rattle.per_read.specs.Stands.{LastTaken}
+use Rattle.per_read.specs.TakenPositions.{LastTaken}
 use Rattle.per_read.specs.declared.bitmaps.Flags.{Flags}
 use Rattle.per_read.specs.declared.bitmaps.Flags.TheVariants.{InPlace, Gathered}
 use Rattle.per_read.specs.declared.bitmaps.PresenceBits.{PresenceBits}

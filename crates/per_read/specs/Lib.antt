@@ -1,12 +1,12 @@
 pub mod Options
-pub mod FewOctets
+pub mod OctetFields
 pub mod Items
 pub mod Kinds
 pub mod Lists
 pub mod Numbers
 pub mod Shortages
 pub mod Sizes
-pub mod State
+pub mod ReaderState
 pub mod Strings
 pub mod Takes
 pub mod SmallNumbers
@@ -16,4 +16,4 @@ pub mod Ends
 pub mod Flags
 pub mod OpenTypes
 pub mod Reasons
-pub mod Stands
+pub mod TakenPositions

@@ -10,7 +10,7 @@ use Rattle.per_core.specs.Basic.{Counted, UnconstrainedLength, basic}
 use Rattle.per_core.specs.Counts.{list_items}
 use Rattle.per_core.specs.Spellings.{Settings, Spelling, Then, exactly, never, Took, NoneIn}
 use Rattle.per_core.specs.SizeFaults.{IsOfList, IsOfOpening, Miscounted}
-use Rattle.per_read.specs.State.{State, settings_of}
+use Rattle.per_read.specs.ReaderState.{ReaderState, settings_of}
 use Rattle.per_core.specs.Lengths.{LengthUpTo, UpTo, UpToUnconstrained, WholeFragments}
 use Rattle.per_core.specs.declared.decode_error.DecodeErrorKind.{DecodeErrorKind}
 use Rattle.per_read.specs.declared.lists.UnreadElements.{UnreadElements}
@@ -30,7 +30,7 @@ list_form f = Counted f.settings f.size f.mark list_items f.item
 abbrev pub list_rule : Settings → Size → Bool → Schema → ListRule Value
 list_rule a size mark e = record { settings = a; size = size; mark = mark; item = basic a e }
 
--- X.691 11.9.3.8: items of which n more stand behind a length that was read, and, where `more` says so, others behind a
+-- X.691 11.9.3.8: items of which n more are after a length that was read, and, where `more` says so, others after a
 -- further length
 abbrev pub Rest : {X : Type 0} → Settings → (X → Spelling) → (more : Bool) → ℕ → List X → Spelling
 Rest a item more (suc n) (x ∷ xs) = Then (item x) (Rest a item more n xs)
@@ -39,21 +39,21 @@ Rest a item true zero xs = UnconstrainedLength a item xs
 Rest a item false zero [] = exactly []
 Rest a item false zero (x ∷ xs) = never
 
--- what stands of these in front of a further one, behind xs
+-- what stands of these in front of a further one, after xs
 abbrev pub RestUpTo : {X : Type 0} → Settings → (X → Spelling) → (more : Bool) → ℕ → List X → Spelling
 RestUpTo a item more (suc n) (x ∷ xs) = Then (item x) (RestUpTo a item more n xs)
 RestUpTo a item more (suc n) [] = exactly []
 RestUpTo a item true zero xs = UpToUnconstrained a item xs
 RestUpTo a item false zero xs = never
 
--- what stands of these in front of a further length, behind xs
+-- what stands of these in front of a further length, after xs
 abbrev pub RestUpToLength : {X : Type 0} → Settings → (X → Spelling) → (more : Bool) → ℕ → List X → Spelling
 RestUpToLength a item more (suc n) (x ∷ xs) = Then (item x) (RestUpToLength a item more n xs)
 RestUpToLength a item more (suc n) [] = never
 RestUpToLength a item true zero xs = WholeFragments a item xs
 RestUpToLength a item false zero xs = never
 
--- What is still to be read of a list of items: others behind those that were read, with whose count the size allows
+-- What is still to be read of a list of items: others after those that were read, with whose count the size allows
 -- that of all.
 pub record IsLeft {X : Type 0} (a : Settings) (item : X → Spelling) (before : List X) (l : UnreadElements) (here : Bits)
     (xs : List X) (t : Bits) : Type 0 where
@@ -64,7 +64,7 @@ pub record IsLeft {X : Type 0} (a : Settings) (item : X → Spelling) (before : 
 
 -- A list is open: it began at `start`, the items `before` were read, and the reader is `here`. It is read from its
 -- start on exactly where the rest is read from here on, and the size allows the count of all; a count that the size
--- doesn't allow is its fault; and where a further item or length is to be read, it stands behind others of the list.
+-- doesn't allow is its fault; and where a further item or length is to be read, it is after others of the list.
 pub record AreOpenItems {X : Type 0} (f : ListRule X) (start : Bits) (before : List X) (l : UnreadElements)
     (here : Bits) : Type 0 where
   pub count : l.count ≡ length before
@@ -79,7 +79,7 @@ pub record AreOpenItems {X : Type 0} (f : ListRule X) (start : Bits) (before : L
   pub up_to_length : (xs : List X) (t : Bits) → Took (RestUpToLength f.settings f.item l.more l.left xs) here t
       → Took (LengthUpTo f.settings f.size f.mark f.item (before ++ xs)) start t
 
--- A further item of an open list is to be read here, behind those that were: with it, the list goes on; where none is
+-- A further item of an open list is to be read here, after those that were: with it, the list goes on; where none is
 -- read, the list isn't.
 pub record AwaitsItem {X : Type 0} (f : ListRule X) (start : Bits) (before : List X) (l : UnreadElements)
     (here : Bits) : Type 0 where
@@ -92,7 +92,7 @@ pub record RefusesList {X : Type 0} (f : ListRule X) (start : Bits) (k : DecodeE
   pub says : IsOfList f.settings f.size f.mark f.item start k
   pub none : NoneIn (list_form f) start
 
--- Ok is at a further item, or behind the list; and Err comes only where that isn't read.
+-- Ok is at a further item, or after the list; and Err comes only where that isn't read.
 abbrev pub NextRead : {X : Type 0} → ListRule X → (start : Bits) → (before : List X) → Result Bool DecodeErrorKind
     → UnreadElements → Bits → Type 0
 NextRead f start before (Ok true) l here = AwaitsItem f start before l here
@@ -109,8 +109,8 @@ abbrev pub most : UnreadElements → ℕ
 most l = 2 ^ 64 - l.count
 
 -- A call that opens a list of a size, of whatever elements: an error comes only where none is read.
-pub record OpensList (size : Size) (mark : Bool) (x : State) (result : Result UnreadElements DecodeErrorKind)
-    (y : State) : Type 0 where
+pub record OpensList (size : Size) (mark : Bool) (x : ReaderState) (result : Result UnreadElements DecodeErrorKind)
+    (y : ReaderState) : Type 0 where
   pub ok : IfOk result (λ l. (e : Schema) → AreOpenItems (list_rule (settings_of x) size mark e) x.bits [] l y.bits)
   pub err : IfErr result (λ k. IsOfOpening (settings_of x) size mark x.bits k
       × ((e : Schema) → NoneIn (list_form (list_rule (settings_of x) size mark e)) x.bits))
@@ -119,8 +119,8 @@ pub record OpensList (size : Size) (mark : Bool) (x : State) (result : Result Un
 
 -- A call that takes the length of the next fragment of an open list, where one begins here. The list stays open, and
 -- where no item is left, it has ended.
-pub record BeginsFragment (l : UnreadElements) (x : State) (result : Result (Unit {0}) DecodeErrorKind)
-    (m : UnreadElements) (y : State) : Type 0 where
+pub record BeginsFragment (l : UnreadElements) (x : ReaderState) (result : Result (Unit {0}) DecodeErrorKind)
+    (m : UnreadElements) (y : ReaderState) : Type 0 where
   pub law : (size : Size) (mark : Bool) (e : Schema) (start : Bits) (before : List Value)
       → (let f = list_rule (settings_of x) size mark e in AreOpenItems f start before l x.bits
       → MatchResult result (λ u. AreOpenItems f start before m y.bits) (RefusesList f start))
@@ -129,9 +129,9 @@ pub record BeginsFragment (l : UnreadElements) (x : State) (result : Result (Uni
   pub leaves : OnOk result (Leaves x.bits y.bits)
   pub kept : y.options ≡ x.options
 
--- A call before each element of an open list, and behind the last. Each leaves fewer elements that may be read.
-pub record ReadsNext (l : UnreadElements) (x : State) (result : Result Bool DecodeErrorKind) (m : UnreadElements)
-    (y : State) : Type 0 where
+-- A call before each element of an open list, and after the last. Each leaves fewer elements that may be read.
+pub record ReadsNext (l : UnreadElements) (x : ReaderState) (result : Result Bool DecodeErrorKind) (m : UnreadElements)
+    (y : ReaderState) : Type 0 where
   pub law : (size : Size) (mark : Bool) (e : Schema) (start : Bits) (before : List Value)
       → (let f = list_rule (settings_of x) size mark e in AreOpenItems f start before l x.bits
       → NextRead f start before result m y.bits)

@@ -3,14 +3,14 @@ use lib.Signed.{le_z}
 use Rattle.std.specs.Prelude.{◌≡◌, ℕ, ◌+◌, ◌^◌, ◌≤◌, true, Option, Some, None, ℤ, pos, negsuc}
 use Rattle.rasn_types.specs.Variants.{aligned}
 use Rattle.rasn_constraints.specs.Bounds.{above}
-use Rattle.per_core.specs.Spellings.{Settings, Spelling, Then, When, AnyPadding, Field}
+use Rattle.per_core.specs.Spellings.{Settings, Spelling, Then, When, AnyPadding, BitField}
 use Rattle.per_core.specs.Basic.{constrained_form}
 use Rattle.per_read.specs.declared.numbers.ReadNumber.{ReadNumber}
 use Rattle.per_read.specs.declared.numbers.ReadNumber.TheVariants.{Held, Below, Above}
 
--- X.691 11.5.7: a number of some bits, behind padding
+-- X.691 11.5.7: a number of some bits, after padding
 abbrev pub padded_field : Settings → ℕ → ℕ → Spelling
-padded_field a w o = Then (AnyPadding a) (Field w o)
+padded_field a w o = Then (AnyPadding a) (BitField w o)
 
 -- a fact about the number without sign that was read; none stands for one that no `u128` holds
 abbrev pub OfNatural : (ℕ → Type 0) → Option ℕ → Type 0

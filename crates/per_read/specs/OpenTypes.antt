@@ -4,7 +4,7 @@ use Rattle.rasn_types.specs.Bits.{Bits, unpack}
 use Rattle.per_core.specs.Spellings.{Settings, Spelling}
 use Rattle.per_core.specs.Lengths.{LengthOf}
 use Rattle.per_core.specs.declared.lengths.Length.TheVariants.{Fragment}
-use Rattle.per_read.specs.Stands.{LastTaken}
+use Rattle.per_read.specs.TakenPositions.{LastTaken}
 use Rattle.per_read.specs.declared.open_types.Contents.{Contents}
 use Rattle.per_read.specs.declared.open_types.Contents.TheVariants.{InPlace, Gathered}
 

@@ -1,8 +1,8 @@
--- Why a call refuses that gathers what stands in fragments.
+-- Why a call refuses that gathers what is in fragments.
 use Rattle.std.specs.Prelude.{◌≡◌, ◌⊎◌, ℕ}
 use Rattle.rasn_types.specs.Bits.{Bits}
 use Rattle.per_core.specs.Spellings.{Settings, Spelling, Took}
-use Rattle.per_core.specs.FieldFaults.{Says}
+use Rattle.per_core.specs.BitFieldFaults.{Says}
 use Rattle.per_read.specs.Takes.{Reason}
 use Rattle.per_core.specs.declared.decode_error.DecodeErrorKind.TheVariants.{OutOfMemory}
 

@@ -8,7 +8,7 @@ use Rattle.per_core.specs.Lengths.{coded, Between, under_size}
 use Rattle.per_read.specs.Items.{items_below}
 use Rattle.per_core.specs.declared.items.Item.{Item}
 
--- items of as many bits each, behind a count from lb on, as a constrained whole number of lb to ub
+-- items of as many bits each, after a count from lb on, as a constrained whole number of lb to ub
 abbrev pub items_between : Settings → ℕ → ℕ → Item → List ℕ → Spelling
 items_between a lb ub i = Between a lb ub (counted_of i) (coded i)
 

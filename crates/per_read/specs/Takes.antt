@@ -2,9 +2,9 @@
 use Rattle.std.specs.Prelude.{◌≡◌, ℕ, length, Result, IfOk, IfErr}
 use Rattle.rasn_types.specs.Bits.{Bits}
 use Rattle.per_core.specs.Spellings.{Settings, Spelling, When, exactly, Took, NoneIn}
-use Rattle.per_core.specs.FieldFaults.{IsOfField}
+use Rattle.per_core.specs.BitFieldFaults.{IsOfBitField}
 use Rattle.per_read.specs.Kinds.{IsTested, Refused, Faulty}
-use Rattle.per_read.specs.State.{State, settings_of}
+use Rattle.per_read.specs.ReaderState.{ReaderState, settings_of}
 use Rattle.per_core.specs.declared.decode_error.DecodeErrorKind.{DecodeErrorKind}
 
 -- why a call refuses, where a fact holds of the bits left
@@ -13,7 +13,7 @@ Reason = Settings → Bits → Type 0 → DecodeErrorKind → Type 0
 
 -- bits end within a field of w bits
 abbrev pub lacking : ℕ → Reason
-lacking w a s A k = IsOfField w s k × A
+lacking w a s A k = IsOfBitField w s k × A
 
 -- a kind that tests show
 abbrev pub tested : Reason
@@ -35,7 +35,7 @@ stopped = memory_or (λ a s. IsTested)
 abbrev pub itself : {X : Type 0} → (X → Type 0) → X → Type 0
 itself P v = P v
 
--- what is told by nothing but that it stands there
+-- what is told by nothing but that it is there
 abbrev pub alone : (Settings → Spelling) → Settings → Unit {0} → Spelling
 alone form a u = form a
 
@@ -43,12 +43,12 @@ alone form a u = form a
 abbrev pub Front : ℕ → Bits → Spelling
 Front n bits = When (length bits ≡ n) (exactly bits)
 
--- A call that takes what a form spells: Ok answers what a front of the bits left spells, and the bits behind it are
+-- A call that takes what a form spells: Ok answers what a front of the bits left spells, and the bits after it are
 -- left; Err comes only where no front spells anything, for a reason; and how it reads stays. `of` says what of the form
 -- an answer is.
 pub record Takes {T X : Type 0} (why : Reason) (form : Settings → X → Spelling) (of : (X → Type 0) → T → Type 0)
-    (x : State)
-    (result : Result T DecodeErrorKind) (y : State) : Type 0 where
+    (x : ReaderState)
+    (result : Result T DecodeErrorKind) (y : ReaderState) : Type 0 where
   pub ok : IfOk result (of (λ v. Took (form (settings_of x) v) x.bits y.bits))
   pub err : IfErr result (why (settings_of x) x.bits (NoneIn (form (settings_of x)) x.bits))
   pub kept : y.options ≡ x.options

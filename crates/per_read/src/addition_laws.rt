@@ -19,7 +19,7 @@ pub fn open_type_is_read_of_its_octets()
         → Took (OpenOf a (basic a c) v) s t ↔ ((m ≡ t) × IsWhole a (basic a c v) octets) }
 {}
 
-/// Additions are the first one, as the next bit of the bitmap says, and the others, as the bits behind it say (X.691
+/// Additions are the first one, as the next bit of the bitmap says, and the others, as the bits after it say (X.691
 /// 19.7 to 19.9).
 pub fn additions_are_read_in_turn()
     ensures { (a : Settings) (p : Presence) (c : Schema) (ps : Parts) (xs : List (Option Value)) (s t : Bits)
@@ -28,7 +28,7 @@ pub fn additions_are_read_in_turn()
         ↔ FirstAddition a (rule_of a p c) (rules a ps) xs flag rest s t }
 {}
 
-/// Behind the last of the schema's additions stand those that it doesn't know (X.691 19.9).
+/// After the last of the schema's additions stand those that it doesn't know (X.691 19.9).
 pub fn unknown_additions_stand_last()
     ensures { (a : Settings) (xs : List (Option Value)) (flags : List Bool) (s t : Bits)
         → Took (Additions a [] xs flags) s t ↔ ((xs ≡ []) × Took (Unknown a flags) s t) }

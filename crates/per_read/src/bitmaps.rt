@@ -1,6 +1,6 @@
 //! The bitmap of a record's additions (X.691 19.7, 19.8), and the additions that the schema doesn't know (19.9).
 
-ghost use Rattle.std.specs.Prelude.{◌≡◌, drop};
+ghost use Rattle.std.specs.Prelude.{◌≡◌, drop, IfSome, Ok};
 ghost use Rattle.std.specs.Iterator.{YieldsFirst, item_count};
 ghost use Rattle.per_core.specs.Basic.{IsBitmap};
 ghost use Rattle.per_read.specs.Takes.{Takes, itself, telling};
@@ -8,6 +8,7 @@ ghost use Rattle.per_core.specs.AdditionFaults.{NextFlag, IsOfBitmap, IsOfLargeB
 ghost use Rattle.per_core.specs.AdditionFaults.{skipped_unknown};
 ghost use Rattle.per_read.specs.Bitmaps.{large_bitmap, large_fragments_of, small_bitmap};
 ghost use Rattle.per_read.specs.Flags.{HasFlags};
+ghost use Rattle.per_read.specs.declared.bitmaps.PresenceBits.TheVariants.{InPlace};
 ghost use Rattle.per_read.specs.OpenTypes.{fragments_of};
 ghost use Rattle.per_read.specs.Reasons.{gathering};
 
@@ -24,13 +25,13 @@ use std::marker::Model;
 /// The bitmap of a record's additions: its presence bits, in the order of the additions.
 #[derive(Drop)]
 pub enum PresenceBits {
-    /// They stand in place, behind one length alone, in front of the bits left: how many.
+    /// They stand in place, after one length alone, in front of the bits left: how many.
     InPlace(u128),
     /// Those of the fragments, one after another.
     Gathered(BitString),
 }
 
-/// The presence bits of a record's additions that are still to be read, in the order of the additions. Behind the last
+/// The presence bits of a record's additions that are still to be read, in the order of the additions. After the last
 /// of them no addition is present.
 #[derive(Drop)]
 pub struct Bitmap<'input> {
@@ -65,7 +66,7 @@ impl<'input> Bitmap<'input> {
         }
     }
 
-    /// Presence bits that were gathered, behind the first `read` of them. It takes no memory.
+    /// Presence bits that were gathered, after the first `read` of them. It takes no memory.
     pub fn gathered(bits: BitString, read: usize) -> Self
         ensures { result ≡ drop read bits }
     {
@@ -113,8 +114,8 @@ pub fn next_flag(bits: &BitString, index: &mut usize) -> Option<bool>
     flag
 }
 
-/// Takes the bitmap of a record's additions (X.691 19.7, 19.8, 11.9.3.4): behind a bit 0 its length less one in six
-/// bits, behind a bit 1 an unconstrained length, and then its bits. One of no bits is refused as `EmptyBitmap`. Only
+/// Takes the bitmap of a record's additions (X.691 19.7, 19.8, 11.9.3.4): after a bit 0 its length less one in six
+/// bits, after a bit 1 an unconstrained length, and then its bits. One of no bits is refused as `EmptyBitmap`. Only
 /// one in fragments takes memory.
 pub fn take_bitmap(reader: &mut Reader<'_>) -> Result<PresenceBits, DecodeErrorKind>
     ensures { let why = gathering large_fragments_of IsOfBitmap in
@@ -127,7 +128,8 @@ pub fn take_bitmap(reader: &mut Reader<'_>) -> Result<PresenceBits, DecodeErrorK
     }
 }
 
-/// Takes a bitmap of up to 64 bits, behind its length less one in six bits.
+/// Takes a bitmap of up to 64 bits, after its length less one in six bits.
+#[inline(always)]
 fn take_small_bitmap(reader: &mut Reader<'_>) -> Result<PresenceBits, DecodeErrorKind>
     ensures { let why = telling (λ a. IsOfSmallBitmap) in
         Takes why (λ a. small_bitmap) (HasFlags reader.old.bits reader.new.bits) reader.old result reader.new }
@@ -137,7 +139,7 @@ fn take_small_bitmap(reader: &mut Reader<'_>) -> Result<PresenceBits, DecodeErro
     Ok(PresenceBits::InPlace(more + 1))
 }
 
-/// Takes a bitmap of one bit or more behind an unconstrained length (X.691 11.9.3.5 to 11.9.3.8).
+/// Takes a bitmap of one bit or more after an unconstrained length (X.691 11.9.3.5 to 11.9.3.8).
 fn take_large_bitmap(reader: &mut Reader<'_>) -> Result<PresenceBits, DecodeErrorKind>
     ensures { let why = gathering fragments_of IsOfLargeBitmap in
         Takes why large_bitmap (HasFlags reader.old.bits reader.new.bits) reader.old result reader.new }
@@ -158,7 +160,23 @@ fn take_large_bitmap(reader: &mut Reader<'_>) -> Result<PresenceBits, DecodeErro
     }
 }
 
-/// Skips the additions behind those that the schema knows, of which these are the presence bits (X.691 19.9): an open
+/// Takes a bitmap as `take_bitmap` does, where it is one of up to 64 bits, and answers how many. After `None`, which
+/// says that none is there so, the reader is of no further use. No error is made, and so none needs room.
+#[inline(always)]
+pub fn take_short_bitmap(reader: &mut Reader<'_>) -> Option<u128>
+    ensures { let why = gathering large_fragments_of IsOfBitmap in IfSome result (λ count. Takes why IsBitmap
+        (HasFlags reader.old.bits reader.new.bits) reader.old (Ok (InPlace count)) reader.new) }
+{
+    let Ok(false) = reader.take_bit() else {
+        return None;
+    };
+    let Ok(PresenceBits::InPlace(count)) = take_small_bitmap(reader) else {
+        return None;
+    };
+    Some(count)
+}
+
+/// Skips the additions after those that the schema knows, of which these are the presence bits (X.691 19.9): an open
 /// type for each bit 1. It takes no memory.
 pub fn skip_unknown(reader: &mut Reader<'_>, bitmap: Bitmap<'_>) -> Result<(), DecodeErrorKind>
     ensures { let why = telling (IsOfUnknown bitmap.entry) in

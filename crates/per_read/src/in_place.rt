@@ -3,7 +3,7 @@
 ghost use Rattle.std.specs.Prelude.{◌≡◌, ◌<◌, ◌*◌, [], ◌∷◌, length};
 ghost use Rattle.per_core.specs.Basic.{IsSemiConstrainedWhole, Octets, OneByOne, octet as an_octet};
 ghost use Rattle.per_core.specs.Spellings.{Settings};
-ghost use Rattle.per_core.specs.FieldFaults.{IsOfUnconstrained};
+ghost use Rattle.per_core.specs.BitFieldFaults.{IsOfUnconstrained};
 ghost use Rattle.per_read.specs.Items.{Adds, TakesItems, TookItems};
 ghost use Rattle.per_core.specs.NumberFaults.{IsOfOctets};
 ghost use Rattle.per_read.specs.SmallNumbers.{AppendsOctets, MeansSince, OfIndex};
@@ -27,7 +27,7 @@ pub(crate) fn take_index(reader: &mut Reader<'_>) -> Result<Option<usize>, Decod
     Ok(number)
 }
 
-/// Takes octets behind an unconstrained length (X.691 11.9.3.5 to 11.9.3.8), and appends them to a number, which is
+/// Takes octets after an unconstrained length (X.691 11.9.3.5 to 11.9.3.8), and appends them to a number, which is
 /// `None` from where no `usize` holds it. Answers how many there were.
 fn take_octets_onto(
     reader: &mut Reader<'_>,
@@ -64,7 +64,7 @@ fn take_bare_octets_onto(
     Ok(())
 }
 
-/// A number with `count` octets behind it, which some bits are. `None` is a number that no `usize` holds.
+/// A number with `count` octets after it, which some bits are. `None` is a number that no `usize` holds.
 fn with_octets(number: Option<usize>, octets: BitReader<'_>, count: usize) -> Option<usize>
     requires { length octets.bits ≡ 8 * count }
     ensures { TookItems MeansSince (OneByOne an_octet) count number result octets.entry.bits [] }
@@ -78,7 +78,7 @@ fn with_octets(number: Option<usize>, octets: BitReader<'_>, count: usize) -> Op
     number
 }
 
-/// A number with an octet behind it. `None` is a number that no `usize` holds.
+/// A number with an octet after it. `None` is a number that no `usize` holds.
 fn with_octet(number: Option<usize>, octet: usize) -> Option<usize>
     requires { octet < 256 }
     ensures { Adds MeansSince number (octet ∷ []) result }

@@ -153,7 +153,7 @@ fn octets_of(bits: BitReader<'_>, width: u32, many: usize) -> [u8; 256]
     octets
 }
 
-/// The number that `width` bits of a word mean, with `behind` others behind them.
+/// The number that `width` bits of a word mean, with `behind` others after them.
 fn number_between(word: u64, behind: u32, width: u32) -> u32
     requires behind { behind < 64 }
     requires width { width ≤ 16 }
@@ -234,7 +234,7 @@ impl Collector for BitList<Global> {
 pub(crate) struct Characters<'list, S: StaticPermittedAlphabet> {
     pub(crate) alphabet: ReadAlphabet<'list>,
     pub(crate) string: S,
-    /// Whether a code had no character. The others' characters stand in the string.
+    /// Whether a code had no character. The others' characters are in the string.
     pub(crate) has_unknown: bool,
     ghost own: { (character : ℕ) → has alphabet.characters character ≡ true → has S.alphabet character ≡ true },
 }

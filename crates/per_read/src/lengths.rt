@@ -1,7 +1,7 @@
 //! Counts in front of items: unconstrained lengths and the padding before them (X.691 11.9.3.5 to 11.9.3.8).
 
 ghost use Rattle.per_core.specs.Spellings.{AnyPadding};
-ghost use Rattle.per_core.specs.FieldFaults.{IsOfCount, IsOfLength, IsOfPadding};
+ghost use Rattle.per_core.specs.BitFieldFaults.{IsOfCount, IsOfLength, IsOfPadding};
 ghost use Rattle.per_core.specs.Lengths.{LengthOf, CountOf};
 ghost use Rattle.per_read.specs.Takes.{Takes, alone, itself, telling};
 

@@ -1,12 +1,12 @@
-//! What the packed encoding rules read, bit by bit (ITU-T X.691): whole numbers, lengths, counted strings, what stands
-//! between the elements of a list and what stands behind an extension marker, in every form that a basic decoder takes,
+//! What the packed encoding rules read, bit by bit (ITU-T X.691): whole numbers, lengths, counted strings, what is
+//! between the elements of a list and what is after an extension marker, in every form that a basic decoder takes,
 //! off the front of the bits left.
 #![tactic(auto)]
 
 ghost use Rattle.std.specs.Prelude.{◌≡◌, ◌≤◌};
 ghost use Rattle.per_core.specs.Basic.{Octets, bit};
-ghost use Rattle.per_core.specs.Spellings.{Field};
-ghost use Rattle.per_core.specs.FieldFaults.{IsOfUnconstrained};
+ghost use Rattle.per_core.specs.Spellings.{BitField};
+ghost use Rattle.per_core.specs.BitFieldFaults.{IsOfUnconstrained};
 ghost use Rattle.per_read.specs.Takes.{Front, Takes, itself, lacking, memory_or};
 
 pub mod addition_laws;
@@ -14,12 +14,12 @@ mod ahead;
 mod alphabet;
 pub mod bitmaps;
 pub mod error;
-pub mod few_octets;
 mod in_place;
 mod items;
 pub mod lengths;
 pub mod lists;
 pub mod numbers;
+pub mod octet_fields;
 pub mod open_types;
 mod short_octets;
 pub mod shortages;
@@ -52,9 +52,9 @@ pub struct Reader<'input> {
 }
 
 impl<'input> Model for Reader<'input> {
-    ghost use Rattle.per_read.specs.State.{State};
+    ghost use Rattle.per_read.specs.ReaderState.{ReaderState};
 
-    ghost Value = { State };
+    ghost Value = { ReaderState };
 
     ghost view = { λ r. record { bits = r.bits.bits; options = r.options } };
 }
@@ -106,6 +106,7 @@ impl<'input> Reader<'input> {
     }
 
     /// Takes so many bits, as a reader of their own. Takes no memory.
+    #[inline(always)]
     pub fn take_front(&mut self, count: u128) -> Result<BitReader<'input>, DecodeErrorKind>
         ensures { Takes (lacking count) (λ a. Front count) (λ P front. P front.bits) self.old result
             self.new }
@@ -117,13 +118,13 @@ impl<'input> Reader<'input> {
     #[inline(always)]
     pub fn take_bits(&mut self, width: u128) -> Result<u128, DecodeErrorKind>
         requires { width ≤ 128 }
-        ensures { Takes (lacking width) (λ a. Field width) itself self.old result self.new }
+        ensures { Takes (lacking width) (λ a. BitField width) itself self.old result self.new }
     {
         let front = self.bits.take(width).map_err(missing)?;
         Ok(front.first_bits(width))
     }
 
-    /// Takes octets behind an unconstrained length (X.691 11.9.3.5 to 11.9.3.8).
+    /// Takes octets after an unconstrained length (X.691 11.9.3.5 to 11.9.3.8).
     pub fn take_octets(&mut self) -> Result<Vec<u8>, DecodeErrorKind>
         ensures { Takes (memory_or (λ a. IsOfUnconstrained a 8)) Octets (λ P octets. P octets.items) self.old result
             self.new }

@@ -4,7 +4,7 @@ ghost use Rattle.std.specs.Prelude.{◌≡◌, ◌⊎◌, true, false, Ok, OnOk,
 ghost use Rattle.rasn_constraints.specs.Constraints.{size_between};
 ghost use Rattle.rasn_schema.specs.Forms.{is_size_marked, size_of};
 ghost use Rattle.per_read.specs.Lists.{BeginsFragment, OpensList, ReadsNext};
-ghost use Rattle.per_read.specs.State.{State};
+ghost use Rattle.per_read.specs.ReaderState.{ReaderState};
 
 use crate::Reader;
 use crate::error::DecodeErrorKind;
@@ -14,22 +14,22 @@ use rasn_schema::constraints::{Bounded, Constraints, Extensible};
 /// What is left of an open list.
 #[derive(Drop)]
 pub struct UnreadElements {
-    // What the count of all elements has to meet: no bound behind an extension bit 1.
+    // What the count of all elements has to meet: no bound after an extension bit 1.
     size: Bounded<usize>,
     // How many elements were read.
     count: usize,
-    // How many more stand behind the lengths that were read.
+    // How many more are after the lengths that were read.
     left: usize,
-    // Whether a further length stands behind these.
+    // Whether a further length is after these.
     more: bool,
 }
 
 impl UnreadElements {
-    /// Goes on to the next element where it stands behind a length that was read, as `Reader::next_element` does, which
-    /// then takes no bits. Else nothing changes: no more stand behind such a length, or more than can be counted.
+    /// Goes on to the next element where it is after a length that was read, as `Reader::next_element` does, which
+    /// then takes no bits. Else nothing changes: no more are after such a length, or more than can be counted.
     #[inline(always)]
     pub fn go_on(&mut self) -> bool
-        ensures goes { IsTrue result → (reader : State) → ReadsNext self.old reader (Ok true) self.new reader }
+        ensures goes { IsTrue result → (reader : ReaderState) → ReadsNext self.old reader (Ok true) self.new reader }
         ensures stays { result ≡ false → self.new ≡ self.old }
         ensures none { result ≡ false → (self.old.left ≡ 0) ⊎ (self.old.count ≡ usize.MAX) }
     {
@@ -59,7 +59,7 @@ impl Reader<'_> {
     }
 
     /// Goes on to the next element of an open list, where there is one, which is to be read from here on: takes the
-    /// length of the next fragment, where one begins (X.691 11.9.3.8). Behind the last it answers `false`, or refuses
+    /// length of the next fragment, where one begins (X.691 11.9.3.8). After the last it answers `false`, or refuses
     /// a count that the size doesn't allow. Takes no memory.
     pub fn next_element(&mut self, list: &mut UnreadElements) -> Result<bool, DecodeErrorKind>
         ensures { ReadsNext list.old self.old result list.new self.new }

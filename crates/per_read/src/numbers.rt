@@ -6,16 +6,17 @@ ghost use Rattle.rasn_types.specs.Variants.{aligned};
 ghost use Rattle.rasn_constraints.specs.Bounds.{above};
 ghost use Rattle.per_core.specs.Basic.{InOctets, IsSemiConstrainedWhole, IsUnconstrainedWhole, constrained_by};
 ghost use Rattle.per_core.specs.Basic.{constrained_form};
-ghost use Rattle.per_core.specs.Spellings.{Settings, Field, NoneIn};
-ghost use Rattle.per_core.specs.FieldFaults.{IsOfPadded};
+ghost use Rattle.per_core.specs.Spellings.{Settings, BitField, NoneIn};
+ghost use Rattle.per_core.specs.BitFieldFaults.{IsOfPadded};
 ghost use Rattle.per_read.specs.Numbers.{OfNatural, OfRead, IsAbove, padded_field, between_in_field, in_one_field};
 ghost use Rattle.per_core.specs.NumberFaults.{IsOfOctets, IsOfForm, count_width, IsOfConstrained, IsOfConstrainedBy};
 ghost use Rattle.per_core.specs.NumberFaults.{IsOfCounted, under_bounds};
-ghost use Rattle.per_read.specs.State.{settings_of};
+ghost use Rattle.per_read.specs.ReaderState.{settings_of};
 ghost use Rattle.per_read.specs.Takes.{Takes, itself, lacking, memory_or, telling, tested};
 
 use crate::Reader;
 use crate::error::DecodeErrorKind;
+use per_core::number_forms::NumberForm;
 use rasn_types::integer::whole_of_octets;
 use rasn_types::types::Codec;
 use rasn_types::width::{width_of, width_to};
@@ -32,7 +33,7 @@ pub enum ReadNumber {
 }
 
 impl Reader<'_> {
-    /// Takes a number in the form that bounds give it (X.691 13.2). It may stand outside the bounds.
+    /// Takes a number in the form that bounds give it (X.691 13.2). It may be outside the bounds.
     #[inline(always)]
     pub fn take_number(
         &mut self,
@@ -61,7 +62,7 @@ impl Reader<'_> {
     }
 
     /// Takes a number with both bounds, as `take_number` does, where it is written in one field. After `None`, which
-    /// says that none stands there so, the reader is of no further use. No error is made, and so none needs room.
+    /// says that none is there so, the reader is of no further use. No error is made, and so none needs room.
     #[inline(always)]
     pub fn take_short_between(&mut self, lower: i128, upper: i128) -> Option<ReadNumber>
         ensures took { let form = λ (a : Settings). under_bounds a (Some lower) (Some upper) in
@@ -88,7 +89,7 @@ impl Reader<'_> {
     fn take_unconstrained_whole(&mut self) -> Result<ReadNumber, DecodeErrorKind>
         ensures { Takes (memory_or IsOfOctets) IsUnconstrainedWhole OfRead self.old result self.new }
     {
-        match self.take_few_octets()? {
+        match self.take_octet_field()? {
             Some(octets) => Ok(ReadNumber::Held(octets.signed())),
             None => self.take_long_whole(),
         }
@@ -110,7 +111,7 @@ impl Reader<'_> {
     fn take_semi_constrained_whole(&mut self) -> Result<Option<u128>, DecodeErrorKind>
         ensures { Takes (memory_or IsOfOctets) IsSemiConstrainedWhole OfNatural self.old result self.new }
     {
-        match self.take_few_octets()? {
+        match self.take_octet_field()? {
             Some(octets) => Ok(Some(octets.number)),
             None => self.take_long_natural(),
         }
@@ -142,19 +143,19 @@ impl Reader<'_> {
     }
 
     /// Takes one of the numbers from 0 to `greatest`, as `take_constrained_whole` does, where it is written in one
-    /// field. After `None`, which says that none stands there in one field, the reader is of no further use.
+    /// field. After `None`, which says that none is there in one field, the reader is of no further use.
     #[inline(always)]
     pub fn take_short_whole(&mut self, greatest: u128) -> Option<u128>
         ensures took { let form = λ (a : Settings). constrained_form a (greatest + 1) in
             IfSome result (λ number. Takes tested form itself self.old (Ok number) self.new) }
         ensures none { result ≡ None → NoneIn (in_one_field (settings_of self.old) (greatest + 1)) self.old.bits }
     {
-        match (self.options.codec, greatest) {
+        match (self.options.codec, NumberForm::of(greatest)) {
             (Codec::Uper, _) => self.take_bits(width_to(greatest)).ok(),
-            (Codec::Aper, 0..=254) => self.take_bits(width_to(greatest)).ok(),
-            (Codec::Aper, 255) => self.take_on_octet(8).ok(),
-            (Codec::Aper, 256..=65535) => self.take_on_octet(16).ok(),
-            (Codec::Aper, _) => None,
+            (Codec::Aper, NumberForm::Bits) => self.take_bits(width_to(greatest)).ok(),
+            (Codec::Aper, NumberForm::Octet) => self.take_on_octet(8).ok(),
+            (Codec::Aper, NumberForm::TwoOctets) => self.take_on_octet(16).ok(),
+            (Codec::Aper, NumberForm::Counted) => None,
         }
     }
 
@@ -165,11 +166,11 @@ impl Reader<'_> {
             let form = λ (a : Settings). constrained_by aligned a (greatest + 1) in
             Takes (telling why) form itself self.old result self.new }
     {
-        match greatest {
-            0..=254 => self.take_bits(width_to(greatest)),
-            255 => self.take_on_octet(8),
-            256..=65535 => self.take_on_octet(16),
-            _ => self.take_in_octets(greatest),
+        match NumberForm::of(greatest) {
+            NumberForm::Bits => self.take_bits(width_to(greatest)),
+            NumberForm::Octet => self.take_on_octet(8),
+            NumberForm::TwoOctets => self.take_on_octet(16),
+            NumberForm::Counted => self.take_in_octets(greatest),
         }
     }
 
@@ -186,7 +187,7 @@ impl Reader<'_> {
     /// of its field, up to 15.
     fn take_octet_count(&mut self, greatest: u128) -> Result<u128, DecodeErrorKind>
         ensures taken { let width = count_width (greatest + 1) in
-            Takes (lacking width) (λ a. Field width) itself self.old result self.new }
+            Takes (lacking width) (λ a. BitField width) itself self.old result self.new }
         ensures few { IfOk result (λ more. more < 16) }
     {
         let most = width_of((width_to(greatest) + 7) / 8);

@@ -1,9 +1,9 @@
-//! Open types (X.691 11.2): octets behind an unconstrained length, which are a complete encoding of their own.
+//! Open types (X.691 11.2): octets after an unconstrained length, which are a complete encoding of their own.
 
 ghost use Rattle.std.specs.Prelude.{◌≡◌, ◌%◌, ◌≤◌, length};
 ghost use Rattle.per_core.specs.Basic.{Octets};
 ghost use Rattle.per_core.specs.Spellings.{Settings};
-ghost use Rattle.per_core.specs.FieldFaults.{IsOfUnconstrained};
+ghost use Rattle.per_core.specs.BitFieldFaults.{IsOfUnconstrained};
 ghost use Rattle.per_read.specs.Takes.{Takes, itself, telling};
 ghost use Rattle.per_read.specs.OpenTypes.{HasOctets, fragments_of};
 ghost use Rattle.per_core.specs.AdditionFaults.{skipped_open};
@@ -21,13 +21,13 @@ use rasn_constraints::count::Count;
 /// The octets of an open type.
 #[derive(Drop)]
 pub enum Contents {
-    /// They stand in place, behind one length alone, in front of the bits left: how many bits they are, eight of each.
+    /// They stand in place, after one length alone, in front of the bits left: how many bits they are, eight of each.
     InPlace(u128),
     /// The octets of its fragments, one after another.
     Gathered(Vec<u8>),
 }
 
-/// Takes the octets of an open type (X.691 11.2), behind an unconstrained length. Only those in fragments take memory.
+/// Takes the octets of an open type (X.691 11.2), after an unconstrained length. Only those in fragments take memory.
 #[inline(always)]
 pub fn take_open(reader: &mut Reader<'_>) -> Result<Contents, DecodeErrorKind>
     ensures { let why = gathering fragments_of (λ (a : Settings). IsOfUnconstrained a 8) in
@@ -65,8 +65,9 @@ pub fn skip_open(reader: &mut Reader<'_>) -> Result<(), DecodeErrorKind>
 }
 
 /// Whether what a reader of an open type's contents has left ends a complete encoding (X.691 11.1, 11.2), where the
-/// contents have `total` bits: fewer than eight spare bits behind a value of some bits, or one zero octet for a value
+/// contents have `total` bits: fewer than eight spare bits after a value of some bits, or one zero octet for a value
 /// of none.
+#[inline(always)]
 pub fn end_of_open(reader: &Reader<'_>, total: u128) -> Result<(), DecodeErrorKind>
     requires fits { length reader.now.bits ≤ total }
     requires octets { total % 8 ≡ 0 }

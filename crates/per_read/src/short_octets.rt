@@ -1,4 +1,4 @@
-//! OCTET STRINGs that are skipped without room for an error: those behind no extension bit and in no fragments.
+//! OCTET STRINGs that are skipped without room for an error: those after no extension bit and in no fragments.
 
 ghost use Rattle.std.specs.Prelude.{◌≡◌, ◌<◌, false, None, Ok, IfSome};
 ghost use Rattle.rasn_constraints.specs.Constraints.{size_between};
@@ -10,7 +10,7 @@ ghost use Rattle.per_core.specs.declared.items.Item.TheVariants.{Octet};
 ghost use Rattle.per_read.specs.Items.{HasCount, items_below, sized_items, unconstrained_items};
 ghost use Rattle.per_core.specs.SizeFaults.{IsOfItems};
 ghost use Rattle.per_read.specs.Sizes.{items_between, items_under, unfragmented};
-ghost use Rattle.per_read.specs.State.{settings_of};
+ghost use Rattle.per_read.specs.ReaderState.{settings_of};
 ghost use Rattle.per_read.specs.Takes.{Takes, memory_or, stopped};
 
 use crate::Reader;
@@ -21,7 +21,7 @@ use rasn_schema::constraints::{Bounded, Constraints};
 
 impl Reader<'_> {
     /// Skips an OCTET STRING as `skip_octet_string` does, where it comes without an extension bit and without fragments
-    /// (X.691 17). After `None`, which says that none of fewer than 16384 octets stands there so, the reader is of no
+    /// (X.691 17). After `None`, which says that none of fewer than 16384 octets is there so, the reader is of no
     /// further use. No error is made, and so none needs room.
     #[inline(always)]
     pub fn skip_short_octet_string(&mut self, constraints: &Constraints) -> Option<usize>
@@ -71,7 +71,7 @@ impl Reader<'_> {
         }
     }
 
-    /// Skips octets behind a count from `lower` on, as one of the numbers from `lower` to `upper` (X.691 11.9.3.3), and
+    /// Skips octets after a count from `lower` on, as one of the numbers from `lower` to `upper` (X.691 11.9.3.3), and
     /// answers how many there were.
     #[inline(always)]
     fn skip_between(&mut self, lower: usize, upper: usize) -> Option<usize>
@@ -90,7 +90,7 @@ impl Reader<'_> {
         Some(count)
     }
 
-    /// Skips octets behind an unconstrained length of fewer than 16384 (X.691 11.9.3.5 to 11.9.3.7), and answers how
+    /// Skips octets after an unconstrained length of fewer than 16384 (X.691 11.9.3.5 to 11.9.3.7), and answers how
     /// many there were.
     #[inline(always)]
     fn skip_unfragmented(&mut self) -> Option<usize>

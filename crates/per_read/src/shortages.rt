@@ -8,21 +8,21 @@ ghost use Rattle.rasn_constraints.specs.declared.count.Count.{Count};
 ghost use Rattle.per_core.specs.Basic.{Counted, IsBitmap, IsNumberOf, Octets, Proper, String, bit, constrained_form};
 ghost use Rattle.per_core.specs.Basic.{octet};
 ghost use Rattle.per_core.specs.Counts.{bit_items, octet_items};
-ghost use Rattle.per_core.specs.Spellings.{Field, Settings};
+ghost use Rattle.per_core.specs.Spellings.{BitField, Settings};
 ghost use Rattle.per_core.specs.declared.items.Item.TheVariants.{Bit, Octet};
 ghost use Rattle.per_core.specs.AdditionFaults.{IsOfBitmap};
-ghost use Rattle.per_core.specs.FieldFaults.{IsOfField, IsOfLength, IsOfUnconstrained};
+ghost use Rattle.per_core.specs.BitFieldFaults.{IsOfBitField, IsOfLength, IsOfUnconstrained};
 ghost use Rattle.per_core.specs.Lengths.{LengthOf};
 ghost use Rattle.per_core.specs.NumberFaults.{IsOfConstrained, IsOfNumber};
 ghost use Rattle.per_read.specs.Shortages.{NoneWithin};
 ghost use Rattle.per_core.specs.SizeFaults.{IsOfItems, IsOfString, IsOfText};
 ghost use Rattle.per_core.specs.declared.decode_error.DecodeErrorKind.TheVariants.{Incomplete};
 
-/// Where bits end within a field, a length, a constrained whole number or octets behind a length, none of them is read,
+/// Where bits end within a field, a length, a constrained whole number or octets after a length, none of them is read,
 /// nor with fewer further bits than are said to be missing, in whole octets (X.691 11.3, 11.5, 11.9).
 pub fn fewer_bits_are_no_field()
-    ensures field { (w : ℕ) (m : Count) (s : Bits) → IsOfField w s (Incomplete m)
-        → NoneWithin (Field w) (number_of m) s }
+    ensures field { (w : ℕ) (m : Count) (s : Bits) → IsOfBitField w s (Incomplete m)
+        → NoneWithin (BitField w) (number_of m) s }
     ensures length { (a : Settings) (m : Count) (s : Bits) → IsOfLength a s (Incomplete m)
         → NoneWithin (LengthOf a) (number_of m) s }
     ensures constrained { (a : Settings) (n : ℕ) (m : Count) (s : Bits) → IsOfConstrained a n s (Incomplete m)
@@ -33,7 +33,7 @@ pub fn fewer_bits_are_no_field()
 
 /// The same of a number, a bit string, an octet string, a string of characters and a text (X.691 12, 13, 16, 17, 30).
 pub fn fewer_bits_are_no_value()
-    ensures truth { (m : Count) (s : Bits) → IsOfField 1 s (Incomplete m) → NoneWithin bit (number_of m) s }
+    ensures truth { (m : Count) (s : Bits) → IsOfBitField 1 s (Incomplete m) → NoneWithin bit (number_of m) s }
     ensures number { (a : Settings) (bounds : Bounds) (mark : Bool) (range : Bounds) (m : Count) (s : Bits)
         → IsOfNumber a bounds mark range s (Incomplete m)
         → NoneWithin (IsNumberOf a bounds mark range) (number_of m) s }

@@ -7,13 +7,13 @@ ghost use Rattle.rasn_constraints.specs.Constraints.{start_of, end_of, size_betw
 ghost use Rattle.per_core.specs.Basic.{PaddingIf};
 ghost use Rattle.per_core.specs.Counts.{constrained_between, is_aligned, bits_of, counted_of};
 ghost use Rattle.per_core.specs.Spellings.{Settings, NoneIn};
-ghost use Rattle.per_core.specs.FieldFaults.{IsOfUnconstrained};
+ghost use Rattle.per_core.specs.BitFieldFaults.{IsOfUnconstrained};
 ghost use Rattle.per_read.specs.Items.{unconstrained_items, sized_items, TakesItems};
 ghost use Rattle.per_core.specs.Lengths.{counted_items, CountFrom};
 ghost use Rattle.per_core.specs.NumberFaults.{IsOfConstrained};
 ghost use Rattle.per_read.specs.Sizes.{items_between, items_under};
 ghost use Rattle.per_core.specs.SizeFaults.{IsOfBetween, IsOfItems, IsOfPaddingIf, IsOfUnder};
-ghost use Rattle.per_read.specs.State.{settings_of};
+ghost use Rattle.per_read.specs.ReaderState.{settings_of};
 ghost use Rattle.per_read.specs.Takes.{Takes, alone, itself, memory_or, telling, tested};
 ghost use Rattle.per_core.specs.declared.decode_error.DecodeErrorKind.TheVariants.{SizeConstraintNotSatisfied};
 
@@ -89,7 +89,7 @@ impl Reader<'_> {
     }
 
     /// Takes items as a size has them written, whether it allows their count or not: where both bounds are there and
-    /// the upper is below 65536 behind a constrained whole number, and else behind an unconstrained length (X.691
+    /// the upper is below 65536 after a constrained whole number, and else after an unconstrained length (X.691
     /// 11.9.3.3, 11.9.4.1). Answers how many there were.
     #[inline(always)]
     fn take_under_size<C: Collector>(
@@ -108,7 +108,7 @@ impl Reader<'_> {
         }
     }
 
-    /// Takes items behind a count from `lower` on, as one of the numbers from `lower` to `upper` (X.691 11.9.3.3).
+    /// Takes items after a count from `lower` on, as one of the numbers from `lower` to `upper` (X.691 11.9.3.3).
     /// Answers how many there were.
     #[inline(always)]
     fn take_constrained_items<C: Collector>(
@@ -146,7 +146,7 @@ impl Reader<'_> {
     }
 
     /// Takes a count from `lower` on as `take_constrained_count` does: it is written in one field. After `None`, which
-    /// says that none stands there, the reader is of no further use. No error is made, and so none needs room.
+    /// says that none is there, the reader is of no further use. No error is made, and so none needs room.
     #[inline(always)]
     pub(crate) fn take_short_count(&mut self, lower: usize, upper: usize) -> Option<usize>
         requires { upper < 65536 }
@@ -177,8 +177,8 @@ impl Reader<'_> {
         self.take_padding()
     }
 
-    /// Takes items behind an unconstrained length (X.691 11.9.3.5 to 11.9.3.8): in fragments, as many as there are, and
-    /// then the rest behind a length of its own. Answers how many there were.
+    /// Takes items after an unconstrained length (X.691 11.9.3.5 to 11.9.3.8): in fragments, as many as there are, and
+    /// then the rest after a length of its own. Answers how many there were.
     pub(crate) fn take_unconstrained_items<C: Collector>(
         &mut self,
         items: &mut C,

@@ -8,7 +8,7 @@ use crate::Reader;
 use crate::error::DecodeErrorKind;
 use crate::in_place::take_index;
 
-/// Takes a normally small number: behind a bit 0 six bits, behind a bit 1 a number with the lower bound 0, which
+/// Takes a normally small number: after a bit 0 six bits, after a bit 1 a number with the lower bound 0, which
 /// may be below 64 too. `None` is a number that no `usize` holds.
 pub fn take_small(reader: &mut Reader<'_>) -> Result<Option<usize>, DecodeErrorKind>
     ensures { Takes (telling IsOfSmall) small_form OfIndex reader.old result reader.new }

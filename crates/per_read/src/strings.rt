@@ -69,7 +69,7 @@ impl Reader<'_> {
     }
 
     /// Takes a known-multiplier string under the first size constraint and the first permitted alphabet (X.691 30.5). A
-    /// code without a character is refused behind all characters and their count.
+    /// code without a character is refused after all characters and their count.
     pub fn take_characters<S: StaticPermittedAlphabet>(
         &mut self,
         constraints: &Constraints,

@@ -8,7 +8,7 @@ use Rattle.per_core.specs.Counts.{unconstrained_octets}
 use Rattle.per_core.specs.Versions.{project, widen, IsWidened, Newer, NewerType, unchanged, newer_sequence, no_more, more_parts, also}
 use Rattle.per_core.specs.Writers.{just, ◌▹◌}
 use Rattle.per_core.proofs.Presenting.{octets_within}
-use Rattle.per_core.proofs.Within.{Within, relax, just_within, then_within, left_within, when_within}
+use Rattle.per_core.proofs.WriterSpellings.{Within, relax, just_within, then_within, left_within, when_within}
 use Rattle.per_rows.specs.Build.{uper, numbered, integer, extended}
 use Rattle.per_rows.specs.Samples.{nest, nested}
 use Rattle.per_rows.specs.DeepDefaults.{keyed, longer_keyed, flagged, deeply_flagged}

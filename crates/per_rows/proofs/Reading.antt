@@ -11,11 +11,11 @@ use Rattle.per_core.specs.Counts.{counted, bit_items, bit_writers, octet_writers
 use Rattle.rasn_types.specs.Variants.{Variant}
 use Rattle.per_rows.specs.Build.{numbered, all_required}
 use Rattle.per_core.specs.Spellings.{Settings, ZeroIf, Spelling, AnyPadding, Then, Either, exactly}
-use Rattle.per_core.proofs.Agree.{Agree, weaken, then_agree}
+use Rattle.per_core.proofs.SpellingsAgree.{Agree, weaken, then_agree}
 use Rattle.per_core.proofs.Unique.{fills_agree}
 use Rattle.per_core.specs.Basic.{Fills, fills, front, Octets, octet, bit, Rule, Flags, Bodies, Root, Holds, Open, OpenOf, Additions_in, Record_in, IsBitmap, basic, basic_in, rules}
 use Rattle.per_core.specs.Canon.{bytes, canon}
-use Rattle.per_core.proofs.Within.{Within, relax, just_within, then_within, left_within, right_within, if_within, when_within, field_within, padding_within}
+use Rattle.per_core.proofs.WriterSpellings.{Within, relax, just_within, then_within, left_within, right_within, if_within, when_within, field_within, padding_within}
 use Rattle.per_core.proofs.Counting.{row_within, counted_within}
 use Rattle.per_core.proofs.Presenting.{open_within, octets_within}
 use Rattle.per_core.proofs.Canonical.{canonical}
@@ -106,7 +106,7 @@ not_both a os w y x = fills_agree a os w x y
 pub begins : {g : Spelling} {p : ℕ} {bs front bits : Bits} (spare : Bits) → Then (exactly bs) g p front → bits ≡ front ++ spare → (rest : Bits) × (bits ≡ bs ++ rest)
 begins {bs = bs} spare x e = (x.rest ++ spare, e ∙ ap (λ z. z ++ spare) (x.joins ∙ ap (λ z. z ++ x.rest) x.is_front) ∙ append_assoc bs x.rest spare)
 
--- nothing stands behind what cannot stand
+-- nothing is after what cannot stand
 pub first : {f g h k : Spelling} → Agree ⊥ f g → Agree ⊥ (Then f h) (Then g k)
 first w = weaken (λ r. r.0) (then_agree {Q = ⊥} w (λ r. absurd r))
 

@@ -8,7 +8,7 @@ use Rattle.per_core.specs.Canon.{canon}
 use Rattle.per_core.specs.Counts.{unconstrained_octets}
 use Rattle.per_core.specs.Spellings.{Settings}
 use Rattle.per_core.specs.Writers.{Writer, just, ◌▹◌}
-use Rattle.per_core.proofs.Within.{Within, just_within, then_within, when_within}
+use Rattle.per_core.proofs.WriterSpellings.{Within, just_within, then_within, when_within}
 use Rattle.per_rows.specs.Build.{numbered, all_required, extended}
 use Rattle.per_rows.specs.Samples.{shallow_version}
 use Rattle.per_rows.proofs.Reading.{as_record, as_root, in_place, with_bitmap, any_octets}

@@ -19,8 +19,8 @@ pub fn contents_are_complete_encodings()
         ≡ Some (0x02 ∷ 0x01 ∷ 0x80 ∷ []) }
 {}
 
-/// SEQUENCE { a BOOLEAN, b OCTET STRING (CONTAINING BOOLEAN) }: behind a bit, in APER on the next octet.
-pub fn contents_stand_behind_a_bit()
+/// SEQUENCE { a BOOLEAN, b OCTET STRING (CONTAINING BOOLEAN) }: after a bit, in APER on the next octet.
+pub fn contents_stand_after_a_bit()
     ensures uper { bytes unaligned (sequence (Schema.boolean ∷ Schema.containing Schema.boolean ∷ []))
         (with_all (truth true ∷ truth true ∷ [])) ≡ Some (0x80 ∷ 0xc0 ∷ 0x00 ∷ []) }
     ensures aper { bytes aligned (sequence (Schema.boolean ∷ Schema.containing Schema.boolean ∷ []))

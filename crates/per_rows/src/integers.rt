@@ -88,7 +88,7 @@ pub fn uper_enumerated_addition_is_normally_small()
 {}
 
 /// ENUMERATED of an item and 257 after the extension marker: the place of one below 64 in six bits, and from there on
-/// behind a bit 1 and a length in octets, which in APER begins on an octet boundary (X.691 11.6, 14.3).
+/// after a bit 1 and a length in octets, which in APER begins on an octet boundary (X.691 11.6, 14.3).
 pub fn enumerated_addition_from_64_on_is_written_in_octets()
     ensures below { bytes unaligned (Schema.items 1 257 true) (item added 63) ≡ Some (0xbf ∷ []) }
     ensures uper { bytes unaligned (Schema.items 1 257 true) (item added 64) ≡ Some (0xc0 ∷ 0x50 ∷ 0x00 ∷ []) }

@@ -102,7 +102,7 @@ pub fn default_of_named_bits_ends_with_a_one()
         ∷ [])) }
 {}
 
-/// An addition group is a SEQUENCE, and stands among the additions (X.680, 25.1).
+/// An addition group is a SEQUENCE, and is among the additions (X.680, 25.1).
 pub fn groups_are_sequences_among_additions()
     ensures among { IsLawful outer3 }
     ensures in_the_root { ¬ (IsLawful (sequence_with ((group, sequence_with []) ∷ []))) }

@@ -17,12 +17,12 @@ pub fn uper_integer_is_read_of_superfluous_octets()
     ensures { fills uper integer (whole (pos 5)) (0x02 ∷ 0x00 ∷ 0x05 ∷ []) }
 {}
 
-/// UPER BOOLEAN: spare bits behind the value are read whatever they are (X.691 11.1, 12).
+/// UPER BOOLEAN: spare bits after the value are read whatever they are (X.691 11.1, 12).
 pub fn uper_boolean_is_read_with_any_spare_bits()
     ensures { fills uper Schema.boolean (truth true) (0xff ∷ []) }
 {}
 
-/// UPER BOOLEAN at the beginning of three octets: the value, and the two octets behind it (X.691 11.1, 12).
+/// UPER BOOLEAN at the beginning of three octets: the value, and the two octets after it (X.691 11.1, 12).
 pub fn uper_boolean_is_read_of_a_front()
     ensures { front uper Schema.boolean (truth true) (0x80 ∷ 0xaa ∷ 0xbb ∷ []) (0xaa ∷ 0xbb ∷ []) }
 {}
@@ -86,7 +86,7 @@ pub fn uper_bitmap_of_zeros_is_read()
     ensures nothing_else { fills uper no_additions (extended [] []) (0x80 ∷ 0x00 ∷ []) }
 {}
 
-/// APER: additions that a reader doesn't know are skipped, those behind ones that it knows too (X.691 11.2, 19.9).
+/// APER: additions that a reader doesn't know are skipped, those after ones that it knows too (X.691 11.2, 19.9).
 pub fn aper_unknown_additions_are_skipped()
     ensures all { fills aper outer1 (extended (truth true ∷ truth false ∷ []) []) (0xc0 ∷ 0x70 ∷ 0x04 ∷ 0x80 ∷ 0x01
         ∷ 0x02 ∷ 0x03 ∷ 0x03 ∷ 0x07 ∷ 0x08 ∷ 0x09 ∷ []) }

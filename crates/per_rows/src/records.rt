@@ -31,7 +31,7 @@ pub fn uper_sequence_of_no_bits_is_one_zero_octet()
         ≡ Some (0x00 ∷ []) }
 {}
 
-/// APER OCTET STRING (SIZE (0..3)) between two BOOLEAN: padding stands before octets, and none where there are none
+/// APER OCTET STRING (SIZE (0..3)) between two BOOLEAN: padding is before octets, and none where there are none
 /// (X.691 11.9.3.3).
 pub fn aper_empty_string_has_no_padding()
     ensures empty { bytes aligned empty_middle (with_all (truth true ∷ octets [] ∷ truth true ∷ []))
@@ -40,7 +40,7 @@ pub fn aper_empty_string_has_no_padding()
         ≡ Some (0xa0 ∷ 0x07 ∷ 0x80 ∷ []) }
 {}
 
-/// ENUMERATED of 256 items behind a BOOLEAN: an index in eight bits, in APER on an octet boundary (X.691 14.2).
+/// ENUMERATED of 256 items after a BOOLEAN: an index in eight bits, in APER on an octet boundary (X.691 14.2).
 pub fn index_of_256_items_takes_an_octet()
     ensures uper { bytes unaligned with_item (with_all (truth true ∷ item root 255 ∷ [])) ≡ Some (0xff ∷ 0x80 ∷ []) }
     ensures aper { bytes aligned with_item (with_all (truth true ∷ item root 255 ∷ [])) ≡ Some (0x80 ∷ 0xff ∷ []) }
@@ -77,7 +77,7 @@ pub fn uper_recursive_sequence_with_a_date()
     ensures cut_off { bytes unaligned (dated 128) (dated_value 126) ≡ None }
 {}
 
-/// APER OCTET STRING behind a BOOLEAN: how the upper bound of its size sets the form of its length (X.691 11.5.7,
+/// APER OCTET STRING after a BOOLEAN: how the upper bound of its size sets the form of its length (X.691 11.5.7,
 /// 11.9).
 pub fn aper_length_form_follows_the_upper_bound()
     ensures to_256 { bytes aligned (sequence (Schema.boolean ∷ octet_string (sized 1 256) ∷ []))
@@ -91,14 +91,14 @@ pub fn aper_length_form_follows_the_upper_bound()
         ≡ Some (0x80 ∷ 0x03 ∷ 0x11 ∷ 0x22 ∷ 0x33 ∷ []) }
 {}
 
-/// APER SEQUENCE (SIZE (1..256)) OF BOOLEAN behind a BOOLEAN: a list's items are not aligned (X.691 20).
+/// APER SEQUENCE (SIZE (1..256)) OF BOOLEAN after a BOOLEAN: a list's items are not aligned (X.691 20).
 pub fn aper_list_items_are_not_aligned()
     ensures { bytes aligned (sequence (Schema.boolean ∷ list_of Schema.boolean (sized 1 256) ∷ []))
         (with_all (truth true ∷ list (truth true ∷ truth false ∷ truth true ∷ []) ∷ []))
         ≡ Some (0x80 ∷ 0x02 ∷ 0xa0 ∷ []) }
 {}
 
-/// APER BIT STRING behind a BOOLEAN: a fixed size above 16 bits is aligned, 16 bits are not (X.691 16.9, 16.10).
+/// APER BIT STRING after a BOOLEAN: a fixed size above 16 bits is aligned, 16 bits are not (X.691 16.9, 16.10).
 pub fn aper_fixed_bit_string_is_aligned_past_16_bits()
     ensures bits_24 { bytes aligned (sequence (Schema.boolean ∷ bit_string (sized 24 24) ∷ []))
         (with_all (truth true ∷ bits (unpack (0xab ∷ 0xcd ∷ 0xef ∷ [])) ∷ []))
@@ -107,7 +107,7 @@ pub fn aper_fixed_bit_string_is_aligned_past_16_bits()
         (with_all (truth true ∷ bits (unpack (0xab ∷ 0xcd ∷ [])) ∷ [])) ≡ Some (0xd5 ∷ 0xe6 ∷ 0x80 ∷ []) }
 {}
 
-/// APER INTEGER behind a BOOLEAN: 255 values are not aligned, 257 are two aligned octets (X.691 11.5.7).
+/// APER INTEGER after a BOOLEAN: 255 values are not aligned, 257 are two aligned octets (X.691 11.5.7).
 pub fn aper_integer_is_aligned_past_255_values()
     ensures values_255 { bytes aligned (sequence (Schema.boolean ∷ integer_in (between (pos 0) (pos 254)) ∷ []))
         (with_all (truth true ∷ whole (pos 5) ∷ [])) ≡ Some (0x82 ∷ 0x80 ∷ []) }
@@ -115,7 +115,7 @@ pub fn aper_integer_is_aligned_past_255_values()
         (with_all (truth true ∷ whole (pos 5) ∷ [])) ≡ Some (0x80 ∷ 0x00 ∷ 0x05 ∷ []) }
 {}
 
-/// APER VisibleString behind a BOOLEAN: two characters of a fixed size are not aligned, of a size from 1 to 2 they are
+/// APER VisibleString after a BOOLEAN: two characters of a fixed size are not aligned, of a size from 1 to 2 they are
 /// (X.691 30.5.6, 30.5.7).
 pub fn aper_short_visible_string_is_aligned_where_its_size_varies()
     ensures fixed { bytes aligned (sequence (Schema.boolean ∷ Schema.char_string visible (sized 2 2) false ∷ []))

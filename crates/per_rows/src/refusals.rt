@@ -13,7 +13,7 @@ ghost use Rattle.per_rows.specs.Build.{aper, uper, zero_padded, integer, integer
 ghost use Rattle.per_rows.specs.Build.{minus, octet_string, list_of, sized, sized_to};
 ghost use Rattle.per_rows.specs.Samples.{one_alternative, one_color, x_y_or_z, required_addition, with_group, a_to_e};
 
-/// A complete encoding with more octets behind it is none (X.691 11.1).
+/// A complete encoding with more octets after it is none (X.691 11.1).
 pub fn surplus_octets_are_refused()
     ensures { (a : Settings) (s : Schema) (v w : Value) (os : List ℕ) (o : ℕ) (rest : List ℕ) → bytes a.variant s v
         ≡ Some os → ¬ (fills a s w (os ++ o ∷ rest)) }
@@ -32,7 +32,7 @@ pub fn uper_null_is_one_zero_octet()
     ensures two { (v : Value) → ¬ (fills uper Schema.null v (0x00 ∷ 0x00 ∷ [])) }
 {}
 
-/// UPER BOOLEAN has no octets behind its own, and for a reader that wants zero padding no ones behind its bit (X.691
+/// UPER BOOLEAN has no octets after its own, and for a reader that wants zero padding no ones after its bit (X.691
 /// 11.1, 12).
 pub fn uper_boolean_refuses_what_follows()
     ensures octets { (v : Value) → ¬ (fills uper Schema.boolean v (0x80 ∷ 0xaa ∷ 0xbb ∷ [])) }

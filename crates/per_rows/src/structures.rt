@@ -10,7 +10,7 @@ ghost use Rattle.per_core.specs.Basic.{fills};
 ghost use Rattle.per_rows.specs.Build.{aper, uper, list, list_of, with_all, sized};
 ghost use Rattle.per_rows.specs.Samples.{byte, with_default, with_item, x_y_or_z};
 
-/// UPER SEQUENCE { a INTEGER (0..7) DEFAULT 3 }: presence bit 0 is the default, behind presence bit 1 stands a number
+/// UPER SEQUENCE { a INTEGER (0..7) DEFAULT 3 }: presence bit 0 is the default, after presence bit 1 stands a number
 /// (X.691 19.2, 19.5).
 pub fn uper_default_is_read_of_its_presence_bit()
     ensures absent { fills uper with_default (with_all (whole (pos 3) ∷ [])) (0x00 ∷ []) }
@@ -27,7 +27,7 @@ pub fn uper_choice_is_read_of_its_index()
     ensures no_octets { (v : Value) → ¬ (fills uper x_y_or_z v []) }
 {}
 
-/// ENUMERATED of 256 items behind a BOOLEAN: the last item is read of the last index, in both variants (X.691 14.2).
+/// ENUMERATED of 256 items after a BOOLEAN: the last item is read of the last index, in both variants (X.691 14.2).
 pub fn last_of_256_items_is_read()
     ensures in_uper { fills uper with_item (with_all (truth true ∷ item root 255 ∷ [])) (0xff ∷ 0x80 ∷ []) }
     ensures in_aper { fills aper with_item (with_all (truth true ∷ item root 255 ∷ [])) (0x80 ∷ 0xff ∷ []) }

@@ -74,9 +74,9 @@ impl CodedAlternatives for Alternative {
 
 impl ByKind for Alternative {}
 
-/// The index in one bit, and the value of the alternative behind it (X.691 23.6).
+/// The index in one bit, and the value of the alternative after it (X.691 23.6).
 #[tactic(auto, unfolding(per_core::specs::Rows::bytes, rasn_below::specs::Types::normal))]
-pub fn alternative_is_written_behind_its_index()
+pub fn alternative_is_written_after_its_index()
     ensures first { let own = ⟦<Alternative as AsnType>⟧ in
         IsWrittenAs unaligned (own.schema own.CONSTRAINTS) own.levels own.value (X true) (0x40 ∷ []) }
     ensures second { let own = ⟦<Alternative as AsnType>⟧ in

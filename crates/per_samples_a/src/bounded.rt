@@ -61,7 +61,7 @@ impl Limits for OneToTenExtensibleLimits {
 /// INTEGER (1..10, ...): the extension bit; within the bounds four bits, and else the number as without bounds
 /// (X.691 13.1).
 #[tactic(auto, unfolding(per_core::specs::Rows::bytes, rasn_below::specs::Types::normal))]
-pub fn one_to_ten_extensible_is_written_behind_its_bit()
+pub fn one_to_ten_extensible_is_written_after_its_bit()
     ensures number_5 { let own = ⟦<OneToTenExtensible as AsnType>⟧ in
         IsWrittenAs unaligned (own.schema own.CONSTRAINTS) own.levels own.value
         (record { value = pos 5; limits = record {} }) (0x20 ∷ []) }

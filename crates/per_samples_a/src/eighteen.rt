@@ -80,7 +80,7 @@ impl Record for Eighteen {
     }
 }
 
-/// The presence bits of the last two components stand before all components (X.691 19.2).
+/// The presence bits of the last two components are before all components (X.691 19.2).
 #[tactic(auto, unfolding(per_core::specs::Rows::bytes, rasn_below::specs::Types::normal))]
 pub fn presence_bits_come_before_sixteen()
     ensures there { let own = ⟦<Eighteen as AsnType>⟧ in

@@ -47,7 +47,7 @@ impl Record for Four {
     }
 }
 
-/// The components in turn: a bit, a number behind its count of octets, a bit, and in nine bits how far a number is
+/// The components in turn: a bit, a number after its count of octets, a bit, and in nine bits how far a number is
 /// above its bound; in APER the count, and the nine bits in two octets, stand on a boundary (X.691 11.5.7.3, 19.4).
 #[tactic(auto, unfolding(per_core::specs::Rows::bytes, rasn_below::specs::Types::normal))]
 pub fn four_is_its_components_in_turn()

@@ -8,11 +8,11 @@ ghost use Rattle.per_samples_a.specs.declared.nested.Nested.TheVariants.{Record,
 use crate::nested::Nested;
 use rasn_below::schema::AsnType;
 
-/// The index in two bits, and behind that of the inner choice its own (X.691 23.6).
+/// The index in two bits, and after that of the inner choice its own (X.691 23.6).
 #[tactic(auto, unfolding(
 // Words that these rows unfold.
 per_core::specs::Rows::bytes, rasn_below::specs::Types::normal, rasn_below::specs::Types::settle))]
-pub fn inner_choice_is_written_behind_the_outer_index()
+pub fn inner_choice_is_written_after_the_outer_index()
     ensures record { let own = ⟦<Nested as AsnType>⟧ in
         IsWrittenAs unaligned (own.schema own.CONSTRAINTS) own.levels own.value
         (Record (record { a = true; b = pos 5 })) (0x20 ∷ 0x20 ∷ 0xa0 ∷ []) }

@@ -7,7 +7,7 @@ head_is x y xs ys e = cc
 tail_is : {A : Type 0} (x y : A) (xs ys : List A) → x ∷ xs ≡ y ∷ ys → xs ≡ ys
 tail_is x y xs ys e = cc
 
--- what stands before the place is as it was
+-- what is before the place is as it was
 pub kept_before : {A : Type 0} (i : ℕ) (xs ys : List A) (a : A) → take (suc i) xs ≡ take (suc i) (slice_set ys i a) → take i xs ≡ take i ys
 kept_before zero xs ys a e = refl
 kept_before (suc i) [] [] a e = refl
@@ -25,7 +25,7 @@ read_there zero (x ∷ xs) (y ∷ ys) a h e = ap (λ z. z ∷ xs) (head_is x a [
 read_there (suc i) [] (y ∷ ys) a h e = absurd cc
 read_there (suc i) (x ∷ xs) (y ∷ ys) a h e = read_there i xs ys a (omega (arith, h)) (tail_is x y (take (suc i) xs) (take (suc i) (slice_set ys i a)) e)
 
--- nothing stands behind the last place
-pub none_behind : {A : Type 0} (xs : List A) → drop (length xs) xs ≡ []
-none_behind [] = refl
-none_behind (x ∷ xs) = none_behind xs
+-- nothing is after the last place
+pub none_after : {A : Type 0} (xs : List A) → drop (length xs) xs ≡ []
+none_after [] = refl
+none_after (x ∷ xs) = none_after xs

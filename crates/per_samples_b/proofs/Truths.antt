@@ -14,7 +14,7 @@ takes_no_level None n = omega arith
 takes_no_level (Some b) n = omega arith
 
 module _ {E S : Type 0} {rules : DecoderRules E S} (L : DecodesWell rules) where
-  -- one that was read, and those behind it
+  -- one that was read, and those after it
   pub truths_read : (i k n : ℕ) (ys : List (Option Bool)) (o : Option Bool) {s m : S} (t : S) (result : Result (List (Option Bool)) E) → i < length ys
       → IfOk result (λ xs. take (suc i) xs ≡ take (suc i) (slice_set ys i o)) → ReadsAddition rules optional boolean s (slot_of truth o) m
       → AnswersAdditions rules (parts_of (truths_from (suc i) k) n) (λ xs. map (slot_of truth) (drop (suc i) xs)) m result t

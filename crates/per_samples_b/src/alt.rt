@@ -1,4 +1,4 @@
-//! A CHOICE with a SEQUENCE before its extension marker and behind it.
+//! A CHOICE with a SEQUENCE before its extension marker and after it.
 
 ghost use Rattle.std.specs.Prelude.{refl, []};
 ghost use Rattle.rasn_below.specs.Page.{truth, chosen, chosen_behind, variants_listed};

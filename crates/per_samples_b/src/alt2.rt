@@ -1,4 +1,4 @@
-//! A CHOICE with an extension marker, and one alternative behind it.
+//! A CHOICE with an extension marker, and one alternative after it.
 
 ghost use Rattle.std.specs.Prelude.{refl, []};
 ghost use Rattle.rasn_below.specs.Page.{variants_listed};

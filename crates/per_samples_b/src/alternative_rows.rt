@@ -14,10 +14,10 @@ use crate::several::Several;
 use crate::two_alternatives::TwoAlternatives;
 use rasn_below::AsnType;
 
-/// An alternative of the root stands behind an extension bit 0 and its index (X.691 23.5, 23.6), which has no bits
+/// An alternative of the root is after an extension bit 0 and its index (X.691 23.5, 23.6), which has no bits
 /// where it is the only one.
 #[tactic(auto, unfolding(per_core::specs::Rows::bytes, rasn_below::specs::Types::normal))]
-pub fn root_alternatives_are_written_behind_their_index()
+pub fn root_alternatives_are_written_after_their_index()
     ensures first { let own = ⟦<Alt1 as AsnType>⟧ in
         IsWrittenAs unaligned (own.schema own.CONSTRAINTS) own.levels own.value (first_a true) (0x40 ∷ []) }
     ensures second { let own = ⟦<Alt2 as AsnType>⟧ in
@@ -26,7 +26,7 @@ pub fn root_alternatives_are_written_behind_their_index()
         IsWrittenAs unaligned (own.schema own.CONSTRAINTS) own.levels own.value Nothing (0x40 ∷ []) }
 {}
 
-/// An alternative behind the marker is an extension bit 1, its index as a normally small number, and an open type
+/// An alternative after the marker is an extension bit 1, its index as a normally small number, and an open type
 /// (X.691 23.8).
 #[tactic(auto, unfolding(per_core::specs::Rows::bytes, rasn_below::specs::Types::normal))]
 pub fn added_alternatives_are_open_types()
@@ -40,7 +40,7 @@ pub fn added_alternatives_are_open_types()
         IsWrittenAs aligned (own.schema own.CONSTRAINTS) own.levels own.value Done (0x81 ∷ 0x01 ∷ 0x00 ∷ []) }
 {}
 
-/// One of the root and one behind the marker, in a SEQUENCE: the open type begins where an octet does in the ALIGNED
+/// One of the root and one after the marker, in a SEQUENCE: the open type begins where an octet does in the ALIGNED
 /// variant, and its contents are counted from there.
 #[tactic(auto, unfolding(
 // Words that these rows unfold.

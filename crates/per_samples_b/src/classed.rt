@@ -1,4 +1,4 @@
-//! A CHOICE whose alternatives stand under tags of each class.
+//! A CHOICE whose alternatives are under tags of each class.
 
 ghost use Rattle.std.specs.Prelude.{pos, refl};
 ghost use Rattle.rasn_below.specs.Page.{chosen, nothing, octets, truth, variants_listed, whole};

@@ -1,4 +1,4 @@
-//! A CHOICE of an untagged CHOICE and of types under their own tags, before its extension marker and behind it.
+//! A CHOICE of an untagged CHOICE and of types under their own tags, before its extension marker and after it.
 #![tactic(auto, unfolding(rasn_below::specs::Types::smallest, rasn_below::specs::Types::least_of))]
 
 ghost use Rattle.std.specs.Prelude.{refl};

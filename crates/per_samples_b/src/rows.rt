@@ -45,7 +45,7 @@ pub fn empty_groups_are_absent()
         (record { first = true; group = Some (record { x = None }) }) (0x40 ∷ []) }
 {}
 
-/// A group and an addition behind it.
+/// A group and an addition after it.
 #[tactic(auto, unfolding(per_core::specs::Rows::bytes, rasn_below::specs::Types::normal))]
 pub fn groups_are_open_types()
     ensures aligned { let own = ⟦<Outer3 as AsnType>⟧ in

@@ -1,4 +1,4 @@
-//! A CHOICE with more than one alternative before its extension marker and behind it.
+//! A CHOICE with more than one alternative before its extension marker and after it.
 
 ghost use Rattle.std.specs.Prelude.{refl, []};
 ghost use Rattle.rasn_below.specs.Page.{variants_listed};

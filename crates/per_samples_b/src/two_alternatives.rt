@@ -1,4 +1,4 @@
-//! A SEQUENCE with an alternative before the extension marker of a CHOICE, and one behind it.
+//! A SEQUENCE with an alternative before the extension marker of a CHOICE, and one after it.
 
 ghost use Rattle.std.specs.Prelude.{refl, [], ◌∷◌, Some, pos};
 ghost use Rattle.rasn_below.specs.Page.{truth, whole, fields_of};

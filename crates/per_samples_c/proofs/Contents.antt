@@ -1,4 +1,4 @@
--- What stands in a Nest, by its field.
+-- What is in a Nest, by its field.
 use denote.Hole.Carrier.{out, roll}
 use Rattle.std.proofs.Common.{◌≡◌, refl, Box, Global, Option, Some, None, [], ◌∷◌}
 use Rattle.rasn_below.specs.Values.{sequence_value, slot_of}

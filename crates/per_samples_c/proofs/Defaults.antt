@@ -40,7 +40,7 @@ same_around v w = alike (same (around v) (around w)) (same v w)
     (λ e. let i : around v ≡ around w = same_true (around v) (around w) e in let j : v ≡ w = cc in subst (λ z. same v z ≡ true) j (same_self v))
     (λ e. subst (λ z. same (around v) (around z) ≡ true) (same_true v w e) (same_self (around v)))
 
--- whether the component of a record is left out, or so many levels stand inside the record
+-- whether the component of a record is left out, or so many levels are inside the record
 pub same_absent : (n : ℕ) → nat_eq n 0 ≡ same (sequence_value (None ∷ [])) (nest_with n)
 unfolding nest_with
 same_absent zero = sym (same_self (sequence_value (None ∷ [])))

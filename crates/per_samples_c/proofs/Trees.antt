@@ -1,4 +1,4 @@
--- What stands in a Tree, by its fields.
+-- What is in a Tree, by its fields.
 use denote.Hole.Carrier.{out, roll}
 use Rattle.std.proofs.Common.{◌≡◌, refl, ap, sym, ◌∙◌, ℕ, suc, max, pos, Vec, Global, [], ◌∷◌, map, Some, arith}
 use Rattle.rasn_below.specs.Values.{whole, list_value, sequence_value}

@@ -73,15 +73,15 @@ abbrev mutual
 -- how many levels they take
 abbrev mutual
   pub ping_depth : Ping → ℕ
-  ping_depth (Ping' pong) = behind_ping pong
+  ping_depth (Ping' pong) = after_ping pong
 
-  behind_ping : Held-Ping-pong → ℕ
-  behind_ping Ping-pong-None' = 0
-  behind_ping (Ping-pong-Some' p n) = suc (pong_depth n)
+  after_ping : Held-Ping-pong → ℕ
+  after_ping Ping-pong-None' = 0
+  after_ping (Ping-pong-Some' p n) = suc (pong_depth n)
 
   pub pong_depth : Pong → ℕ
-  pong_depth (Pong' ping) = behind_pong ping
+  pong_depth (Pong' ping) = after_pong ping
 
-  behind_pong : Held-Pong-ping → ℕ
-  behind_pong Pong-ping-None' = 0
-  behind_pong (Pong-ping-Some' p n) = suc (ping_depth n)
+  after_pong : Held-Pong-ping → ℕ
+  after_pong Pong-ping-None' = 0
+  after_pong (Pong-ping-Some' p n) = suc (ping_depth n)

@@ -8,7 +8,7 @@ ghost use Rattle.per_samples_c.specs.declared.choice.Outer.TheVariants.{X, Y, Z}
 use crate::choice::Outer;
 use rasn_below::schema::AsnType;
 
-/// The index in two bits, and behind that of the inner choice its own (X.691 23.6): it is one alternative.
+/// The index in two bits, and after that of the inner choice its own (X.691 23.6): it is one alternative.
 #[tactic(auto, unfolding(
 // Words that these rows unfold.
 per_core::specs::Rows::bytes, rasn_below::specs::Types::normal, rasn_below::specs::Types::settle))]

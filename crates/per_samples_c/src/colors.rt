@@ -41,7 +41,7 @@ impl ByKind for TwoColors {}
 
 /// The extension bit; behind 0 the place in no bits, and behind 1 the place as a normally small number (X.691 14.3).
 #[tactic(auto, unfolding(per_core::specs::Rows::bytes, rasn_below::specs::Types::normal))]
-pub fn added_item_is_written_behind_its_bit()
+pub fn added_item_is_written_after_its_bit()
     ensures root_item { let own = ⟦<TwoColors as AsnType>⟧ in
         IsWrittenAs unaligned (own.schema own.CONSTRAINTS) own.levels own.value A (0x00 ∷ []) }
     ensures added_item { let own = ⟦<TwoColors as AsnType>⟧ in

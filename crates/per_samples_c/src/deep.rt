@@ -28,7 +28,7 @@ const FIELDS: FieldLists = components!(fields);
 /// The tag of the component (AUTOMATIC TAGS).
 const D_TAG: Tag = context_tag!(0);
 
-/// How many levels stand inside the first one of the default.
+/// How many levels are inside the first one of the default.
 const FURTHER: usize = 199;
 
 impl Components for Deep {
@@ -61,7 +61,7 @@ fn is_default(nest: &Nest) -> bool
     has_inside(nest, FURTHER)
 }
 
-/// Whether so many levels stand inside the first one.
+/// Whether so many levels are inside the first one.
 fn has_inside(nest: &Nest, further: usize) -> bool
     ensures { result ≡ same (⟦<Nest as AsnType>⟧.value nest.now) (nest_with further) }
 {

@@ -53,9 +53,9 @@ impl Record for DefaultColor {
     }
 }
 
-/// Components that aren't at their defaults stand behind two presence bits (X.691 19.2, 19.5).
+/// Components that aren't at their defaults are after two presence bits (X.691 19.2, 19.5).
 #[tactic(auto, unfolding(per_core::specs::Rows::bytes, rasn_below::specs::Types::normal))]
-pub fn other_components_stand_behind_their_bits()
+pub fn other_components_stand_after_their_bits()
     ensures none { let own = ⟦<DefaultColor as AsnType>⟧ in
         IsWrittenAs unaligned (own.schema own.CONSTRAINTS) own.levels own.value
         (record { color = A; outer = record { first = true; second = true }; last = true }) (0xce ∷ []) }

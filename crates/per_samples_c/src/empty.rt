@@ -45,7 +45,7 @@ impl Record for MaybeEmpty {
     }
 }
 
-/// The count of octets in two bits; where it is 0 nothing stands behind it, and in APER no padding (X.691 17.8).
+/// The count of octets in two bits; where it is 0 nothing is after it, and in APER no padding (X.691 17.8).
 #[tactic(auto, unfolding(per_core::specs::Rows::bytes, rasn_below::specs::Types::normal))]
 pub fn no_octets_are_their_count()
     ensures none { let own = ⟦<MaybeEmpty as AsnType>⟧ in

@@ -74,7 +74,7 @@ impl Decode for Tree {
     }
 }
 
-/// A tree is its number, in an octet, and its children behind their count (X.691 20.6), in both variants.
+/// A tree is its number, in an octet, and its children after their count (X.691 20.6), in both variants.
 #[tactic(auto, unfolding(
 // Words that these rows unfold.
 per_core::specs::Rows::bytes, rasn_below::specs::Types::normal, rasn_below::specs::Types::settle))]

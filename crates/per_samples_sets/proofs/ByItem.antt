@@ -3,7 +3,7 @@ use Rattle.std.proofs.Common.{◌≡◌, refl, sym, ap, subst, ◌∙◌, ℕ, L
 use Rattle.rasn_below.specs.Values.{Value, truth}
 use Rattle.rasn_below.specs.Components.{fields_in, parts_of}
 use Rattle.rasn_below.specs.Types.{canonised, canonised_slots, in_tag_order, TagTree, smallest, Presence, optional, Schema, no_parts}
-use Rattle.rasn_below.specs.Calls.{Codec, DecoderRules, left_out, Gathers, gathers_end, gathers_gap, gathers_item, IsMade, StandsAt, stands_behind, stands_first}
+use Rattle.rasn_below.specs.Calls.{Codec, DecoderRules, left_out, Gathers, gathers_end, gathers_gap, gathers_item, IsMade, StandsAt, stands_after, stands_first}
 use Rattle.per_samples_sets.specs.Each.{none, set_each, set_each_contents, with_items}
 use Rattle.per_samples_sets.specs.declared.set_each.Item.{Item}
 use Rattle.per_samples_sets.specs.declared.set_each.SetEach.{SetEach}
@@ -18,13 +18,13 @@ slot x = Some (truth x.value)
 -- each component is a BOOLEAN
 pub is_boolean : (n : ℕ) {k : TagTree} {p : Presence} {c : Schema} {i : ℕ} → StandsAt k p c i (parts_of set_each n) → c ≡ Schema.boolean
 is_boolean n stands_first = refl
-is_boolean n (stands_behind stands_first) = refl
-is_boolean n (stands_behind (stands_behind stands_first)) = refl
-is_boolean n (stands_behind (stands_behind (stands_behind h))) = elim h [ ]
+is_boolean n (stands_after stands_first) = refl
+is_boolean n (stands_after (stands_after stands_first)) = refl
+is_boolean n (stands_after (stands_after (stands_after h))) = elim h [ ]
 
 -- there are no additions
-pub none_behind : {k : TagTree} {p : Presence} {c : Schema} {i : ℕ} → StandsAt k p c i no_parts → ⊥
-none_behind h = elim h [ ]
+pub none_after : {k : TagTree} {p : Presence} {c : Schema} {i : ℕ} → StandsAt k p c i no_parts → ⊥
+none_after h = elim h [ ]
 
 -- nothing stands for a component that is left out
 left_out_is : (r : Option Value) → left_out optional ≡ Some r → r ≡ None

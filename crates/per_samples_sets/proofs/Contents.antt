@@ -1,4 +1,4 @@
--- What stands in a Dnest, by its fields.
+-- What is in a Dnest, by its fields.
 use denote.Hole.Carrier.{out, roll}
 use Rattle.std.proofs.Common.{◌≡◌, refl, Box, Global, suc, max, Option, Some, None, [], ◌∷◌}
 use Rattle.jiff.specs.Types.{Date}

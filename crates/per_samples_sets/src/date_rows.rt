@@ -8,9 +8,9 @@ use crate::dnest::Dnest;
 use rasn_below::AsnType;
 use rasn_below::types::Date;
 
-/// The year of a range is behind the index of the range, both constrained; the month and the day are constrained too
+/// The year of a range is after the index of the range, both constrained; the month and the day are constrained too
 /// (X.691 32).
-pub fn years_of_a_range_are_written_behind_its_index()
+pub fn years_of_a_range_are_written_after_its_index()
     ensures near { let own = ⟦<Date as AsnType>⟧ in
         (y m d : _) → IsWrittenAs unaligned (own.schema own.CONSTRAINTS) own.levels own.value
         (record { year = pos 2010; month = 1; day = 1; year_in = y; month_in = m; day_in = d }) (0x14 ∷ 0x00 ∷ []) }
@@ -24,7 +24,7 @@ pub fn years_of_a_range_are_written_behind_its_index()
         (0x40 ∷ 0x03 ∷ 0x1e ∷ 0x00 ∷ []) }
 {}
 
-/// A year of no range is a number without constraints behind the last index (X.691 32).
+/// A year of no range is a number without constraints after the last index (X.691 32).
 pub fn other_years_are_numbers()
     ensures { let own = ⟦<Date as AsnType>⟧ in
         (y m d : _) → IsWrittenAs unaligned (own.schema own.CONSTRAINTS) own.levels own.value
@@ -32,9 +32,9 @@ pub fn other_years_are_numbers()
         (0xc0 ∷ 0x81 ∷ 0x77 ∷ 0x15 ∷ 0xc0 ∷ []) }
 {}
 
-/// Each record has a presence bit for the record inside and one for its DATE (X.691 19.2), which stands behind that
+/// Each record has a presence bit for the record inside and one for its DATE (X.691 19.2), which is after that
 /// record.
-pub fn a_date_stands_behind_the_bits_of_its_level()
+pub fn a_date_stands_after_the_bits_of_its_level()
     ensures nothing { let own = ⟦<Dnest as AsnType>⟧ in
         IsWrittenAs unaligned (own.schema own.CONSTRAINTS) own.levels own.value (Dnest' None' None) (0x00 ∷ []) }
     ensures inside { let own = ⟦<Dnest as AsnType>⟧ in

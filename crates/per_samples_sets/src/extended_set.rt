@@ -1,4 +1,4 @@
-//! A SET with an extension marker, and additions behind it.
+//! A SET with an extension marker, and additions after it.
 #![tactic(auto, unfolding(rasn_below::specs::Types::smallest))]
 
 ghost use Rattle.std.specs.Prelude.{[], ◌∷◌, None, Some, true, pos, refl};
@@ -71,7 +71,7 @@ impl SetRecord for ExtendedSet {
 
 impl ByKind for ExtendedSet {}
 
-/// The root stands in the order of its tags, and the additions as they are listed (X.691 19.7, 21).
+/// The root is in the order of its tags, and the additions as they are listed (X.691 19.7, 21).
 #[tactic(auto, unfolding(per_core::specs::Rows::bytes, rasn_below::specs::Types::normal))]
 pub fn additions_follow_the_root()
     ensures written { let own = ⟦<ExtendedSet as AsnType>⟧ in

@@ -16,7 +16,7 @@ use rasn_below::AsnType;
 per_core::specs::Rows::bytes, rasn_below::specs::Types::normal, per_core::specs::Rows::contents,
 // More words.
 per_core::specs::Rows::subidentifier))]
-pub fn key_is_written_behind_its_index()
+pub fn key_is_written_after_its_index()
     ensures object { let own = ⟦<Connect as AsnType>⟧ in
         IsWrittenAs aligned (own.schema own.CONSTRAINTS) own.levels own.value
         (record { key = Object (0 ∷ 0 ∷ 20 ∷ 124 ∷ 0 ∷ 1 ∷ []); pdu = 0 ∷ 1 ∷ 2 ∷ 3 ∷ [] })
@@ -26,7 +26,7 @@ pub fn key_is_written_behind_its_index()
         (record { key = Other (0x7f ∷ []); pdu = [] }) (0x80 ∷ 0x01 ∷ 0x7f ∷ 0x00 ∷ []) }
 {}
 
-/// The members of a bag stand in the order of their encodings, behind their count in two bits (X.691 22, 11.5.7).
+/// The members of a bag stand in the order of their encodings, after their count in two bits (X.691 22, 11.5.7).
 #[tactic(auto, unfolding(
 // Words that these rows unfold.
 per_core::specs::Rows::bytes, rasn_below::specs::Types::normal, rasn_below::specs::Types::over_bag,
@@ -39,12 +39,12 @@ pub fn members_are_written_in_order()
         (0x01 ∷ 0x55 ∷ 0x80 ∷ 0x01 ∷ 0x01 ∷ 0x01 ∷ 0x02 ∷ 0x01 ∷ 0x03 ∷ []) }
 {}
 
-/// Strings of any octets and a value whose type isn't known have a length in front (X.691 30.6, 11.2), behind the
+/// Strings of any octets and a value whose type isn't known have a length in front (X.691 30.6, 11.2), after the
 /// presence bit.
 #[tactic(auto, unfolding(
 // Words that these rows unfold.
 per_core::specs::Rows::bytes, rasn_below::specs::Types::normal, rasn_below::specs::Types::settle))]
-pub fn texts_are_octets_behind_their_lengths()
+pub fn texts_are_octets_after_their_lengths()
     ensures { let own = ⟦<SomeTexts as AsnType>⟧ in
         IsWrittenAs aligned (own.schema own.CONSTRAINTS) own.levels own.value
         (record { title = 0x41 ∷ []; figure = []; note = Some (0xff ∷ []); rest = 0x05 ∷ 0x00 ∷ [] })

@@ -9,7 +9,7 @@ use crate::set_choice::SetChoice;
 use crate::set_optional::SetOptional;
 use rasn_below::AsnType;
 
-/// The component with the smaller tag stands first (X.691 21.1), and padding is decided in that order.
+/// The component with the smaller tag is first (X.691 21.1), and padding is decided in that order.
 #[tactic(auto, unfolding(
 // Words that these rows unfold.
 per_core::specs::Rows::bytes, rasn_below::specs::Types::normal, rasn_below::specs::Types::smallest))]
@@ -22,7 +22,7 @@ pub fn components_are_in_the_order_of_their_tags()
         (record { b = 5; a = true }) (0x82 ∷ 0x80 ∷ []) }
 {}
 
-/// Presence bits stand in the order of the tags, too (X.691 21.1).
+/// Presence bits are in the order of the tags, too (X.691 21.1).
 #[tactic(auto, unfolding(
 // Words that these rows unfold.
 per_core::specs::Rows::bytes, rasn_below::specs::Types::normal, rasn_below::specs::Types::smallest))]

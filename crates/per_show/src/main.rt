@@ -1,7 +1,7 @@
 //! Reads a value of a type in hexadecimal and prints it as JSON (X.697).
 //!
 //! `per_show --schema FILE (aper|uper) TYPE` takes the type from a schema file (`docs/SCHEMA-FILE.md`), and without a
-//! file from those that are built in. It reads the first line of its standard input. With `lines` behind the type it
+//! file from those that are built in. It reads the first line of its standard input. With `lines` after the type it
 //! replies to every line: by the JSON, or by `! `, why there is none, and where. With `--pretty` at the end the JSON is
 //! indented.
 //! `per_show --help` names the types that are built in, and `per_show -h` the words with a schema file.
@@ -26,7 +26,7 @@ fn main(rt: HostRuntime) -> ExitCode {
         }
         Ok(words) => run(
             rt.alloc(),
-            behind_name(words.as_slice()),
+            after_name(words.as_slice()),
             &mut rt.reader(),
             &mut rt.stdout(),
             &mut faults,
@@ -45,7 +45,7 @@ fn has_schema(words: &[String]) -> bool {
 }
 
 /// The words after the program's name.
-fn behind_name(words: &[String]) -> &[String] {
+fn after_name(words: &[String]) -> &[String] {
     match words {
         [_, behind @ ..] => behind,
         [] => words,

@@ -21,7 +21,7 @@ codec_is_word : (c : Codec) → IsWord (codec_word c)
 codec_is_word Aper = longer_word 97 (codes "per") (omega arith) per_is_word
 codec_is_word Uper = longer_word 117 (codes "per") (omega arith) per_is_word
 
--- the first blank of a request stands behind the variant
+-- the first blank of a request is after the variant
 pub first_cut : (c : Codec) (line name digits : List ℕ) (r : Option (Bor (List ℕ) × Bor (List ℕ))) → IsSplitOnceResult 32 line r →
     IsRequest line c name digits → MatchOption r ⊥ (λ x. (x.0.now ≡ codec_word c) × (x.1.now ≡ name ++ 32 ∷ digits))
 first_cut c line name digits r h q = split_after 32 line (codec_word c) (name ++ 32 ∷ digits) r h (omega arith) q.are_words (codec_is_word c)

@@ -38,7 +38,7 @@ enum Reading {
     Prefixed,
 }
 
-/// The second and the third component of a `SomeAbsent`, of which the first is true, behind an explicit tag.
+/// The second and the third component of a `SomeAbsent`, of which the first is true, after an explicit tag.
 type Both = (Option<u8>, u8);
 
 /// Calls, components, and the octets of their complete encoding: two bits of presence, the bit of TRUE, and those of

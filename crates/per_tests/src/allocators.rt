@@ -16,7 +16,7 @@ fn put<E: AnyEncoder>(encoder: &mut E) -> Result<(), E::Error> {
     encoder.encode_bool(Tag::BOOL, true, Identifier::EMPTY)
 }
 
-/// The octets of TRUE by an encoder over a list, and those of what is left behind it.
+/// The octets of TRUE by an encoder over a list, and those of what is left after it.
 fn outputs_of(list: BitList<Global>) -> Result<(Vec<u8>, Vec<u8>), EncodeError> {
     let mut encoder = Encoder::new_with_output(EncoderOptions::unaligned(), list);
     put(&mut encoder)?;

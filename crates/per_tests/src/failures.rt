@@ -21,7 +21,7 @@ use rasn_below::{Constraints, constraints};
 use std::alloc::Global;
 use std::process::Abort;
 
-/// Why a decoder refuses a type, and the call behind it.
+/// Why a decoder refuses a type, and the call after it.
 fn unread<T: Decode, D: AnyDecoder>(decoder: &mut D) -> (Option<D::Error>, Option<D::Error>) {
     let first = T::decode(decoder).err();
     (first, decoder.decode_null(Tag::NULL).err())
@@ -46,7 +46,7 @@ fn expect_unread<T: Decode>(rt: &impl Abort, alloc: Global, octets: &[u8], name:
 }
 
 #[test]
-fn reads_nothing_behind_what_is_no_number(rt: HostRuntime) {
+fn reads_nothing_after_what_is_no_number(rt: HostRuntime) {
     expect_unread::<i128>(&rt, rt.alloc(), &[0x02, 0x10], "Incomplete");
     expect_unread::<i128>(&rt, rt.alloc(), &[0x00], "UnexpectedEmptyInput");
     expect_unread::<i128>(&rt, rt.alloc(), &[0xc0], "ParserFail");
@@ -62,7 +62,7 @@ const PAST_128_BITS: &[u8] = &[
 ];
 
 #[test]
-fn reads_nothing_behind_what_is_no_text_or_list(rt: HostRuntime) {
+fn reads_nothing_after_what_is_no_text_or_list(rt: HostRuntime) {
     expect_unread::<Nulls>(&rt, rt.alloc(), &[0x96, 0x00], "SizeConstraintNotSatisfied");
     expect_unread::<LettersAToE>(&rt, rt.alloc(), &[0x0f, 0x00], "PermittedAlphabet");
     expect_unread::<Utf8String>(
@@ -74,7 +74,7 @@ fn reads_nothing_behind_what_is_no_text_or_list(rt: HostRuntime) {
 }
 
 #[test]
-fn reads_nothing_behind_what_is_no_record_or_choice(rt: HostRuntime) {
+fn reads_nothing_after_what_is_no_record_or_choice(rt: HostRuntime) {
     expect_unread::<Outer>(&rt, rt.alloc(), &[0xc0], "ChoiceIndexNotFound");
     expect_unread::<OneNeeded>(&rt, rt.alloc(), &[0x00], "RequiredExtensionNotPresent");
     expect_unread::<Grouped>(&rt, rt.alloc(), &[0xe0, 0x00], "ParserFail");
@@ -86,7 +86,7 @@ fn reads_nothing_behind_what_is_no_record_or_choice(rt: HostRuntime) {
 const EXTRA_OCTET: &[u8] = &[0xc0, 0x40, 0x80, 0x00, 0x00];
 
 #[test]
-fn reads_nothing_behind_what_is_no_day_or_alternative(rt: HostRuntime) {
+fn reads_nothing_after_what_is_no_day_or_alternative(rt: HostRuntime) {
     expect_unread::<Date>(&rt, rt.alloc(), &[0x14, 0x7a], "InvalidDate");
     expect_unread::<UtcTime>(&rt, rt.alloc(), &[0x00], "Below");
     expect_unread::<Alt1>(
@@ -118,7 +118,7 @@ fn refusal_to_take<D: AnyDecoder>(decoder: &mut D, taking: Taking) -> Option<D::
     }
 }
 
-/// Why a decoder refuses a call out of turn, and the call behind it.
+/// Why a decoder refuses a call out of turn, and the call after it.
 fn untaken<D: AnyDecoder>(decoder: &mut D, taking: Taking) -> (Option<D::Error>, Option<D::Error>) {
     let first = refusal_to_take(decoder, taking);
     (first, decoder.decode_null(Tag::NULL).err())
@@ -131,7 +131,7 @@ fn expect_untaken(rt: &impl Abort, alloc: Global, taking: Taking, name: &str) {
 }
 
 #[test]
-fn reads_nothing_behind_a_call_out_of_turn(rt: HostRuntime) {
+fn reads_nothing_after_a_call_out_of_turn(rt: HostRuntime) {
     expect_untaken(&rt, rt.alloc(), Taking::Presence, "MissingTag");
     expect_untaken(&rt, rt.alloc(), Taking::Addition, "TypeNotExtensible");
     expect_untaken(&rt, rt.alloc(), Taking::Real, "RealNotSupported");
@@ -229,7 +229,7 @@ fn refusal_to_put<E: AnyEncoder>(
     }
 }
 
-/// Why an encoder refuses a call, and the call behind it.
+/// Why an encoder refuses a call, and the call after it.
 fn unput<E: AnyEncoder>(
     alloc: Global,
     encoder: &mut E,
@@ -253,7 +253,7 @@ fn expect_unwritten(rt: &impl Abort, alloc: Global, putting: Putting, name: &str
 }
 
 #[test]
-fn writes_nothing_behind_a_value_that_it_refused(rt: HostRuntime) {
+fn writes_nothing_after_a_value_that_it_refused(rt: HostRuntime) {
     let alloc = rt.alloc();
     expect_unwritten(&rt, alloc, Putting::Number, "ValueConstraintNotSatisfied");
     expect_unwritten(&rt, alloc, Putting::Octets, "SizeConstraintNotSatisfied");
@@ -261,7 +261,7 @@ fn writes_nothing_behind_a_value_that_it_refused(rt: HostRuntime) {
 }
 
 #[test]
-fn writes_nothing_behind_what_has_no_encoding(rt: HostRuntime) {
+fn writes_nothing_after_what_has_no_encoding(rt: HostRuntime) {
     let alloc = rt.alloc();
     expect_unwritten(
         &rt,
@@ -275,7 +275,7 @@ fn writes_nothing_behind_what_has_no_encoding(rt: HostRuntime) {
 }
 
 #[test]
-fn writes_nothing_behind_a_call_out_of_turn(rt: HostRuntime) {
+fn writes_nothing_after_a_call_out_of_turn(rt: HostRuntime) {
     expect_unwritten(&rt, rt.alloc(), Putting::Presence, "OutOfTurn");
     expect_unwritten(&rt, rt.alloc(), Putting::Addition, "TooManyAdditions");
 }

@@ -8,7 +8,7 @@ use std::alloc::Global;
 use std::process::Abort;
 use std::test::Fail;
 
-/// A bit 1 and an octet a5 behind a length, from each place of an octet on, in the aligned variant: the greatest number
+/// A bit 1 and an octet a5 after a length, from each place of an octet on, in the aligned variant: the greatest number
 /// of so many bits as stand before, then the bit, zeros up to the next octet, and 01 a5.
 const PLACES: &[(u8, &[u8])] = &[
     (0, &[0x80, 0x01, 0xa5]),
@@ -44,8 +44,8 @@ fn put_zeros(writer: &mut Writer<Global>, greatest: u8) -> Result<(), EncodeErro
     writer.put_number(Some(0), Some(i128::from(greatest)), 0)
 }
 
-/// What is written with the contents behind what stands there.
-fn put_behind(
+/// What is written with the contents after what is there.
+fn put_after(
     writer: &mut Writer<Global>,
     contents: &Pieces<Global>,
 ) -> Result<Vec<u8>, EncodeError> {
@@ -64,29 +64,29 @@ fn put_opened(
     writer.output()
 }
 
-/// The octets of contents behind what stands there, and in an open type.
+/// The octets of contents after what is there, and in an open type.
 type Octets = (Vec<u8>, Vec<u8>);
 
-/// What is written with the contents behind the zeros of a number, and then in an open type.
+/// What is written with the contents after the zeros of a number, and then in an open type.
 fn put_both(
     writer: &mut Writer<Global>,
     contents: Pieces<Global>,
     greatest: u8,
 ) -> Result<Octets, EncodeError> {
     put_zeros(writer, greatest)?;
-    let behind = put_behind(writer, &contents)?;
+    let behind = put_after(writer, &contents)?;
     let opened = put_opened(writer, contents)?;
     Ok((behind, opened))
 }
 
-/// The contents behind the zeros of a number, written before these, and in an open type.
+/// The contents after the zeros of a number, written before these, and in an open type.
 fn written_before(alloc: Global, codec: Codec, greatest: u8) -> Result<Octets, EncodeError> {
     let mut writer = Writer::new(alloc, codec);
     let contents = contents_of(&mut writer)?;
     put_both(&mut writer, contents, greatest)
 }
 
-/// The contents are these behind the zeros of a number, and in an open type these.
+/// The contents are these after the zeros of a number, and in an open type these.
 fn expect_written(
     rt: &(impl Abort + AllocGlobal),
     codec: Codec,

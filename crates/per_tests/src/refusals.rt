@@ -116,7 +116,7 @@ fn lists() -> [Row; 2] {
                 upper: Some(300),
             }),
         ),
-        // behind a fragment a further length stands
+        // after a fragment a further length stands
         (
             constraints!(),
             &[0xc1],

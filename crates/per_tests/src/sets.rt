@@ -1,4 +1,4 @@
-//! SETs written by a closure in the order of `FIELDS`: their components come to stand in ascending order of their tags
+//! SETs written by a closure in the order of `FIELDS`: their components come to be in ascending order of their tags
 //! (X.691 21.1), and a SET of a component fewer or more is refused.
 
 use crate::calls::{Part, encoding_of};
@@ -13,7 +13,7 @@ use std::alloc::Global;
 
 const NONE: Identifier = Identifier::EMPTY;
 
-/// The component b and then the component a, with so many more behind them, or fewer.
+/// The component b and then the component a, with so many more after them, or fewer.
 fn put_set<E: AnyEncoder>(encoder: &mut E, count: usize) -> Result<(), E::Error> {
     encoder.encode_set::<AsSet<Set>, _, _>(
         Tag::SET,

@@ -153,7 +153,7 @@ fn writes_neither_fewer_nor_more(rt: HostRuntime) {
 }
 
 #[test]
-fn goes_on_in_no_list_before_its_element_or_behind_two(rt: HostRuntime) {
+fn goes_on_in_no_list_before_its_element_or_after_two(rt: HostRuntime) {
     let lists: [&'static [usize]; 4] = [&[0], &[2], &[0, 2], &[1, 2, 0]];
     for counts in lists {
         let refused = written_of(rt.alloc(), &InList(counts)).err();
@@ -336,7 +336,7 @@ fn reads_neither_fewer_nor_more(rt: HostRuntime) {
 }
 
 #[test]
-fn reads_an_element_behind_each_call(rt: HostRuntime) {
+fn reads_an_element_after_each_call(rt: HostRuntime) {
     let octets = [0x03, 0xe0];
     assert!(rt; take_list(&mut unaligned(rt.alloc(), &octets), &[1, 1, 1]).is_ok());
     let lists: [&'static [usize]; 4] = [&[0], &[2], &[0, 2], &[1, 2, 0]];

@@ -5,7 +5,7 @@ use Rattle.rasn_schema.specs.Levels.{Levelled}
 use Rattle.rasn_schema.specs.Schemas.{Schema}
 use Rattle.per_core.specs.Basic.{fills_known, read}
 use Rattle.per_core.specs.Spellings.{Settings}
-use Rattle.per_laws.specs.Named.{NewerTypeButForNames}
+use Rattle.per_laws.specs.NamedBits.{NewerTypeButForNames}
 use Rattle.per_laws.proofs.Levelled.{levelled_type_unfolds}
 use Rattle.per_laws.proofs.Nameless
 use Rattle.per_versions.specs.Readings.{depth_of, IsProjection, IsWidening}

@@ -13,7 +13,7 @@ use Rattle.per_laws.proofs.AnyDepth.{project_alike}
 use Rattle.per_laws.proofs.Successors.{newer_succeeds}
 use Rattle.per_laws.proofs.Types.{up_to}
 use Rattle.per_laws.proofs.Wider.{wider, narrower}
-use Rattle.per_laws.proofs.FewVersions.{levelled_holds}
+use Rattle.per_laws.proofs.VersionsAt128Levels.{levelled_holds}
 use Rattle.per_laws.proofs.Levelled.{levelled_type_unfolds}
 use Rattle.per_laws.proofs.NormalForms.{one_normal_form}
 use Rattle.rasn_per.specs.Calls.{AreBytes, HasNoBytes}

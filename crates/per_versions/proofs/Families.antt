@@ -6,7 +6,7 @@ use Rattle.rasn_schema.specs.Lists.{list_at}
 use Rattle.rasn_schema.specs.Records.{record_at}
 use Rattle.rasn_schema.specs.Schemas.{Order, Parts, Schema}
 use Rattle.per_core.specs.WritingFaults.{has_bound}
-use Rattle.per_versions.specs.Kept.{KeepsToI128, are_in_i128, ends_in_i128, keep_to_i128, keeps_to_i128, starts_in_i128}
+use Rattle.per_versions.specs.NumbersKept.{KeepsToI128, are_in_i128, ends_in_i128, keep_to_i128, keeps_to_i128, starts_in_i128}
 
 both : (b c : Bool) → b ≡ true → c ≡ true → (b && c) ≡ true
 both b c e f = cc

@@ -11,7 +11,7 @@ use Rattle.per_core.specs.Basic.{read}
 use Rattle.per_core.specs.Spellings.{Settings}
 use Rattle.per_laws.proofs.Readers.{deeper_reads}
 use Rattle.per_laws.proofs.Types.{up_to}
-use Rattle.per_laws.proofs.FewVersions.{levelled_holds}
+use Rattle.per_laws.proofs.VersionsAt128Levels.{levelled_holds}
 use Rattle.per_laws.proofs.Levelled.{levelled_type_unfolds}
 use Rattle.per_core.specs.WritingFaults.{IsInValue}
 use Rattle.per_core.specs.declared.encode_error.EncodeError.{EncodeError}
@@ -23,9 +23,9 @@ use Rattle.per_core.specs.declared.encode_error.EncodeErrorKind.TheVariants.{Int
 use Rattle.per_core.specs.declared.encode_error.EncodeErrorKind.TheVariants.{VariantNotInChoice, RealNotSupported}
 use Rattle.per_core.specs.declared.encode_error.EncodeErrorKind.TheVariants.{TooManyAdditions, Below, AlreadyFailed}
 use Rattle.per_core.specs.declared.encode_error.EncodeErrorKind.TheVariants.{OutOfMemory, OutOfTurn, WrongKind}
-use Rattle.per_versions.specs.Kept.{KeepsToI128}
+use Rattle.per_versions.specs.NumbersKept.{KeepsToI128}
 use Rattle.per_versions.proofs.Faultless.{one_fault, no_fault, read_whole}
-use Rattle.per_versions.proofs.Read.{IsRead}
+use Rattle.per_versions.proofs.PartsRead.{IsRead}
 use Rattle.rasn_per.specs.Calls.{Encoded, AreBytes}
 use Rattle.per_versions.specs.Answers.{Passes}
 use Rattle.per_versions.specs.Readings.{depth_of}

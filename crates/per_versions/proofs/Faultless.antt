@@ -1,4 +1,4 @@
--- No fault for which an encoder refuses a value stands in what was read.
+-- No fault for which an encoder refuses a value is in what was read.
 use Rattle.std.proofs.Common.{◌≡◌, refl, sym, ap, subst, ◌∙◌, ℕ, zero, suc, ◌<◌, ◌-◌, ◌^◌, ◌⊎◌, Bool, true, false, cond, not, ◌&&◌, ◌||◌, ltb, List, [], ◌∷◌, map, length, get_or, inl, inr, Option, Some, None, ℤ, pos, negsuc, arith, le-leb, leb-true, leb}
 use Rattle.std.proofs.Math.Nat.{le_trans}
 use lib.Signed.{le_z}
@@ -21,7 +21,7 @@ use Rattle.per_core.specs.Counts.{char_items}
 use Rattle.per_core.specs.Spellings.{Settings}
 use Rattle.per_core.proofs.Counting.{length-map'}
 use Rattle.per_core.proofs.LengthForms.{and_left, and_right}
-use Rattle.per_core.specs.FewItems.{Each}
+use Rattle.per_core.specs.ItemCounts.{Each}
 use Rattle.per_core.specs.WritingFaults.{IsInValue, Outside, OutsideSize, IsPast, has_bound, HasForeign, IsOutOfBounds}
 use Rattle.per_core.specs.WritingFaults.{IsPastBounds, IsOutOfSize, IsForeign, IsUnlawful, IsReal, IsAbsent, IsOther}
 use Rattle.per_core.specs.WritingFaults.{StandsIn, at_once, in_part, in_addition, in_set, in_contents, in_element}
@@ -34,15 +34,15 @@ use Rattle.per_core.specs.declared.encode_error.EncodeErrorKind.TheVariants.{Int
 use Rattle.per_core.specs.declared.encode_error.EncodeErrorKind.TheVariants.{VariantNotInChoice, RealNotSupported}
 use Rattle.per_core.specs.declared.encode_error.EncodeErrorKind.TheVariants.{TooManyAdditions, Below, AlreadyFailed}
 use Rattle.per_core.specs.declared.encode_error.EncodeErrorKind.TheVariants.{OutOfMemory, OutOfTurn, WrongKind}
-use Rattle.per_versions.specs.Kept.{starts_in_i128, ends_in_i128, are_in_i128, keeps_numbers, keeps_to_i128}
-use Rattle.per_versions.proofs.Read.{IsGood, IsRead, in_root, in_additions, set_good, set_read, contained_good, contained_read, element_read, member_read, alternative_read}
+use Rattle.per_versions.specs.NumbersKept.{starts_in_i128, ends_in_i128, are_in_i128, keeps_numbers, keeps_to_i128}
+use Rattle.per_versions.proofs.PartsRead.{IsGood, IsRead, in_root, in_additions, set_good, set_read, contained_good, contained_read, element_read, member_read, alternative_read}
 use Rattle.per_versions.proofs.OfKinds.{not_other}
 use Rattle.per_versions.proofs.Spelled.{Somewhere, lengthy_spelled}
 
 no : {b : Bool} → b ≡ false → b ≡ true → ⊥
 no e f = cc
 
--- a fault that no schema has in what it reads, stands in none
+-- a fault that no schema has in what it reads, is in none
 module _ (fault : Schema → Value → Type 0) (asked : Bool) (a : Settings) (u : Bool)
     (never_at : (s : Schema) (w : Value) → IsGood asked s → IsRead a u s w → fault s w → ⊥) where
   pub faultless : {s : Schema} {w : Value} → StandsIn fault s w → IsGood asked s → IsRead a u s w → ⊥

@@ -1,4 +1,4 @@
--- What is read of octets that go on behind a value: what is read of those before the rest, and the rest.
+-- What is read of octets that go on after a value: what is read of those before the rest, and the rest.
 use Rattle.std.proofs.Common.{◌≡◌, ◌↔◌, refl, sym, ap, ◌∙◌, subst, ℕ, ◌+◌, ◌++◌, length, List, Result, Ok, Err, arith}
 use Rattle.std.specs.Borrow.{Bor}
 use Rattle.std.proofs.lemmas.List.{length-append}
@@ -21,7 +21,7 @@ use Rattle.per_versions.specs.Answers.{AnswersFront}
 use Rattle.per_versions.specs.Readings.{depth_of, normal_form}
 use Rattle.per_versions.proofs.Depths.{is_held, bytes_at}
 
--- what is read of all these octets, with the rest behind them
+-- what is read of all these octets, with the rest after them
 abbrev pub IsFront : Settings → (ℕ → Schema) → List ℕ → List ℕ → Type 0
 IsFront a type os rest = (w : Value) (after : List ℕ) → front a (type 128) w (os ++ rest) after ↔ (read a type w os × (after ≡ rest))
 
@@ -39,7 +39,7 @@ front_answered codec type value octets os rest (Err k) IsRead d e f h =
 behind : (a : Settings) (type : ℕ → Schema) (w : Value) (os rest after : List ℕ) → read a type w os × (after ≡ rest) → front a (type 128) w (os ++ rest) after
 behind a type w os rest after y = (os, ap (λ l. os ++ l) (sym y.1), y.0)
 
--- behind canonical octets
+-- after canonical octets
 pub own_front : (a : Settings) (T : ℕ → Schema) → Levelled T → (k : ℕ) (v : Value) (os rest : List ℕ) → AreBytes a.variant T k v os → IsFront a T os rest
 own_front a T g k v os rest h w after =
     let e = bytes_at T g a.variant k v os h (k + depth_of v) (omega arith) (omega arith) in
@@ -55,7 +55,7 @@ newer_front a T' T g' g x k v os rest h w after =
     let e = bytes_at T g a.variant k v os h (k + depth_of v) (omega arith) (omega arith) in
     (λ y. Peers.newer_type_front a T' T (levelled_type_unfolds T' g') (levelled_type_unfolds T g) x (normal_form T v) w os rest after (k + depth_of v) e y, behind a T' w os rest after)
 
--- behind octets of any basic encoding
+-- after octets of any basic encoding
 pub read_front : (a : Settings) (T : ℕ → Schema) (v : Value) (os rest : List ℕ) → read a T v os → IsFront a T os rest
 read_front a T v os rest r w after =
     (λ y. let q = one_front a (T 128) v w (os ++ rest) rest after (behind a T v os rest rest (r, refl)) y in (subst (λ z. read a T z os) q.0 r, sym q.1), behind a T w os rest after)

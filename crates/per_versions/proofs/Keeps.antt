@@ -9,7 +9,7 @@ use Rattle.per_laws.proofs.Sameness.{whole_stays}
 use Rattle.per_laws.proofs.Judged.{judged_is_lawful}
 use Rattle.per_laws.specs.Judged.{judgement}
 use Rattle.per_laws.specs.Verdicts.{allowed}
-use Rattle.per_versions.specs.Kept.{KeepsToI128, keep_to_i128, keeps_to_i128}
+use Rattle.per_versions.specs.NumbersKept.{KeepsToI128, keep_to_i128, keeps_to_i128}
 
 and_both : (a b : Bool) → a ≡ true → b ≡ true → (a && b) ≡ true
 and_both a b e f = ap₂ (λ x y. x && y) e f

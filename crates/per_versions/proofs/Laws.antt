@@ -18,14 +18,14 @@ use Rattle.per_core.proofs.Laws.{same_bytes, full_octets}
 use Rattle.per_laws.proofs.AnyDepth.{older_reader_at, newer_reader_at}
 use Rattle.per_laws.proofs.Carry.{fills_carry}
 use Rattle.per_laws.proofs.Chains.{projects_in_steps}
-use Rattle.per_laws.proofs.Held.{newer_holds}
+use Rattle.per_laws.proofs.OlderReadings.{newer_holds}
 use Rattle.per_laws.proofs.Normals.{normal_of_normal}
 use Rattle.per_laws.proofs.Readers.{written_is_known}
 use Rattle.per_laws.proofs.Transitive.{newer_transitive}
 use Rattle.per_laws.proofs.Types.{up_to}
 use Rattle.per_laws.specs.Levels.{levels_of}
 use Rattle.per_laws.proofs.Depths
-use Rattle.per_laws.proofs.FewVersions.{levelled_holds, few_levels_are_projected, few_levels_are_widened}
+use Rattle.per_laws.proofs.VersionsAt128Levels.{levelled_holds, few_levels_are_projected, few_levels_are_widened}
 use Rattle.per_laws.proofs.Levelled.{levelled_type_unfolds, few_levels_are_read}
 use Rattle.per_laws.proofs.Peers
 use Rattle.per_core.specs.declared.decode_error.DecodeError.{DecodeError}

@@ -15,7 +15,7 @@ use Rattle.per_core.specs.Spellings.{Settings}
 use Rattle.per_core.specs.Writers.{written_if, Writer}
 use Rattle.per_core.proofs.LengthForms.{and_left, and_right}
 use Rattle.per_core.specs.WritingFaults.{has_bound}
-use Rattle.per_versions.specs.Kept.{are_in_i128}
+use Rattle.per_versions.specs.NumbersKept.{are_in_i128}
 use Rattle.per_versions.proofs.Faultless.{in_i128}
 use Rattle.per_versions.specs.Writable.{is_near, writes_numbers}
 use Rattle.per_versions.proofs.Total.{few_bits_total, if_total, just_total, near_total, small_total, spelled_total, then_total, Total, whole_number_total, whole_total}
@@ -47,7 +47,7 @@ near_above (pos l) (negsuc z) e f h = omega arith
 near_above (negsuc l) (pos z) e f h = let i = leb-true l (2 ^ 127 - 1) e in let j = leb-true z (2 ^ 127 - 1) f in omega arith
 near_above (negsuc l) (negsuc z) e f h = let i = leb-true l (2 ^ 127 - 1) e in omega arith
 
--- a number within bounds, that was read behind an extension bit
+-- a number within bounds, that was read after an extension bit
 within_total : (c : Variant) (l u : Option ℤ) (z : ℤ) → Total (counted_octets c (whole_bits z)) → (has_bound (record { low = l; high = u }) ≡ true → fits_i128 z ≡ true) → is_near l ≡ true → holds (record { low = l; high = u }) z ≡ true → Total (number_under c l u z)
 unfolding number_under
 within_total c None None z t f n h = t

@@ -4,14 +4,14 @@ pub mod Faulted
 pub mod Fronts
 pub mod Laws
 pub mod Normalised
-pub mod Passed
+pub mod PassedOn
 pub mod Relayed
-pub mod Returned
+pub mod ProjectionsBack
 pub mod Families
 pub mod Faultless
 pub mod OfKinds
 pub mod Ordered
-pub mod Read
+pub mod PartsRead
 pub mod Spelled
 pub mod Leaves
 pub mod Parts

@@ -15,7 +15,7 @@ use Rattle.per_laws.proofs.Transitive.{or_both}
 use Rattle.per_laws.proofs.Types.{up_to}
 use Rattle.per_laws.specs.Written.{is_written, writes_cut, slots_write_cut, writes_cut_at}
 use Rattle.per_laws.proofs.Depths.{own_test, spelled_whole}
-use Rattle.per_laws.proofs.FewVersions.{levelled_holds}
+use Rattle.per_laws.proofs.VersionsAt128Levels.{levelled_holds}
 use Rattle.per_laws.proofs.Levelled.{levelled_type_unfolds}
 use Rattle.per_laws.proofs.Reading.{any_sorted, same_self}
 use Rattle.per_versions.specs.Readings.{depth_of, normal_form, IsInReach}

@@ -16,12 +16,12 @@ use Rattle.rasn_schema.specs.Schemas.{by_tag, count, default, group, listed, no_
 use Rattle.per_core.specs.Basic.{basic_in, Char, Choice, Chosen, IsLeftOut, Item, Rule, rules_in}
 use Rattle.per_core.specs.Counts.{char_items}
 use Rattle.per_core.specs.Spellings.{Settings}
-use Rattle.per_core.specs.FewItems.{Each}
+use Rattle.per_core.specs.ItemCounts.{Each}
 use Rattle.per_core.proofs.Readings.{length-rules-in}
 use Rattle.per_core.proofs.SetReadings.{normal_record}
 use Rattle.per_core.specs.WritingFaults.{IsOther}
 use Rattle.per_write.proofs.OtherKinds.{may_be_ordered}
-use Rattle.per_versions.proofs.Read.{contained_read, IsRead, set_read}
+use Rattle.per_versions.proofs.PartsRead.{contained_read, IsRead, set_read}
 use Rattle.per_versions.proofs.Spelled.{fields_spelled, lengthy_spelled, open_spelled, SlotSpelled, SlotsSpelled, Somewhere}
 
 group_may_be : (r : Option Value) → may_be group r ≡ true

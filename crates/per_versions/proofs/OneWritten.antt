@@ -23,11 +23,11 @@ use Rattle.rasn_schema.proofs.Bags.{bag_becomes, some_list}
 use Rattle.per_core.proofs.Counting.{length-map'}
 use Rattle.per_core.proofs.LengthForms.{and_left, and_right}
 use Rattle.per_core.proofs.Readings.{length-rules-in}
-use Rattle.per_core.specs.FewItems.{Each}
+use Rattle.per_core.specs.ItemCounts.{Each}
 use Rattle.per_versions.proofs.Faultless.{length-sorted, read_whole}
-use Rattle.per_versions.proofs.Read.{alternative_read, contained_read, IsGood, IsRead, member_read, same_itself}
+use Rattle.per_versions.proofs.PartsRead.{alternative_read, contained_read, IsGood, IsRead, member_read, same_itself}
 use Rattle.per_versions.proofs.Spelled.{all_sorted, open_spelled}
-use Rattle.per_versions.specs.Short.{AddedShort, AlternativeShort, AreShort, IsShort}
+use Rattle.per_versions.specs.CountableOpens.{AddedCountable, AlternativeCountable, AreCountable, IsCountable}
 use Rattle.per_versions.specs.Writable.{are_writable, is_writable}
 use Rattle.per_versions.proofs.Leaves.{bit_total, date_total, item_total, marked_total}
 use Rattle.per_versions.proofs.Parts.{EachPart, open_total, Writes}
@@ -46,7 +46,7 @@ sorted_again vs =
     ap bag_of (some_list (sorted less vs) q.0 (sym (all_some (sorted less vs)) ∙ q.1)) ∙ q.2
 
 bag_total : (a : Settings) (u : Bool) (c : Variant) (e : Schema) → Writes a u c e → (size : Size) (mark : Bool) → Writes a u c (Schema.set_of e size mark)
-unfolding basic_in canon normal over_bag bag_of AreShort
+unfolding basic_in canon normal over_bag bag_of AreCountable
 bag_total a u c e one size mark w r z =
     let less : Value → Value → Bool = λ v w. before (code v) (code w) in
     let s = Schema.set_of e size mark in
@@ -57,8 +57,8 @@ bag_total a u c e one size mark w r z =
     let i : w ≡ bag_of own = r.is ∙ ap (normal s) x.is in
     let q : IsRead a u s (bag_of own) = subst (IsRead a u s) i r in
     let h : Each (IsRead a u e) all = all_sorted (IsRead a u e) less own (each_has {P = IsRead a u e} own (λ v h. member_read h q)) in
-    let k : Each (AreShort c e) all = subst (Each (AreShort c e)) (values-as_values all) (subst (AreShort c s) i z) in
-    let t = each_both {P = IsRead a u e} {Q = AreShort c e} {R = λ v. Total (canon c e v)} (λ v h z. one v h z) all h k in
+    let k : Each (AreCountable c e) all = subst (Each (AreCountable c e)) (values-as_values all) (subst (AreCountable c s) i z) in
+    let t = each_both {P = IsRead a u e} {Q = AreCountable c e} {R = λ v. Total (canon c e v)} (λ v h z. one v h z) all h k in
     let writers = map (canon c e) all in
     let later : Writer → Writer → Bool = λ f g. before (octet_key (f 0)) (octet_key (g 0)) in
     let n : length (sorted later writers) ≡ length x.of =
@@ -81,28 +81,28 @@ chosen_within (r ∷ rs) zero v p b x = omega arith
 chosen_within (r ∷ rs) (suc i) v p b x = let h = chosen_within rs i v p b x in omega arith
 
 module _ (a : Settings) (u : Bool) (c : Variant) where
-  chosen_total : (ps : Parts) (i : ℕ) (v : Value) → EachPart (Writes a u c) ps → ((s : Schema) → alternative_at ps i ≡ Some s → IsRead a u s v) → AlternativeShort c ps i v → i < count ps → Total (chosen (members c ps) i v)
-  unfolding members AlternativeShort
+  chosen_total : (ps : Parts) (i : ℕ) (v : Value) → EachPart (Writes a u c) ps → ((s : Schema) → alternative_at ps i ≡ Some s → IsRead a u s v) → AlternativeCountable c ps i v → i < count ps → Total (chosen (members c ps) i v)
+  unfolding members AlternativeCountable
   chosen_total no_parts i v each h z l = absurd (omega arith)
   chosen_total (part t p s ps) zero v each h z l = each.0 v (h s refl) z
   chosen_total (part t p s ps) (suc i) v each h z l = chosen_total ps i v each.1 h z (omega arith)
 
-  added_short : (ps : Parts) (i : ℕ) (v : Value) → AddedShort c ps i v → i < count ps → IsShort (chosen (members c ps) i v 0) × AlternativeShort c ps i v
-  unfolding members AlternativeShort AddedShort
+  added_short : (ps : Parts) (i : ℕ) (v : Value) → AddedCountable c ps i v → i < count ps → IsCountable (chosen (members c ps) i v 0) × AlternativeCountable c ps i v
+  unfolding members AlternativeCountable AddedCountable
   added_short no_parts i v z l = absurd (omega arith)
   added_short (part t p s ps) zero v z l = z
   added_short (part t p s ps) (suc i) v z l = added_short ps i v z (omega arith)
 
   choice_total : (ps adds : Parts) (ext : Bool) → IsLawful (Schema.choice ps adds ext) → EachPart (Writes a u c) ps → EachPart (Writes a u c) adds → Writes a u c (Schema.choice ps adds ext)
-  unfolding basic_in canon normal AreShort Canon.choice_of
+  unfolding basic_in canon normal AreCountable Canon.choice_of
   choice_total ps adds ext l each each_added w r z =
       let s = Schema.choice ps adds ext in
       let x = r.where_it_is.spelled in
       let i : w ≡ over_alternative (normal_at ps) (normal_at adds) (alternative x.of.0 x.of.1 x.of.2) = r.is ∙ ap (normal s) x.is in
-      subst (λ v. Total (canon c s v)) (sym i) (go r.where_it_is.at r.where_it_is.bits ext x.of.0 x.of.1 x.of.2 (record { lawful = l; kept = λ e. absurd (cc) }) x.spelled (subst (IsRead a u s) i r) (subst (AreShort c s) i z))
+      subst (λ v. Total (canon c s v)) (sym i) (go r.where_it_is.at r.where_it_is.bits ext x.of.0 x.of.1 x.of.2 (record { lawful = l; kept = λ e. absurd (cc) }) x.spelled (subst (IsRead a u s) i r) (subst (AreCountable c s) i z))
     where
       go : (p : ℕ) (b : Bits) (ext : Bool) (d : Side) (i : ℕ) (v : Value) → IsGood false (choice_schema ps ext adds) → Choice a ext (rules_in a u ps) (rules_in a u adds) d i v p b → IsRead a u (Schema.choice ps adds ext) (over_alternative (normal_at ps) (normal_at adds) (alternative d i v)) →
-          AreShort c (Schema.choice ps adds ext) (over_alternative (normal_at ps) (normal_at adds) (alternative d i v)) → Total (canon c (Schema.choice ps adds ext) (over_alternative (normal_at ps) (normal_at adds) (alternative d i v)))
+          AreCountable c (Schema.choice ps adds ext) (over_alternative (normal_at ps) (normal_at adds) (alternative d i v)) → Total (canon c (Schema.choice ps adds ext) (over_alternative (normal_at ps) (normal_at adds) (alternative d i v)))
       go p b ext root i v g x q y =
           let n : i < length (members c ps) = subst (λ k. i < k) (length-rules-in a u ps ∙ sym (length-members c ps)) x.is_rest.is_front.below in
           let m : i < count ps = subst (λ k. i < k) (length-members c ps) n in
@@ -123,7 +123,7 @@ module _ (a : Settings) (u : Bool) (c : Variant) where
   sequence_total by_tag ps adds ext l few h k = set_total a u c ps adds ext l few h k
 
   mutual
-    unfolding IsLawful AreLawful is_writable are_writable basic_in canon normal AreShort
+    unfolding IsLawful AreLawful is_writable are_writable basic_in canon normal AreCountable
 
     pub total : (s : Schema) → IsLawful s → is_writable s ≡ true → Writes a u c s
     total Schema.boolean l k = λ w r z. let x = r.where_it_is.spelled in subst (λ v. Total (canon c Schemas.boolean v)) (sym (r.is ∙ x.is)) (just_total (x.of ∷ []))
@@ -168,9 +168,9 @@ module _ (a : Settings) (u : Bool) (c : Variant) where
     totals (part t p s ps) l k = (total s l.1 (and_left (is_writable s) (are_writable ps) k), totals ps l.2 (and_right (is_writable s) (are_writable ps) k))
 
 -- complete encodings
-pub written_bits : (a : Settings) (c : Variant) (s : Schema) (v : Value) (os : List ℕ) → IsLawful s → is_writable s ≡ true → meets_cut s v ≡ false → fills a s v os → AreShort c s (normal s v) → (p : ℕ) → (b : Bits) × (canon c s (normal s v) p ≡ Some b)
+pub written_bits : (a : Settings) (c : Variant) (s : Schema) (v : Value) (os : List ℕ) → IsLawful s → is_writable s ≡ true → meets_cut s v ≡ false → fills a s v os → AreCountable c s (normal s v) → (p : ℕ) → (b : Bits) × (canon c s (normal s v) p ≡ Some b)
 written_bits a c s v os l k m f z = (total a true c s l k (normal s v) (read_whole a s v os m f) z).at
 
-pub written_bytes : (a : Settings) (c : Variant) (s : Schema) (v : Value) (os : List ℕ) → IsLawful s → is_writable s ≡ true → meets_cut s v ≡ false → fills a s v os → AreShort c s (normal s v) → (qs : List ℕ) × (bytes c s (normal s v) ≡ Some qs)
+pub written_bytes : (a : Settings) (c : Variant) (s : Schema) (v : Value) (os : List ℕ) → IsLawful s → is_writable s ≡ true → meets_cut s v ≡ false → fills a s v os → AreCountable c s (normal s v) → (qs : List ℕ) × (bytes c s (normal s v) ≡ Some qs)
 unfolding bytes
 written_bytes a c s v os l k m f z = let x = written_bits a c s v os l k m f z 0 in (complete x.0, ap completed x.1)

@@ -8,7 +8,7 @@ use Rattle.rasn_schema.specs.Schemas.{TagTree, Presence, required, optional, gro
 use Rattle.per_core.proofs.LengthForms.{and_left, and_right, or_left, or_right}
 use Rattle.per_core.proofs.Readings.{length-by_tags}
 use Rattle.rasn_schema.proofs.Canonised.{count_ordered, bits_ordered}
-use Rattle.per_versions.specs.Kept.{keeps_to_i128, keep_to_i128}
+use Rattle.per_versions.specs.NumbersKept.{keeps_to_i128, keep_to_i128}
 
 -- lawful parts
 lawful_put : (n : ℕ) (t : TagTree) (p : Presence) (s : Schema) (ps : Parts) → IsLawfulPresence s p → IsLawful s → AreLawful ps → AreLawful (put_part n t p s ps)

@@ -14,9 +14,9 @@ use Rattle.per_core.specs.Counts.{open_bits}
 use Rattle.per_core.specs.Spellings.{Settings}
 use Rattle.per_core.specs.Writers.{complete, Writer}
 use Rattle.per_core.proofs.LengthForms.{or_left, or_right}
-use Rattle.per_versions.proofs.Read.{IsRead, left_out_hidden, settled_is}
+use Rattle.per_versions.proofs.PartsRead.{IsRead, left_out_hidden, settled_is}
 use Rattle.per_versions.proofs.Spelled.{SlotSpelled, SlotsSpelled, Somewhere}
-use Rattle.per_versions.specs.Short.{AreShort, IsShort, PartsShort}
+use Rattle.per_versions.specs.CountableOpens.{AreCountable, IsCountable, PartsCountable}
 use Rattle.per_versions.proofs.Total.{few_octets_total, just_total, then_total, Total}
 
 -- a fact of each part's schema
@@ -24,7 +24,7 @@ abbrev pub EachPart : (Schema → Type 0) → Parts → Type 0
 EachPart P no_parts = Unit {0}
 EachPart P (part t p s ps) = P s × EachPart P ps
 
--- a fact of each part that is there, by its schema, and of those behind it
+-- a fact of each part that is there, by its schema, and of those after it
 abbrev pub AllSlots : (Presence → Schema → Option Value → Type 0) → Parts → List (Option Value) → Type 0
 AllSlots P no_parts [] = Unit {0}
 AllSlots P (part t p s ps) (x ∷ xs) = P p s x × AllSlots P ps xs
@@ -115,7 +115,7 @@ all_hidden a u (part t p s ps) (Some v ∷ ss) q b l h m =
 
 -- what is read of a schema's value in normal form is written
 abbrev pub Writes : Settings → Bool → Variant → Schema → Type 0
-Writes a u c s = (w : Value) → IsRead a u s w → AreShort c s w → Total (canon c s w)
+Writes a u c s = (w : Value) → IsRead a u s w → AreCountable c s w → Total (canon c s w)
 
 flagged_total : (p : Presence) (o : Option Bool) (b : Bool) → o ≡ Some b → Total (flagged p o)
 flagged_total p o b e = subst (λ k. Total (flagged p k)) (sym e) (just_total (flag p b))
@@ -132,8 +132,8 @@ module _ (a : Settings) (u : Bool) (c : Variant) where
       one (inl e) = flagged_total p (shown p w) false e
       one (inr x) = flagged_total p (shown p w) true x.2
 
-  pub bodies_total : (ps : Parts) (ws : List (Option Value)) → AllSlots (IsShown a u) ps ws → EachPart (Writes a u c) ps → PartsShort c ps ws → Total (bodies_of (members c ps) ws)
-  unfolding members PartsShort
+  pub bodies_total : (ps : Parts) (ws : List (Option Value)) → AllSlots (IsShown a u) ps ws → EachPart (Writes a u c) ps → PartsCountable c ps ws → Total (bodies_of (members c ps) ws)
+  unfolding members PartsCountable
   bodies_total no_parts [] h k z = just_total []
   bodies_total no_parts (w ∷ ws) h k z = absurd h
   bodies_total (part t p s ps) [] h k z = absurd h
@@ -166,7 +166,7 @@ module _ (a : Settings) (u : Bool) (c : Variant) where
       one r (inl e) = of r false e
       one r (inr x) = of r true x.2
 
-pub open_total : (c : Variant) (w : Writer) → Total w → IsShort (w 0) → Total (open_bits c (w 0))
+pub open_total : (c : Variant) (w : Writer) → Total w → IsCountable (w 0) → Total (open_bits c (w 0))
 unfolding open_bits
 open_total c w t h = let x = t.at 0 in
     subst (λ o. Total (open_bits c o)) (sym x.1) (few_octets_total c (complete x.0) (octets-pack (max 1 ((length x.0 + 7) / 8)) x.0) (h x.0 x.1))

@@ -21,14 +21,14 @@ use Rattle.per_core.proofs.Counting.{length-map'}
 use Rattle.per_core.proofs.LengthForms.{or_left, or_right}
 use Rattle.per_core.proofs.Presenting.{some_both}
 use Rattle.per_core.proofs.Readings.{length-by_tags}
-use Rattle.per_core.specs.FewItems.{Each, EachSlot}
+use Rattle.per_core.specs.ItemCounts.{Each, EachSlot}
 use Rattle.rasn_schema.proofs.Canonised.{count_ordered}
 use Rattle.per_core.proofs.SetReadings.{normal_record, read_as_listed, written}
-use Rattle.per_core.specs.WritingFaults.{element_behind, element_here, HasElement}
+use Rattle.per_core.specs.WritingFaults.{element_after, element_here, HasElement}
 use Rattle.per_versions.proofs.Ordered.{lawful_in_order}
-use Rattle.per_versions.proofs.Read.{element_read, IsRead, set_read}
+use Rattle.per_versions.proofs.PartsRead.{element_read, IsRead, set_read}
 use Rattle.per_versions.proofs.Spelled.{fields_spelled}
-use Rattle.per_versions.specs.Short.{AdditionsShort, AreShort, PartsShort}
+use Rattle.per_versions.specs.CountableOpens.{AdditionsCountable, AreCountable, PartsCountable}
 use Rattle.per_versions.proofs.Parts.{all_hidden, all_shown, AllSlots, bitmap_there, bodies_total, EachPart, flags_total, IsHidden, IsShown, open_total, Writes}
 use Rattle.per_versions.proofs.Total.{bit_string_total, cond_total, is_counted, IsCounted, items_total, just_total, then_total, Total}
 
@@ -48,8 +48,8 @@ none_set c (part t p s ps) (w ∷ ws) bs h e =
     same_bit b e = cc
 
 module _ (a : Settings) (u : Bool) (c : Variant) where
-  opens_total : (ps : Parts) (ws : List (Option Value)) (bs : Bits) → bitmap_of (members c ps) ws ≡ Some bs → AllSlots (IsShown a u) ps ws → EachPart (Writes a u c) ps → AdditionsShort c ps ws → Total (opens_of c (members c ps) ws bs)
-  unfolding members bitmap_of AdditionsShort
+  opens_total : (ps : Parts) (ws : List (Option Value)) (bs : Bits) → bitmap_of (members c ps) ws ≡ Some bs → AllSlots (IsShown a u) ps ws → EachPart (Writes a u c) ps → AdditionsCountable c ps ws → Total (opens_of c (members c ps) ws bs)
+  unfolding members bitmap_of AdditionsCountable
   opens_total no_parts [] bs e h k z = just_total []
   opens_total no_parts (w ∷ ws) bs e h k z = absurd h
   opens_total (part t p s ps) [] bs e h k z = absurd h
@@ -75,7 +75,7 @@ bitmap_total c bs h = cond_total (leb (length bs) 64) (then_total (just_total (f
 
 -- ---- records
 module _ (a : Settings) (u : Bool) (c : Variant) (ps adds : Parts) (lawful : AreLawful ps) (lawful_added : AreLawful adds) (few : count adds < 2 ^ 64) (each : EachPart (Writes a u c) ps) (each_added : EachPart (Writes a u c) adds) where
-  written_so : (ext : Bool) (ws xs : List (Option Value)) → AllSlots (IsShown a u) ps ws → AllSlots (IsShown a u) adds xs → (ext ≡ false → AllSlots IsHidden adds xs) → PartsShort c ps ws → AdditionsShort c adds xs → Total (record_of c ext (members c ps) (members c adds) ws xs)
+  written_so : (ext : Bool) (ws xs : List (Option Value)) → AllSlots (IsShown a u) ps ws → AllSlots (IsShown a u) adds xs → (ext ≡ false → AllSlots IsHidden adds xs) → PartsCountable c ps ws → AdditionsCountable c adds xs → Total (record_of c ext (members c ps) (members c adds) ws xs)
   unfolding record_of
   written_so ext ws xs h k n y z = go ext n (bitmap_there a u c adds xs k)
     where
@@ -93,7 +93,7 @@ module _ (a : Settings) (u : Bool) (c : Variant) (ps adds : Parts) (lawful : Are
           shut false e = then_total (just_total []) (then_total inner (just_total []))
 
   pub record_total : (ext : Bool) → Writes a u c (Schema.sequence listed ps ext adds)
-  unfolding basic_in canon meets_cut AreShort
+  unfolding basic_in canon meets_cut AreCountable
   record_total ext w r z =
       let x = r.where_it_is.spelled in
       let ss = x.of.0 in
@@ -104,9 +104,9 @@ module _ (a : Settings) (u : Bool) (c : Variant) (ps adds : Parts) (lawful : Are
       let m : (slots_meet_cut ps (slots (as_slots ss)) || slots_meet_cut adds (slots (as_slots xs))) ≡ false = subst (λ v. meets_cut s v ≡ false) x.is r.uncut in
       let m0 : slots_meet_cut ps ss ≡ false = subst (λ l. slots_meet_cut ps l ≡ false) (slots-as_slots ss) (or_left (slots_meet_cut ps (slots (as_slots ss))) (slots_meet_cut adds (slots (as_slots xs))) m) in
       let m1 : slots_meet_cut adds xs ≡ false = subst (λ l. slots_meet_cut adds l ≡ false) (slots-as_slots xs) (or_right (slots_meet_cut ps (slots (as_slots ss))) (slots_meet_cut adds (slots (as_slots xs))) m) in
-      let y : PartsShort c ps (slots (as_slots (normals ps ss))) × AdditionsShort c adds (slots (as_slots (normals adds xs))) = subst (AreShort c s) e z in
+      let y : PartsCountable c ps (slots (as_slots (normals ps ss))) × AdditionsCountable c adds (slots (as_slots (normals adds xs))) = subst (AreCountable c s) e z in
       let t = written_so ext (normals ps ss) (normals adds xs) (all_shown a u ps ss lawful f.0 m0) (all_shown a u adds xs lawful_added f.1 m1) (none r.where_it_is.at r.where_it_is.bits ext ss xs x.spelled m1)
-      (subst (PartsShort c ps) (slots-as_slots (normals ps ss)) y.0) (subst (AdditionsShort c adds) (slots-as_slots (normals adds xs)) y.1) in
+      (subst (PartsCountable c ps) (slots-as_slots (normals ps ss)) y.0) (subst (AdditionsCountable c adds) (slots-as_slots (normals adds xs)) y.1) in
       subst (λ v. Total (canon c s v)) (sym e)
       (subst (λ l. Total (record_of c ext (members c ps) (members c adds) l (slots (as_slots (normals adds xs))))) (sym (slots-as_slots (normals ps ss)))
       (subst (λ l. Total (record_of c ext (members c ps) (members c adds) (normals ps ss) l)) (sym (slots-as_slots (normals adds xs))) t))
@@ -141,22 +141,22 @@ slot_first P Q None xs h k = k
 slot_first P Q (Some v) xs h k = (h, k)
 
 module _ (c : Variant) where
-  short_put : (n : ℕ) (t : TagTree) (p : Presence) (s : Schema) (ps : Parts) (x : Option Value) (xs : List (Option Value)) → length xs ≡ count ps → OfSlot (AreShort c s) x → PartsShort c ps xs → PartsShort c (put_part n t p s ps) (insert_at n x xs)
-  unfolding PartsShort
-  short_put zero t p s ps x xs l h k = slot_first (AreShort c s) (PartsShort c ps) x xs h k
-  short_put (suc n) t p s no_parts x [] l h k = slot_first (AreShort c s) (PartsShort c no_parts) x [] h tt
+  short_put : (n : ℕ) (t : TagTree) (p : Presence) (s : Schema) (ps : Parts) (x : Option Value) (xs : List (Option Value)) → length xs ≡ count ps → OfSlot (AreCountable c s) x → PartsCountable c ps xs → PartsCountable c (put_part n t p s ps) (insert_at n x xs)
+  unfolding PartsCountable
+  short_put zero t p s ps x xs l h k = slot_first (AreCountable c s) (PartsCountable c ps) x xs h k
+  short_put (suc n) t p s no_parts x [] l h k = slot_first (AreCountable c s) (PartsCountable c no_parts) x [] h tt
   short_put (suc n) t p s (part v q r ps) x (y ∷ ys) l h k =
-      let f = first_slot (AreShort c r) (PartsShort c ps) y ys k in
-      slot_first (AreShort c r) (PartsShort c (put_part n t p s ps)) y (insert_at n x ys) f.0 (short_put n t p s ps x ys (omega arith) h f.1)
+      let f = first_slot (AreCountable c r) (PartsCountable c ps) y ys k in
+      slot_first (AreCountable c r) (PartsCountable c (put_part n t p s ps)) y (insert_at n x ys) f.0 (short_put n t p s ps x ys (omega arith) h f.1)
   short_put (suc n) t p s no_parts x (y ∷ ys) l h k = absurd (omega arith)
   short_put (suc n) t p s (part v q r ps) x [] l h k = absurd (omega arith)
 
-  short_ordered : (ps : Parts) (rs : List (Option Value)) → length rs ≡ count ps → PartsShort c ps rs → PartsShort c (canonised ps) (canonised_slots ps rs)
-  unfolding PartsShort
+  short_ordered : (ps : Parts) (rs : List (Option Value)) → length rs ≡ count ps → PartsCountable c ps rs → PartsCountable c (canonised ps) (canonised_slots ps rs)
+  unfolding PartsCountable
   short_ordered no_parts rs l h = tt
   short_ordered (part t p s ps) [] l h = absurd (omega arith)
   short_ordered (part t p s ps) (x ∷ xs) l h =
-      let f = first_slot (AreShort c s) (PartsShort c ps) x xs h in
+      let f = first_slot (AreCountable c s) (PartsCountable c ps) x xs h in
       let i : length xs ≡ count ps = omega arith in
       short_put (how_many_less (smallest t) (tags ps)) t p s (canonised ps) x (by_tags (tags ps) xs) (length-by_tags (tags ps) xs ∙ i ∙ sym (count_ordered ps)) f.0 (short_ordered ps xs i f.1)
 
@@ -168,7 +168,7 @@ length-normals (part t p s ps) (None ∷ xs) l = let h = length-normals ps xs (o
 length-normals (part t p s ps) (Some v ∷ xs) l = let h = length-normals ps xs (omega arith) in omega arith
 
 pub set_total : (a : Settings) (u : Bool) (c : Variant) (ps adds : Parts) (ext : Bool) → IsLawful (Schema.sequence by_tag ps ext adds) → count adds < 2 ^ 64 → EachPart (Writes a u c) ps → EachPart (Writes a u c) adds → Writes a u c (Schema.sequence by_tag ps ext adds)
-unfolding AreShort IsLawful
+unfolding AreCountable IsLawful
 set_total a u c ps adds ext lawful few each each_added w r z =
     let s = Schema.sequence by_tag ps ext adds in
     let y = r.where_it_is in
@@ -179,16 +179,16 @@ set_total a u c ps adds ext lawful few each each_added w r z =
     let q = set_read rs xs (subst (IsRead a u s) e r) in
     let k = lawful_in_order ps ext adds lawful in
     let v = record_value (canonised_slots ps rs) xs in
-    let h : PartsShort c ps (slots (as_slots rs)) × AdditionsShort c adds (slots (as_slots xs)) = subst (AreShort c s) e z in
-    let i = short_ordered c ps rs (length-normals ps l.root l.counted) (subst (PartsShort c ps) (slots-as_slots rs) h.0) in
-    let j : AreShort c (Schema.sequence listed (canonised ps) ext adds) v = (subst (PartsShort c (canonised ps)) (sym (slots-as_slots (canonised_slots ps rs))) i, h.1) in
+    let h : PartsCountable c ps (slots (as_slots rs)) × AdditionsCountable c adds (slots (as_slots xs)) = subst (AreCountable c s) e z in
+    let i = short_ordered c ps rs (length-normals ps l.root l.counted) (subst (PartsCountable c ps) (slots-as_slots rs) h.0) in
+    let j : AreCountable c (Schema.sequence listed (canonised ps) ext adds) v = (subst (PartsCountable c (canonised ps)) (sym (slots-as_slots (canonised_slots ps rs))) i, h.1) in
     subst (λ x. Total (canon c s x)) (sym e) (subst Total (sym (written c ps ext adds rs xs))
     (record_total a u c (canonised ps) adds k.1 k.2 few (each_ordered (Writes a u c) ps each) each_added ext v q j))
 
 -- ---- lists and bags
 pub each_has : {P : Value → Type 0} (vs : List Value) → ((v : Value) → HasElement v vs → P v) → Each P vs
 each_has [] h = tt
-each_has (v ∷ vs) h = (h v element_here, each_has vs (λ w i. h w (element_behind i)))
+each_has (v ∷ vs) h = (h v element_here, each_has vs (λ w i. h w (element_after i)))
 
 pub each_both : {P Q R : Value → Type 0} (f : (v : Value) → P v → Q v → R v) (vs : List Value) → Each P vs → Each Q vs → Each R vs
 each_both f [] h k = tt
@@ -196,7 +196,7 @@ each_both f (v ∷ vs) h k = (f v h.0 k.0, each_both f vs h.1 k.1)
 
 module _ (a : Settings) (u : Bool) (c : Variant) (e : Schema) (one : Writes a u c e) where
   pub list_total : (size : Size) (mark : Bool) → Writes a u c (Schema.list e size mark)
-  unfolding basic_in canon normal AreShort
+  unfolding basic_in canon normal AreCountable
   list_total size mark w r z =
       let s = Schema.list e size mark in
       let y = r.where_it_is in
@@ -204,8 +204,8 @@ module _ (a : Settings) (u : Bool) (c : Variant) (e : Schema) (one : Writes a u 
       let own = map (normal e) (values (as_values x.of)) in
       let i : w ≡ list_value own = r.is ∙ ap (normal s) x.is in
       let q : IsRead a u s (list_value own) = subst (IsRead a u s) i r in
-      let k : Each (AreShort c e) own = subst (Each (AreShort c e)) (values-as_values own) (subst (AreShort c s) i z) in
-      let t = each_both {P = IsRead a u e} {Q = AreShort c e} {R = λ v. Total (canon c e v)} (λ v h z. one v h z) own (each_has {P = IsRead a u e} own (λ v h. element_read h q)) k in
+      let k : Each (AreCountable c e) own = subst (Each (AreCountable c e)) (values-as_values own) (subst (AreCountable c s) i z) in
+      let t = each_both {P = IsRead a u e} {Q = AreCountable c e} {R = λ v. Total (canon c e v)} (λ v h z. one v h z) own (each_has {P = IsRead a u e} own (λ v h. element_read h q)) k in
       let n : length own ≡ length x.of = length-map' (normal e) (values (as_values x.of)) ∙ ap length (values-as_values x.of) in
       let m : IsCounted size mark (length own) = subst (IsCounted size mark) (sym n) (is_counted a size mark list_items (basic_in a u e) x.of y.at y.bits x.spelled) in
       subst (λ v. Total (canon c s v)) (sym i) (subst (λ l. Total (counted c size mark list_items (map (canon c e) l))) (sym (values-as_values own)) (items_total c size mark list_items (canon c e) own m t))

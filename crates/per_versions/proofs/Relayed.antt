@@ -13,15 +13,15 @@ use Rattle.per_core.specs.Versions.{NewerType, project}
 use Rattle.per_laws.proofs.Takes.{some_is}
 use Rattle.per_laws.proofs.Carry.{fills_carry}
 use Rattle.per_laws.proofs.Loosen.{loose, loosen}
-use Rattle.per_laws.proofs.FewVersions.{levelled_holds, older_less, newer_less}
+use Rattle.per_laws.proofs.VersionsAt128Levels.{levelled_holds, older_less, newer_less}
 use Rattle.per_core.specs.declared.decode_error.DecodeError.{DecodeError}
 use Rattle.rasn_per.specs.Calls.{DecodedBy, AreBytes, reading}
 use Rattle.per_versions.specs.Answers.{Answers}
 use Rattle.per_versions.specs.Readings.{depth_of, normal_form, IsInReach, IsProjection, IsWidening}
 use Rattle.per_versions.proofs.Depths.{normal_at, projection_at}
 use Rattle.per_versions.proofs.Laws
-use Rattle.per_versions.proofs.Passed.{commute}
-use Rattle.per_versions.proofs.Returned.{goes_back}
+use Rattle.per_versions.proofs.PassedOn.{commute}
+use Rattle.per_versions.proofs.ProjectionsBack.{goes_back}
 use Rattle.per_versions.proofs.Normalised.{stays_in_reach}
 
 pub older_relayed : (a b : Settings) (T' T : ℕ → Schema) → Levelled T' → Levelled T → ((n : ℕ) → IsLawful (T' n)) → NewerType T' T → (k : ℕ) (v : Value) (os ps : List ℕ) → read a T' v os → AreBytes b.variant T' k v ps →

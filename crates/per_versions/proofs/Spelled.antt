@@ -6,7 +6,7 @@ use Rattle.rasn_constraints.specs.Bounds.{Size, any_size}
 use Rattle.per_core.specs.Basic.{OneByOne, InFragments, UnconstrainedLength, IsConstrainedWhole, PaddingIf, length_form, Counted, Fills, Open, Rule, IsLeftOut, Bodies, Root, Additions_in, Record_in}
 use Rattle.per_core.specs.Counts.{ItemKind, is_aligned}
 use Rattle.per_core.specs.Spellings.{Settings, Spelling, Then}
-use Rattle.per_core.specs.FewItems.{Each}
+use Rattle.per_core.specs.ItemCounts.{Each}
 
 -- some bits, from some position on, have a spelling
 pub record Somewhere (f : Spelling) : Type 0 where

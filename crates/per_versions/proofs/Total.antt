@@ -14,7 +14,7 @@ use Rattle.per_core.specs.Spellings.{Settings, Spelling}
 use Rattle.per_core.specs.Writers.{after, go_on, join, just, one_by_one, padding, written_if, Writer, ◌▹◌}
 use Rattle.per_core.proofs.Counting.{length-map'}
 use Rattle.per_core.proofs.LengthForms.{and_left, and_right}
-use Rattle.per_core.specs.FewItems.{Each}
+use Rattle.per_core.specs.ItemCounts.{Each}
 use Rattle.per_versions.proofs.Spelled.{lengthy_spelled, Somewhere}
 use Rattle.rasn_schema.specs.Normal.{normal_bits}
 use Rattle.per_laws.proofs.Named.{normal_allowed}
@@ -87,7 +87,7 @@ under_total a size kind ws e h = go size.least size.most (and_left (at_least siz
         cond_total (ltb ub 65536) (then_total (whole_number_total a (ub - lb + 1) (n - lb) (omega arith)) (then_total (padding_if_total (ltb 0 n && is_aligned kind lb ub) a) (one_total ws h)))
         (fragments_total a (fragment_sizes n) ws h)
 
--- a count that a size allows, any count allows; behind an extension bit any may stand
+-- a count that a size allows, any count allows; after an extension bit any may stand
 any_allowed : (size : Size) (n : ℕ) → allows size n ≡ true → allows any_size n ≡ true
 any_allowed size n e = and_right (at_most size.most n) (ltb n (2 ^ 64)) (and_right (at_least size.least n) (at_most size.most n && ltb n (2 ^ 64)) e)
 

@@ -23,7 +23,7 @@ pub record Answers {T : Type 0} (value : T → Value) (IsRead : Value → Type 0
 abbrev pub AreKnown : Bool → Codec → (ℕ → Schema) → Value → List ℕ → Type 0
 AreKnown strict codec type v octets = fills_known (reading strict (variant_of codec)) (type 128) v octets
 
--- the one value that is to be read and the octets behind it, these and no others, or, memory aside, a refusal only
+-- the one value that is to be read and the octets after it, these and no others, or, memory aside, a refusal only
 -- where there is no such value
 pub record AnswersFront {T : Type 0} (value : T → Value) (IsRead : Value → Type 0) (rest : List ℕ)
     (answer : Result (T × Bor (List ℕ)) DecodeError) : Type 0 where

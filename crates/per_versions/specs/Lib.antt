@@ -1,6 +1,6 @@
 pub mod Answers
 pub mod Exchanges
 pub mod Readings
-pub mod Kept
-pub mod Short
+pub mod NumbersKept
+pub mod CountableOpens
 pub mod Writable

@@ -3,14 +3,14 @@ use Rattle.std.specs.Prelude.{◌^◌, Bool, true, not, ◌&&◌, ◌||◌, nat_
 use Rattle.rasn_constraints.specs.Bounds.{Bounds}
 use Rattle.rasn_schema.specs.Schemas.{count, Schema, Parts, no_parts, part}
 use Rattle.per_core.specs.WritingFaults.{has_bound}
-use Rattle.per_versions.specs.Kept.{are_in_i128, starts_in_i128}
+use Rattle.per_versions.specs.NumbersKept.{are_in_i128, starts_in_i128}
 
 -- whether a lower bound, where there is one, is no less than the least i128
 abbrev pub is_near : Option ℤ → Bool
 is_near None = true
 is_near (Some l) = starts_in_i128 (Some l)
 
--- X.691 13.1: whether an INTEGER has no number that is read behind an extension bit, is within the bounds, and can't be
+-- X.691 13.1: whether an INTEGER has no number that is read after an extension bit, is within the bounds, and can't be
 -- written within them: one that is past an i128, or above its lower bound by more than octets are counted for
 abbrev pub writes_numbers : Bounds → Bool → Bounds → Bool
 writes_numbers bounds mark range =

@@ -3,7 +3,7 @@
 ghost use Rattle.std.specs.Prelude.{◌≡◌, IfErr, IfOk};
 ghost use Rattle.rasn_schema.specs.Lawful.{IsLawfulType};
 ghost use Rattle.per_core.specs.Versions.{NewerType};
-ghost use Rattle.per_versions.specs.Kept.{KeepsToI128};
+ghost use Rattle.per_versions.specs.NumbersKept.{KeepsToI128};
 ghost use Rattle.rasn_per.specs.Calls.{Decoded, Encoded};
 ghost use Rattle.per_versions.specs.Exchanges.{Exchanges, IsKept, IsPassedOn};
 ghost use Rattle.per_versions.specs.Readings.{IsReadByNewer, IsReadByOlder};

@@ -1,4 +1,4 @@
-//! The laws of what was read and is written again: no fault for which an encoder refuses a value stands in it. Each law
+//! The laws of what was read and is written again: no fault for which an encoder refuses a value is in it. Each law
 //! is the contract of a function that does nothing.
 
 ghost use Rattle.std.specs.Prelude.{◌≡◌, List, ℕ, Bool, Option, true, false};
@@ -18,7 +18,7 @@ ghost use Rattle.per_core.specs.Spellings.{Settings};
 ghost use Rattle.per_core.specs.WritingFaults.{IsInValue};
 ghost use Rattle.per_core.specs.declared.encode_error.EncodeErrorKind.{EncodeErrorKind};
 ghost use Rattle.per_core.specs.declared.encode_error.EncodeErrorKind.TheVariants.{IntegerTypeConversionFailed};
-ghost use Rattle.per_versions.specs.Kept.{
+ghost use Rattle.per_versions.specs.NumbersKept.{
   KeepsToI128,
   ends_in_i128,
   keep_to_i128,
@@ -29,7 +29,7 @@ ghost use Rattle.per_versions.specs.Kept.{
 use rasn_schema::schema::AsnType;
 
 /// Of what a lawful schema reads, in a tree that holds it, an encoder refuses the normal form for one fault alone: a
-/// number past an `i128` that stands within the bounds of an extensible constraint. Behind an extension bit it is read,
+/// number past an `i128` that is within the bounds of an extensible constraint. After an extension bit it is read,
 /// and in root form it can't be written.
 pub fn what_was_read_has_one_fault_at_most()
     ensures { (a : Settings) (s : Schema) (v : Value) (octets : List ℕ) (kind : EncodeErrorKind) → IsLawful s
@@ -54,7 +54,7 @@ pub fn numbers_of_an_i128_are_kept()
         → ends_in_i128 bounds.high ≡ true → keeps_to_i128 (Schema.number bounds mark range) ≡ true }
 {}
 
-/// A type of any depth keeps to the numbers of an `i128` where what stands in it does: the components and additions of
+/// A type of any depth keeps to the numbers of an `i128` where what is in it does: the components and additions of
 /// a record, the elements of a list, the alternatives of a choice.
 pub fn types_of_kept_parts_are_kept()
     ensures record_of { (o : Order) (parts additions : ℕ → Parts) (extensible : Bool)

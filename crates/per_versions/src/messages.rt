@@ -26,7 +26,7 @@ pub fn reader_answers_the_same_whatever_is_unknown<T: Decode>()
         → Answers T.value (λ (w : Value). w ≡ T.value x) answer }
 {}
 
-/// To octets of a value, in which any additions that the type doesn't know are others, with any octets behind them,
+/// To octets of a value, in which any additions that the type doesn't know are others, with any octets after them,
 /// `decode_with_remainder` answers that value and the octets behind; it refuses them for want of memory alone.
 pub fn reader_in_front_answers_the_same_whatever_is_unknown<T: Decode>()
     ensures { let type = T.schema T.CONSTRAINTS in (codec : Codec) (x : T) (octets others rest : List ℕ)

@@ -4,7 +4,7 @@
 
 ghost use Rattle.std.specs.Prelude.{Bool, List, ℕ, Result, Ok};
 ghost use Rattle.rasn_types.specs.declared.types.Codec.{Codec};
-ghost use Rattle.per_laws.specs.Named.{NewerTypeButForNames};
+ghost use Rattle.per_laws.specs.NamedBits.{NewerTypeButForNames};
 ghost use Rattle.per_core.specs.declared.decode_error.DecodeError.{DecodeError};
 ghost use Rattle.rasn_per.specs.Calls.{DecodedBy};
 ghost use Rattle.per_versions.specs.Answers.{Answers, AreKnown};

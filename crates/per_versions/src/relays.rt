@@ -11,7 +11,7 @@ ghost use Rattle.per_core.specs.Versions.{NewerType};
 ghost use Rattle.per_core.specs.declared.decode_error.DecodeError.{DecodeError};
 ghost use Rattle.per_core.specs.declared.decode_error.DecodeErrorKind.TheVariants.{OutOfMemory};
 ghost use Rattle.per_core.specs.declared.encode_error.EncodeError.{EncodeError};
-ghost use Rattle.per_versions.specs.Kept.{KeepsToI128};
+ghost use Rattle.per_versions.specs.NumbersKept.{KeepsToI128};
 ghost use Rattle.rasn_per.specs.Calls.{DecodedBy, Encoded, AreBytes};
 ghost use Rattle.per_versions.specs.Answers.{Answers, Passes};
 ghost use Rattle.per_versions.specs.Readings.{IsInReach, IsProjection, IsWidening, normal_form};

@@ -1,4 +1,4 @@
-//! What `decode_with_remainder` of a type's own, of an older and of a newer version answers to octets that go on behind
+//! What `decode_with_remainder` of a type's own, of an older and of a newer version answers to octets that go on after
 //! a value: what `decode` answers to the front of them, and the rest (X.680, 52).
 
 ghost use Rattle.std.specs.Prelude.{◌≡◌, ◌++◌, ◌≤◌, ℕ, false, List, Result, Ok};
@@ -22,7 +22,7 @@ ghost use Rattle.per_versions.specs.Readings.{
 
 use rasn_codec::codec::{Decode, Encode};
 
-/// What `decode` answers to octets, `decode_with_remainder` answers to the same with any octets behind them, and leaves
+/// What `decode` answers to octets, `decode_with_remainder` answers to the same with any octets after them, and leaves
 /// just these; it refuses for want of memory alone.
 pub fn what_is_decoded_is_decoded_in_front<T: Decode>()
     ensures { let type = T.schema T.CONSTRAINTS in
@@ -144,7 +144,7 @@ pub fn few_levels_are_read_back_in_front<T: Encode + Decode>()
         → AnswersFront T.value (λ (w : Value). w ≡ normal_form type (T.value x)) rest answer }
 {}
 
-/// Of the bytes of a newer type's value whose normal form has 128 levels or fewer, with any octets behind them, an
+/// Of the bytes of a newer type's value whose normal form has 128 levels or fewer, with any octets after them, an
 /// older type's `decode_with_remainder` answers the projection and the rest, and refuses, memory aside, exactly where
 /// there is no projection (X.680, 52).
 pub fn few_levels_are_projected_in_front<New: Encode, Old: Decode>()
@@ -156,7 +156,7 @@ pub fn few_levels_are_projected_in_front<New: Encode, Old: Decode>()
         → AnswersFront Old.value (IsProjection newer older (normal_form newer (New.value x))) rest answer }
 {}
 
-/// Of the bytes of an older type's value whose normal form has 128 levels or fewer, with any octets behind them, a
+/// Of the bytes of an older type's value whose normal form has 128 levels or fewer, with any octets after them, a
 /// newer type's `decode_with_remainder` answers the widening and the rest, and refuses, memory aside, exactly where
 /// there is no widening (X.680, 52).
 pub fn few_levels_are_widened_in_front<New: Decode, Old: Encode>()

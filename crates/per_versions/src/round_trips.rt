@@ -11,7 +11,7 @@ ghost use Rattle.per_core.specs.declared.decode_error.DecodeError.{DecodeError};
 ghost use Rattle.per_core.specs.declared.encode_error.EncodeError.{EncodeError};
 ghost use Rattle.per_core.specs.declared.encode_error.EncodeErrorKind.TheVariants.{IntegerTypeConversionFailed};
 ghost use Rattle.per_core.specs.declared.encode_error.EncodeErrorKind.TheVariants.{OutOfMemory};
-ghost use Rattle.per_versions.specs.Kept.{KeepsToI128};
+ghost use Rattle.per_versions.specs.NumbersKept.{KeepsToI128};
 ghost use Rattle.rasn_per.specs.Calls.{DecodedBy, Encoded, AreBytes, HasNoBytes};
 ghost use Rattle.per_versions.specs.Answers.{Answers};
 ghost use Rattle.per_versions.specs.Readings.{AreCanonical, IsReadBack, normal_form};
@@ -87,8 +87,8 @@ pub fn what_was_decoded_is_encoded_canonically<T: Encode + Decode>()
 {}
 
 /// What a lawful type's `decode` answered to any octets, canonical or not, `encode` writes, in the same variant or in
-/// the other: it refuses that for want of memory, or for a number past an `i128` that came behind an extension bit and
-/// stands within the bounds. A type that keeps to the numbers of an `i128` has none (X.691, 13).
+/// the other: it refuses that for want of memory, or for a number past an `i128` that came after an extension bit and
+/// is within the bounds. A type that keeps to the numbers of an `i128` has none (X.691, 13).
 pub fn what_was_decoded_is_encoded<T: Encode + Decode>()
     ensures one_fault { let type = T.schema T.CONSTRAINTS in IsLawfulType type
         → (strict : Bool) (codec other : Codec) (x : T) (octets : List ℕ)

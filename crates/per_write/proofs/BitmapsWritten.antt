@@ -8,7 +8,7 @@ use Rattle.rasn_types.specs.Packed.{packed}
 use Rattle.rasn_types.specs.declared.types.Codec.{Codec}
 use Rattle.rasn_constraints.specs.Bounds.{any_size}
 use Rattle.rasn_types.proofs.Bits.{length-to_bits}
-use Rattle.per_bits.proofs.Joins.{put_behind}
+use Rattle.per_bits.proofs.Joins.{put_after}
 use Rattle.per_bits.proofs.Words.{to_bits-join}
 use Rattle.per_core.specs.Canon.{any_set, bitmap}
 use Rattle.per_core.specs.Counts.{bit_items, bit_writers, counted_in, open_bits, unconstrained_octets}
@@ -16,7 +16,7 @@ use Rattle.per_core.specs.Writers.{just, ◌▹◌}
 use Rattle.per_core.specs.declared.encode_error.EncodeError.{EncodeError}
 use Rattle.per_write.specs.Faults.{IsMemory}
 use Rattle.per_write.specs.Items.{IsMemoryOrItem}
-use Rattle.per_write.specs.State.{Puts, State, StateAppends}
+use Rattle.per_write.specs.WriterState.{Puts, WriterState, StateAppends}
 use Rattle.per_write.proofs.Writing.{wrote_same, wrote_then}
 
 -- whether a bit from a place on is 1
@@ -52,7 +52,7 @@ small_form : (a : Variant) (flags : Bits) → length flags ≤ 64 → (p : ℕ) 
 unfolding bitmap
 small_form a flags h p = rw (le-leb (length flags) 64 h) (ap (λ (b : Bool). Some ((b ∷ to_bits 6 (length flags - 1)) ++ flags)) (lt-leb 64 ((length flags - 1) % 128) (omega arith)))
 
-pub large_bitmap : (x m y : State) (flags : Bits) (result : Result (Unit {0}) EncodeError) → 64 < length flags → StateAppends x (just (true ∷ [])) m →
+pub large_bitmap : (x m y : WriterState) (flags : Bits) (result : Result (Unit {0}) EncodeError) → 64 < length flags → StateAppends x (just (true ∷ [])) m →
     Puts (IsMemoryOrItem (λ k. ⊥) (bit_writers flags)) (counted_in (variant_of m.codec) any_size bit_items (bit_writers flags)) m result y → Puts IsMemory (bitmap (variant_of x.codec) flags) x result y
 large_bitmap x m y flags (Ok u) h w p = record {
   ok = wrote_same x y _ _ (large_form (variant_of x.codec) flags h) (wrote_then x m y (just (true ∷ [])) (counted_in (variant_of x.codec) any_size bit_items (bit_writers flags)) w
@@ -68,7 +68,7 @@ large_bitmap x m y flags (Err e) h w p = record {
   kept = p.kept ∙ w.same;
 }
 
-pub small_bitmap : (x y : State) (flags all : Bits) (result : Result (Unit {0}) EncodeError) → length flags ≤ 64 → all ≡ to_bits 7 (length flags - 1) ++ flags → Puts IsMemory (just all) x result y →
+pub small_bitmap : (x y : WriterState) (flags all : Bits) (result : Result (Unit {0}) EncodeError) → length flags ≤ 64 → all ≡ to_bits 7 (length flags - 1) ++ flags → Puts IsMemory (just all) x result y →
     Puts IsMemory (bitmap (variant_of x.codec) flags) x result y
 small_bitmap x y flags all (Ok u) h e p = record {
   ok = wrote_same x y _ _ (λ q. ap Some e ∙ small_form (variant_of x.codec) flags h q) p.ok;
@@ -78,8 +78,8 @@ small_bitmap x y flags all (Ok u) h e p = record {
 }
 small_bitmap x y flags all (Err d) h e p = record { ok = tt; err = p.err; fails = p.fails; kept = p.kept }
 
--- a word of so many bits behind their count less one
-pub word_behind : (word count front number : ℕ) → word < 2 ^ count → count ≤ 64 → front ≡ count - 1 → number ≡ bit_or (front * 2 ^ count % 2 ^ 128) word → to_bits (7 + count) number ≡ to_bits 7 (length (to_bits count word) - 1) ++ to_bits count word
-word_behind word count front number h l e k =
-    ap (to_bits (7 + count)) (k ∙ put_behind 128 front word 7 count (omega arith) h (omega arith)) ∙ to_bits-join 7 count front word h
+-- a word of so many bits after their count less one
+pub word_after : (word count front number : ℕ) → word < 2 ^ count → count ≤ 64 → front ≡ count - 1 → number ≡ bit_or (front * 2 ^ count % 2 ^ 128) word → to_bits (7 + count) number ≡ to_bits 7 (length (to_bits count word) - 1) ++ to_bits count word
+word_after word count front number h l e k =
+    ap (to_bits (7 + count)) (k ∙ put_after 128 front word 7 count (omega arith) h (omega arith)) ∙ to_bits-join 7 count front word h
     ∙ ap (λ (n : ℕ). to_bits 7 n ++ to_bits count word) (e ∙ ap (λ (n : ℕ). n - 1) (sym (length-to_bits count word)))

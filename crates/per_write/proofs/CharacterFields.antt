@@ -9,9 +9,9 @@ use Rattle.rasn_types.specs.Bits.{Bits, to_bits}
 use Rattle.per_bits.specs.Octets.{low_bits_of}
 use Rattle.per_core.specs.Canon.{char_writers, coded}
 use Rattle.per_core.specs.Writers.{Writer, after, go_on, join, just, one_by_one, ◌▹◌}
-use Rattle.per_write.specs.Characters.{AreOwnBetween, IsField}
-use Rattle.per_write.specs.Remains.{Remains}
-use Rattle.per_write.specs.State.{State, StateAppends}
+use Rattle.per_write.specs.Characters.{AreOwnBetween, IsBitField}
+use Rattle.per_write.specs.Unwritten.{Remains}
+use Rattle.per_write.specs.WriterState.{WriterState, StateAppends}
 use Rattle.per_write.proofs.Fields.{field_more, one_more}
 use Rattle.per_write.proofs.OpenTypes.{IsStill, still_then}
 use Rattle.per_write.proofs.Steps.{next_between}
@@ -33,7 +33,7 @@ nothing_before (Some b) = refl
 
 -- ---- a field of no characters, and one with a character more
 
-pub field_first : (a : Alphabet) (cs : List ℕ) (i number : ℕ) → IsField a cs i i number
+pub field_first : (a : Alphabet) (cs : List ℕ) (i number : ℕ) → IsBitField a cs i i number
 unfolding char_writers
 field_first a cs i number last h p =
     let w = char_width a.variant a.characters in
@@ -48,7 +48,7 @@ field_first a cs i number last h p =
 
 field_further : (a : Alphabet) (cs : List ℕ) (start i c code number new : ℕ) → slice_get cs i ≡ Some c → char_code a.variant a.characters c ≡ Some code →
     to_bits ((i + 1 - start) * char_width a.variant a.characters) new ≡ to_bits ((i - start) * char_width a.variant a.characters) number ++ to_bits (char_width a.variant a.characters) code →
-    IsField a cs start i number → IsField a cs start (i + 1) new
+    IsBitField a cs start i number → IsBitField a cs start (i + 1) new
 unfolding char_writers
 field_further a cs start i c code number new g k e r last h p =
     let w = char_width a.variant a.characters in
@@ -63,7 +63,7 @@ field_further a cs start i c code number new g k e r last h p =
 -- the number of a field, which fits its bits
 pub record Field (a : Alphabet) (cs : List ℕ) (start end number : ℕ) : Type 0 where
   pub below : number < 2 ^ ((end - start) * char_width a.variant a.characters)
-  pub written : IsField a cs start end number
+  pub written : IsBitField a cs start end number
 
 pub field_next : (a : Alphabet) (cs : List ℕ) (start i end c code number n width : ℕ) → width ≡ char_width a.variant a.characters → start ≤ i → i < end →
     (end - start) * char_width a.variant a.characters ≤ 56 → slice_get cs i ≡ Some c → char_code a.variant a.characters c ≡ Some code → code < 2 ^ char_width a.variant a.characters → n ≡ code →
@@ -87,7 +87,7 @@ next_within at end most count h e = omega (arith, e)
 -- ---- field by field
 
 -- a field is written of what remains
-pub remains_field : (a : Alphabet) (cs : List ℕ) (at next end number bits n : ℕ) (all : Writer) (x y z : State) → next ≤ end → bits ≡ (next - at) * char_width a.variant a.characters → n ≡ number → IsField a cs at next number →
+pub remains_field : (a : Alphabet) (cs : List ℕ) (at next end number bits n : ℕ) (all : Writer) (x y z : WriterState) → next ≤ end → bits ≡ (next - at) * char_width a.variant a.characters → n ≡ number → IsBitField a cs at next number →
     Remains x all y (one_by_one (slice_range (char_writers a.variant a.characters cs) at end)) → StateAppends y (just (to_bits bits n)) z →
     Remains x all z (one_by_one (slice_range (char_writers a.variant a.characters cs) next end))
 remains_field a cs at next end number bits n all x y z h e d f r w =

@@ -1,5 +1,5 @@
 -- Items under a size constraint, as they are written and refused.
-use Rattle.std.specs.Prelude.{option_map, slice_range, IfErr}
+use Rattle.std.specs.Prelude.{option_map, slice_range, is_some, IfErr}
 use Rattle.std.specs.Option.{unwrap_or}
 use Rattle.std.proofs.Common.{◌≡◌, refl, sym, ap, ap₂, ◌∙◌, subst, ℕ, ◌+◌, ◌-◌, ◌^◌, ◌<◌, ◌≤◌, Bool, true, false, ◌&&◌, cond, ltb, leb, lt-ltb, le-leb, leb-true, ltb-true, List, [], ◌∷◌, length, drop, drop-drop, take_all, length-take, length-drop, arith, Option, Some, None, Result, Ok, Err, pos}
 use Rattle.std.proofs.lemmas.Bool.{le-ltb}
@@ -20,11 +20,11 @@ use Rattle.per_core.specs.declared.encode_error.EncodeErrorKind.TheVariants.{Siz
 use Rattle.per_write.specs.Faults.{IsError, IsMemory}
 use Rattle.per_write.specs.Items.{IsOnlySize, RefusesCounted, no_memory, wrong_count}
 use Rattle.per_pieces.specs.Fragments.{one_fragment}
-use Rattle.per_write.specs.State.{State, StateAppends}
+use Rattle.per_write.specs.WriterState.{WriterState, StateAppends}
 use Rattle.per_core.proofs.ConstrainedLengths.{IsConstrained, IsFree}
 use Rattle.per_core.proofs.LengthForms.{and_left, and_right}
 use Rattle.per_pieces.proofs.Fragments.{first_fragment, in_their_fragments, fragments_of_few, fragments_of_many}
-use Rattle.per_write.specs.Remains.{Remains}
+use Rattle.per_write.specs.Unwritten.{Remains}
 use Rattle.per_pieces.proofs.Writing.{then_assoc}
 use Rattle.per_write.proofs.Writing.{remains_after, remains_last, wrote_none, wrote_same, wrote_then}
 
@@ -32,8 +32,8 @@ use Rattle.per_write.proofs.Writing.{remains_after, remains_last, wrote_none, wr
 length-slice : (ws : List Writer) (start end : ℕ) → start ≤ end → end ≤ length ws → length (slice_range ws start end) ≡ end - start
 length-slice ws start end h l = length-take (end - start) (drop start ws) ∙ omega (arith, length-drop start ws)
 
--- items behind their count
-pub wrote_fragment : (writers : Variant → List Writer) (x m y : State) (start end : ℕ) → start ≤ end → end ≤ length (writers (variant_of x.codec)) →
+-- items after their count
+pub wrote_fragment : (writers : Variant → List Writer) (x m y : WriterState) (start end : ℕ) → start ≤ end → end ≤ length (writers (variant_of x.codec)) →
     StateAppends x (padding (variant_of x.codec) ▹ just (determinant (end - start))) m → StateAppends m (one_by_one (slice_range (writers (variant_of m.codec)) start end)) y →
     StateAppends x (one_fragment (variant_of x.codec) (slice_range (writers (variant_of x.codec)) start end)) y
 wrote_fragment writers x m y start end h l v w =
@@ -42,7 +42,7 @@ wrote_fragment writers x m y start end h l v w =
     (wrote_then x m y _ _ v (subst (λ (c : Codec). StateAppends m (one_by_one (slice_range (writers (variant_of c)) start end)) y) v.same w))
 
 -- one fragment more
-pub fragment_written : (writers : Variant → List Writer) (x y z : State) (start end n : ℕ) →
+pub fragment_written : (writers : Variant → List Writer) (x y z : WriterState) (start end n : ℕ) →
     let all = writers (variant_of x.codec) in
     n ≡ length all → 16384 ≤ n - start → end ≡ start + first_fragment (n - start) →
     Remains x (in_fragments (variant_of x.codec) (fragment_sizes (length all)) all) y (in_fragments (variant_of x.codec) (fragment_sizes (length (drop start all))) (drop start all)) →
@@ -62,7 +62,7 @@ fragment_written writers x y z start end n e h d r w =
     (subst (λ (c : Codec). StateAppends y (one_fragment (variant_of c) (slice_range (writers (variant_of c)) start end)) z) r.same w)
 
 -- the last fragment
-pub last_written : (writers : Variant → List Writer) (kind : ItemKind) (x y z : State) (start n : ℕ) →
+pub last_written : (writers : Variant → List Writer) (kind : ItemKind) (x y z : WriterState) (start n : ℕ) →
     let all = writers (variant_of x.codec) in
     n ≡ length all → n < 2 ^ 64 → start ≤ n → n - start < 16384 →
     Remains x (in_fragments (variant_of x.codec) (fragment_sizes (length all)) all) y (in_fragments (variant_of x.codec) (fragment_sizes (length (drop start all))) (drop start all)) →
@@ -120,8 +120,8 @@ pub counted_free : (a : Variant) (least most : Option ℕ) (kind : ItemKind) (it
 counted_free a least most kind items f h p =
     ap (λ (w : Writer). w p) (sym (under_free a least most kind (length items) items f)) ∙ ap (λ (t : Bool). written_if t (counted_under a least most kind (length items) items) p) (sym h)
 
--- items behind a count within bounds
-pub wrote_bounded : (writers : Variant → List Writer) (kind : ItemKind) (x m y : State) (least most : Option ℕ) (l u n : ℕ) (on_octet : Bool) →
+-- items after a count within bounds
+pub wrote_bounded : (writers : Variant → List Writer) (kind : ItemKind) (x m y : WriterState) (least most : Option ℕ) (l u n : ℕ) (on_octet : Bool) →
     let all = writers (variant_of x.codec) in
     IsConstrained least most l u → n ≡ length all → allows (record { least = least; most = most }) (length all) ≡ true → on_octet ≡ (ltb 0 n && is_aligned kind l u) →
     StateAppends x (constrained_whole (variant_of x.codec) (u - l + 1) (n - l) ▹ padding_if on_octet (variant_of x.codec)) m →
@@ -150,7 +150,7 @@ without_length a l u n t v e h k p =
     ∙ ap (λ (m : ℕ). (constrained_whole unaligned (u - l + 1) m ▹ padding_if t unaligned) p) (let z : 0 ≡ n - l = omega (arith, e, h, k) in z)
     ∙ ap (λ (b : Variant). (constrained_whole b (u - l + 1) (n - l) ▹ padding_if t b) p) (sym v)
 
-pub wrote_without_length : (writers : Variant → List Writer) (kind : ItemKind) (x y : State) (least most : Option ℕ) (l u n : ℕ) → x.failed ≡ false →
+pub wrote_without_length : (writers : Variant → List Writer) (kind : ItemKind) (x y : WriterState) (least most : Option ℕ) (l u n : ℕ) → x.failed ≡ false →
     let all = writers (variant_of x.codec) in
     IsConstrained least most l u → n ≡ length all → allows (record { least = least; most = most }) (length all) ≡ true → variant_of x.codec ≡ unaligned → l ≡ u → l ≤ n → n ≤ u →
     StateAppends x (one_by_one (slice_range (writers (variant_of x.codec)) 0 n)) y →
@@ -166,7 +166,7 @@ allows_only n k few e =
     subst (λ (m : ℕ). allows (record { least = Some n; most = Some n }) m ≡ true) e
     (ap₂ (λ (p q : Bool). p && (p && q)) (le-leb n n (omega arith)) (lt-ltb n (2 ^ 64) (omega (arith, few))))
 
-pub wrote_only_count : (x y : State) (size : Option (Extensible (Bounded ℕ))) (kind : ItemKind) (items : List Writer) (n : ℕ) → x.failed ≡ false → variant_of x.codec ≡ unaligned
+pub wrote_only_count : (x y : WriterState) (size : Option (Extensible (Bounded ℕ))) (kind : ItemKind) (items : List Writer) (n : ℕ) → x.failed ≡ false → variant_of x.codec ≡ unaligned
     → IsOnlySize size n → n ≡ length items → StateAppends x (one_by_one items) y → StateAppends x (counted (variant_of x.codec) (size_in size) (is_marked size) kind items) y
 wrote_only_count x y size kind items n f v only e w =
     let a = variant_of x.codec in
@@ -176,21 +176,27 @@ wrote_only_count x y size kind items n f v only e w =
     subst (λ (m : Bool). StateAppends x (counted a (size_in size) m kind items) y) (sym only.unmarked)
     (subst (λ (z : Size). StateAppends x (counted_in a z kind items) y) (sym only.alone) within)
 
+-- items of which no size is stated
+pub wrote_unstated : (a : Variant) (x y : WriterState) (size : Option (Extensible (Bounded ℕ))) (kind : ItemKind) (items : List Writer) → is_some size ≡ false
+    → StateAppends x (counted a any_size false kind items) y → StateAppends x (counted a (size_in size) (is_marked size) kind items) y
+wrote_unstated a x y None kind items e w = w
+wrote_unstated a x y (Some s) kind items e w = absurd cc
+
 -- want of memory refuses counted items
-pub refused_for_memory : (size : Size) (mark : Bool) (items : List Writer) (x : State) (r : Result (Unit {0}) EncodeError)
+pub refused_for_memory : (size : Size) (mark : Bool) (items : List Writer) (x : WriterState) (r : Result (Unit {0}) EncodeError)
     → IfErr r (λ e. IsMemory e x) → IfErr r (λ e. RefusesCounted size mark (λ k. ⊥) items e x)
 refused_for_memory size mark items x (Ok u) h = tt
 refused_for_memory size mark items x (Err e) h = no_memory h
 
 -- items whose count no bounds constrain
-pub wrote_free : (items : List Writer) (kind : ItemKind) (x y : State) (least most : Option ℕ) → IsFree least most → allows (record { least = least; most = most }) (length items) ≡ true
+pub wrote_free : (items : List Writer) (kind : ItemKind) (x y : WriterState) (least most : Option ℕ) → IsFree least most → allows (record { least = least; most = most }) (length items) ≡ true
     → StateAppends x (counted_in (variant_of x.codec) any_size kind items) y → StateAppends x (counted_in (variant_of x.codec) (record { least = least; most = most }) kind items) y
 wrote_free items kind x y least most f h w =
     let a = variant_of x.codec in
     wrote_same x y (counted_in a any_size kind items) (counted_in a (record { least = least; most = most }) kind items)
     (λ p. sym (in_their_fragments a kind items (allowed_small least most (length items) h) p) ∙ counted_free a least most kind items f h p) w
 
--- whether padding stands in front of items
+-- whether padding is in front of items
 pub pads_some : (n : ℕ) (o t : Bool) → 0 < n → o ≡ t → o ≡ (ltb 0 n && t)
 pads_some n o t h e = e ∙ ap (λ (b : Bool). b && t) (sym (lt-ltb 0 n h))
 
@@ -229,7 +235,7 @@ allowed_is b lower upper n k t l u e h w =
     ∙ sym w
 
 -- a size's extension bit, and the items
-pub wrote_inside : (writers : Variant → List Writer) (kind : ItemKind) (size under : Size) (mark : Bool) (x m y : State) → mark ≡ true → size ≡ under →
+pub wrote_inside : (writers : Variant → List Writer) (kind : ItemKind) (size under : Size) (mark : Bool) (x m y : WriterState) → mark ≡ true → size ≡ under →
     allows under (length (writers (variant_of x.codec))) ≡ true → StateAppends x (just (false ∷ [])) m → StateAppends m (counted_in (variant_of m.codec) under kind (writers (variant_of m.codec))) y →
     StateAppends x (counted (variant_of x.codec) size mark kind (writers (variant_of x.codec))) y
 wrote_inside writers kind size under mark x m y e d h v w =
@@ -241,7 +247,7 @@ wrote_inside writers kind size under mark x m y e d h v w =
     (λ p. ap (λ (b : Bool). marked_form true b (counted_in a under kind all) (counted_in a any_size kind all) p) (sym h))
     (wrote_then x m y _ _ v (subst (λ (c : Codec). StateAppends m (counted_in (variant_of c) under kind (writers (variant_of c))) y) v.same w))))
 
-pub wrote_outside : (writers : Variant → List Writer) (kind : ItemKind) (size under : Size) (mark : Bool) (x m y : State) → mark ≡ true → size ≡ under →
+pub wrote_outside : (writers : Variant → List Writer) (kind : ItemKind) (size under : Size) (mark : Bool) (x m y : WriterState) → mark ≡ true → size ≡ under →
     allows under (length (writers (variant_of x.codec))) ≡ false → StateAppends x (just (true ∷ [])) m → StateAppends m (counted_in (variant_of m.codec) any_size kind (writers (variant_of m.codec))) y →
     StateAppends x (counted (variant_of x.codec) size mark kind (writers (variant_of x.codec))) y
 wrote_outside writers kind size under mark x m y e d h v w =
@@ -254,7 +260,7 @@ wrote_outside writers kind size under mark x m y e d h v w =
     (wrote_then x m y _ _ v (subst (λ (c : Codec). StateAppends m (counted_in (variant_of c) any_size kind (writers (variant_of c))) y) v.same w))))
 
 -- a count that is refused
-pub refuses_count : (size : Size) (mark : Bool) (fault : EncodeErrorKind → Type 0) (items : List Writer) (e : EncodeError) (x : State) (lower upper : Option ℕ) (n : ℕ) →
+pub refuses_count : (size : Size) (mark : Bool) (fault : EncodeErrorKind → Type 0) (items : List Writer) (e : EncodeError) (x : WriterState) (lower upper : Option ℕ) (n : ℕ) →
     n ≡ length items → mark ≡ false → size ≡ record { least = lower; most = upper } → allows (record { least = lower; most = upper }) (length items) ≡ false →
     IsError (SizeConstraintNotSatisfied (record { size = n; lower = lower; upper = upper })) e x → RefusesCounted size mark fault items e x
 refuses_count size mark fault items e x lower upper n d m s h i =

@@ -25,8 +25,8 @@ none_filled place w number before front rest e d = record {
   place = d ∙ ap bit_count (sym (append-nil front));
 }
 
-one_behind : (front : List Piece) (done : Bits) (c : Bool) → (front ++ plain done) ++ bit c ∷ [] ≡ front ++ plain (done ++ c ∷ [])
-one_behind front done c = append_assoc front (plain done) (bit c ∷ []) ∙ ap (λ (ps : List Piece). front ++ ps) (sym (plain_append done (c ∷ [])))
+one_after : (front : List Piece) (done : Bits) (c : Bool) → (front ++ plain done) ++ bit c ∷ [] ≡ front ++ plain (done ++ c ∷ [])
+one_after front done c = append_assoc front (plain done) (bit c ∷ []) ∙ ap (λ (ps : List Piece). front ++ ps) (sym (plain_append done (c ∷ [])))
 
 -- one bit more
 pub next_filled : (place w number : ℕ) (before now : List Piece) (left next : ℕ) → AreFilled place w number before (suc left) next now
@@ -38,8 +38,8 @@ next_filled place w number before now left next h front rest e d =
       done = f.done ++ b ∷ [];
       given = append_assoc f.done (b ∷ []) (to_bits left number) ∙ f.given;
       list = ap₂ (λ ps i. set_bit ps i b) f.list f.place ∙ set_seam (front ++ plain f.done) (plain (replicate left false) ++ rest) false b
-          ∙ sym (append_assoc (front ++ plain f.done) (bit b ∷ []) (plain (replicate left false) ++ rest)) ∙ ap (λ ps. ps ++ (plain (replicate left false) ++ rest)) (one_behind front f.done b);
-      place = omega (arith, f.place, ap length (bits_of_append (front ++ plain f.done) (bit b ∷ [])), length-append (bits_of (front ++ plain f.done)) (b ∷ []), ap bit_count (one_behind front f.done b));
+          ∙ sym (append_assoc (front ++ plain f.done) (bit b ∷ []) (plain (replicate left false) ++ rest)) ∙ ap (λ ps. ps ++ (plain (replicate left false) ++ rest)) (one_after front f.done b);
+      place = omega (arith, f.place, ap length (bits_of_append (front ++ plain f.done) (bit b ∷ [])), length-append (bits_of (front ++ plain f.done)) (b ∷ []), ap bit_count (one_after front f.done b));
     }
 
 -- all of them

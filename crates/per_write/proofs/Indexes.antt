@@ -8,34 +8,34 @@ use Rattle.per_core.specs.Counts.{constrained_whole}
 use Rattle.per_core.specs.Writers.{pad, join}
 use Rattle.per_pieces.specs.Pieces.{Pieces, bit_count, with_bits}
 use Rattle.per_write.specs.Choices.{index_padding, index_width, OpensIndex}
-use Rattle.per_write.specs.State.{Scope, State, StateAppends}
+use Rattle.per_write.specs.WriterState.{Frame, WriterState, StateAppends}
 
 inside : {s t : Bits} → Some s ≡ Some t → s ≡ t
 inside e = cc
 
--- the bits that a writer put behind others
+-- the bits that a writer put after others
 pub joined : (b : Bits) (o : Option Bits) (y : Bits) → Some y ≡ join b o → (c : Bits) × (o ≡ Some c) × (y ≡ b ++ c)
 joined b None y e = absurd cc
 joined b (Some c) y e = (c, refl, cc)
 
--- below 256 alternatives nothing stands in front of the index
+-- below 256 alternatives nothing is in front of the index
 pub no_padding : (a : Variant) (n : ℕ) → n < 256 → (p : ℕ) → index_padding a n p ≡ Some []
 no_padding unaligned n h p = refl
 no_padding aligned n h p = rw (le-leb n 255 (omega arith)) refl
 
--- room is made behind padding
-pub index_opened : (n w : ℕ) (x m z y : State) (q : Pieces) (place : ℕ) (outside : Scope) → StateAppends x (index_padding (variant_of x.codec) n) m
+-- room is made after padding
+pub index_opened : (n w : ℕ) (x m z y : WriterState) (q : Pieces) (place : ℕ) (outside : Frame) → StateAppends x (index_padding (variant_of x.codec) n) m
     → w ≡ index_width (variant_of m.codec) n → q ≡ with_bits m.pieces (replicate w false) → z ≡ record m { pieces = q } → place ≡ bit_count m.pieces.list → outside ≡ z.scope
     → y ≡ record z { scope = record { presences = record { place = place; left = 0 }; additions = None; is_open = true } } → OpensIndex n x outside y
 index_opened n w x m z y q place outside h i k v l o e = record {
   begun = h.begun;
-  waits = o ∙ ap (λ (s : State). s.scope) v ∙ h.beside;
-  unfailed = ap (λ (s : State). s.failed) e ∙ ap (λ (s : State). s.failed) v ∙ h.left;
-  same = ap (λ (s : State). s.codec) e ∙ ap (λ (s : State). s.codec) v ∙ h.same;
+  waits = o ∙ ap (λ (s : WriterState). s.scope) v ∙ h.beside;
+  unfailed = ap (λ (s : WriterState). s.failed) e ∙ ap (λ (s : WriterState). s.failed) v ∙ h.left;
+  same = ap (λ (s : WriterState). s.codec) e ∙ ap (λ (s : WriterState). s.codec) v ∙ h.same;
   padded = m.pieces;
   is_padded = h.appended;
-  pieces = ap (λ (s : State). s.pieces) e ∙ ap (λ (s : State). s.pieces) v ∙ k ∙ ap (λ (j : ℕ). with_bits m.pieces (replicate j false)) (i ∙ ap (λ (c : Codec). index_width (variant_of c) n) h.same);
-  place = ap (λ (s : State). s.scope) e ∙ ap (λ (j : ℕ). record { presences = record { place = j; left = 0 }; additions = None; is_open = true }) l;
+  pieces = ap (λ (s : WriterState). s.pieces) e ∙ ap (λ (s : WriterState). s.pieces) v ∙ k ∙ ap (λ (j : ℕ). with_bits m.pieces (replicate j false)) (i ∙ ap (λ (c : Codec). index_width (variant_of c) n) h.same);
+  place = ap (λ (s : WriterState). s.scope) e ∙ ap (λ (j : ℕ). record { presences = record { place = j; left = 0 }; additions = None; is_open = true }) l;
 }
 
 -- X.691 11.5.7.1: the index of one of 255 alternatives or fewer
@@ -68,7 +68,7 @@ aligned_form : (few : Bool) (n k p : ℕ) (spare : Bits) → leb n 255 ≡ few �
 aligned_form true n k p spare e h u q = few_form n k p spare h (leb-true n 255 e) q
 aligned_form false n k p spare e h u q = many_form (leb n 256) n k p spare refl h (leb-false n 255 e) u q
 
--- X.691 11.5.6, 11.5.7: the index of one of at most 65536 alternatives, behind what stands in front of it
+-- X.691 11.5.6, 11.5.7: the index of one of at most 65536 alternatives, after what is in front of it
 pub index_form : (a : Variant) (n k p : ℕ) (spare : Bits) → k < n → n ≤ 65536 → index_padding a n p ≡ Some spare → constrained_whole a n k p ≡ Some (spare ++ to_bits (index_width a n) k)
 unfolding constrained_whole
 index_form unaligned n k p spare h u q = rw (lt-ltb k n h) (ap (λ (bs : Bits). Some (bs ++ to_bits (width n) k)) (inside q))

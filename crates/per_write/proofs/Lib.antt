@@ -12,7 +12,7 @@ pub mod SetRoots
 pub mod Refusing
 pub mod ShortOpens
 pub mod Steps
-pub mod Vacant
+pub mod EmptyGroups
 pub mod WordFlags
 pub mod Writing
 pub mod Unbounded

@@ -12,7 +12,7 @@ use Rattle.rasn_traits.specs.Calls.{Written}
 use Rattle.per_core.specs.Counts.{bit_items, bit_writers, counted}
 use Rattle.per_write.specs.Rules.{encoder_rules}
 use Rattle.per_write.specs.Items.{RefusesCounted}
-use Rattle.per_write.specs.State.{State, StateAppends}
+use Rattle.per_write.specs.WriterState.{WriterState, StateAppends}
 use Rattle.per_core.specs.declared.encode_error.EncodeError.{EncodeError}
 use Rattle.per_write.proofs.Refusing.{bit_string_law}
 
@@ -30,7 +30,7 @@ unfolding normal
 normal_is size mark bs = refl
 
 -- what is written of bits that have names, where the bits in normal form are written or refused
-pub named_law : (x y : State) (size : Size) (mark : Bool) (n : ℕ) (bs cs : Bits) (result : Result (Unit {0}) EncodeError) → n ≡ unwrap_or size.least 0 → n < 2 ^ 64 → cs ≡ filled_up n (trimmed bs) →
+pub named_law : (x y : WriterState) (size : Size) (mark : Bool) (n : ℕ) (bs cs : Bits) (result : Result (Unit {0}) EncodeError) → n ≡ unwrap_or size.least 0 → n < 2 ^ 64 → cs ≡ filled_up n (trimmed bs) →
     OnOk result (StateAppends x (counted (variant_of x.codec) size mark bit_items (bit_writers cs)) y) → IfErr result (λ e. RefusesCounted size mark (λ k. ⊥) (bit_writers cs) e x) →
     Written encoder_rules (Schema.bit_string size mark true) (normal (Schema.bit_string size mark true) (bits bs)) x result y
 named_law x y size mark n bs cs result e h i w r =
@@ -38,10 +38,10 @@ named_law x y size mark n bs cs result e h i w r =
     subst (λ v. Written encoder_rules (Schema.bit_string size mark true) v x result y) (sym k) (bit_string_law x y size mark true cs result w r)
 
 -- the same, where the state between is the one before
-pub named_put : (x z y : State) (size : Size) (mark : Bool) (n : ℕ) (bs cs : Bits) (result : Result (Unit {0}) EncodeError) → z ≡ x → n ≡ unwrap_or size.least 0 → n < 2 ^ 64 → cs ≡ filled_up n (trimmed bs) →
+pub named_put : (x z y : WriterState) (size : Size) (mark : Bool) (n : ℕ) (bs cs : Bits) (result : Result (Unit {0}) EncodeError) → z ≡ x → n ≡ unwrap_or size.least 0 → n < 2 ^ 64 → cs ≡ filled_up n (trimmed bs) →
     OnOk result (StateAppends z (counted (variant_of z.codec) size mark bit_items (bit_writers cs)) y) → IfErr result (λ e. RefusesCounted size mark (λ k. ⊥) (bit_writers cs) e z) →
     Written encoder_rules (Schema.bit_string size mark true) (normal (Schema.bit_string size mark true) (bits bs)) x result y
 named_put x z y size mark n bs cs result k e h i w r =
     named_law x y size mark n bs cs result e h i
-    (subst (λ (s : State). OnOk result (StateAppends s (counted (variant_of s.codec) size mark bit_items (bit_writers cs)) y)) k w)
-    (subst (λ (s : State). IfErr result (λ e. RefusesCounted size mark (λ k. ⊥) (bit_writers cs) e s)) k r)
+    (subst (λ (s : WriterState). OnOk result (StateAppends s (counted (variant_of s.codec) size mark bit_items (bit_writers cs)) y)) k w)
+    (subst (λ (s : WriterState). IfErr result (λ e. RefusesCounted size mark (λ k. ⊥) (bit_writers cs) e s)) k r)

@@ -1,4 +1,4 @@
--- Open types one behind another: behind padding they are the same wherever they stand (ITU-T X.691, 11.2, 19.9).
+-- Open types one after another: after padding they are the same wherever they stand (ITU-T X.691, 11.2, 19.9).
 use Rattle.std.proofs.Common.{◌≡◌, refl, sym, ap, ◌∙◌, subst, ℕ, ◌/◌, ◌%◌, ◌*◌, ◌^◌, Bool, true, false, List, [], ◌∷◌, ◌++◌, length, take, drop, replicate, Option, Some, None, arith}
 use Rattle.std.specs.Prelude.{nat_lt}
 use Rattle.std.proofs.lemmas.List.{drop-map, take-map, length-replicate}
@@ -102,7 +102,7 @@ value_shown group None e = absurd cc
 value_shown (default d) None e = absurd cc
 value_shown q (Some v) e = (v, refl)
 
--- one addition and those behind it
+-- one addition and those after it
 one_padded : (m : Member) (ms : List Member) (ss : List (Option Value)) (b : Bool) (cs : Bits) (s : Option Value) → shown m.presence s ≡ Some b → any_set (b ∷ cs) ≡ true → (any_set cs ≡ true → IsPadded (opens_of aligned ms ss cs)) →
     IsPadded (opens_of aligned (m ∷ ms) (s ∷ ss) (b ∷ cs))
 one_padded m ms ss true cs (Some v) h u k = padded_then (open_bits aligned (m.writes v 0)) (opens_of aligned ms ss cs) (open_padded (m.writes v 0))
@@ -123,11 +123,11 @@ join_nothing : (o : Option Bits) → join [] o ≡ o
 join_nothing None = refl
 join_nothing (Some b) = refl
 
--- behind padding an octet begins
+-- after padding an octet begins
 on_octet : (g : Writer) (p : ℕ) → (padding aligned ▹ g) p ≡ join (replicate (pad aligned p) false) (g 0)
 on_octet g p = ap (λ (n : ℕ). join (replicate (pad aligned p) false) (g n)) (let e : after p (replicate (pad aligned p) false) ≡ 0 = omega (arith, length-replicate (pad aligned p) false) in e)
 
--- X.691 19.9: open types that were written from position 0 on stand behind padding at any place
+-- X.691 19.9: open types that were written from position 0 on stand after padding at any place
 pub opens_at : (a : Variant) (ms : List Member) (ss : List (Option Value)) (bs os : Bits) → bitmap_of ms ss ≡ Some bs → any_set bs ≡ true → opens_of a ms ss bs 0 ≡ Some os → (p : ℕ) →
     opens_of a ms ss bs p ≡ (padding a ▹ just os) p
 opens_at unaligned ms ss bs os e t w p = opens_still ms ss bs p 0 ∙ w

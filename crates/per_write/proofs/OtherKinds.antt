@@ -15,13 +15,13 @@ use Rattle.per_core.specs.Canon.{also_bit, bitmap_of, bodies_of, canon, char_wri
 use Rattle.per_core.specs.Counts.{char_items, constrained_whole, open_bits, small}
 use Rattle.per_core.specs.Writers.{go_on, ◌▹◌, Writer, written_if}
 use Rattle.per_core.proofs.SetReadings.{written}
-use Rattle.per_pieces.proofs.Writing.{none_behind}
+use Rattle.per_pieces.proofs.Writing.{none_after}
 use Rattle.per_core.specs.declared.encode_error.EncodeError.{EncodeError}
 use Rattle.per_core.specs.declared.encode_error.EncodeErrorKind.TheVariants.{WrongKind}
 use Rattle.per_core.specs.WritingFaults.{at_once}
 use Rattle.per_write.specs.Faults.{IsError, RefusesValue, Stands}
-use Rattle.per_write.specs.Items.{HasRefused, refused_behind, refused_here}
-use Rattle.per_write.specs.State.{State}
+use Rattle.per_write.specs.Items.{HasRefused, refused_after, refused_here}
+use Rattle.per_write.specs.WriterState.{WriterState}
 use Rattle.per_write.proofs.Refusing.{no_contents, none_counted}
 
 one_fails : (b c : Bool) → (b && c) ≡ false → (b ≡ false) ⊎ (c ≡ false)
@@ -48,7 +48,7 @@ flags_none a no_parts (r ∷ rs) h p = refl
 flags_none a (part t q s ps) [] h p = refl
 flags_none a (part t q s ps) (r ∷ rs) h p = elim (one_fails (may_be q r) (all_may_be ps rs) h) [
   | inl e ↦ ap (λ o. go_on (flagged q o p) (flags_of (members a ps) rs) p) (not_shown q r e)
-  | inr e ↦ none_behind (flagged q (shown q r) p) (flags_of (members a ps) rs) p (λ z. flags_none a ps rs e z)
+  | inr e ↦ none_after (flagged q (shown q r) p) (flags_of (members a ps) rs) p (λ z. flags_none a ps rs e z)
 ]
 
 also_none : (o : Option Bool) → also_bit o None ≡ None
@@ -66,7 +66,7 @@ bitmap_none a (part t q s ps) (r ∷ rs) h = elim (one_fails (may_be q r) (all_m
 ]
 
 front_none : (o : Option Bits) (inner rest : Writer) (p : ℕ) → ((q : ℕ) → inner q ≡ None) → go_on o (inner ▹ rest) p ≡ None
-front_none o inner rest p h = none_behind o (inner ▹ rest) p (λ q. ap (λ z. go_on z rest q) (h q))
+front_none o inner rest p h = none_after o (inner ▹ rest) p (λ q. ap (λ z. go_on z rest q) (h q))
 
 with_none : (a : Variant) (ext : Bool) (ms : List Member) (xs : List (Option Value)) (inner : Writer) (p : ℕ) (o : Option Bits) → ((q : ℕ) → inner q ≡ None) → with_additions a ext ms xs inner o p ≡ None
 with_none a ext ms xs inner p None h = refl
@@ -138,9 +138,9 @@ chosen_none a (part t q s ps) (suc i) v h p = chosen_none a ps i v (omega arith)
 alternative_none : (a : Variant) (ps : Parts) (ext : Bool) (qs : Parts) (d : Side) (i : ℕ) (v : Value) → is_of_kind (Schema.choice ps qs ext) (alternative d i v) ≡ false → (p : ℕ) → canon a (Schema.choice ps qs ext) (alternative d i v) p ≡ None
 unfolding canon choice_of
 alternative_none a ps ext qs root i v h p =
-    none_behind (extension_bit ext false p) _ p (λ q. none_behind (constrained_whole a (length (members a ps)) i q) _ q (λ r. chosen_none a ps i v (ltb-false i (count ps) h) r))
+    none_after (extension_bit ext false p) _ p (λ q. none_after (constrained_whole a (length (members a ps)) i q) _ q (λ r. chosen_none a ps i v (ltb-false i (count ps) h) r))
 alternative_none a ps ext qs added i v h p =
-    none_behind (extension_bit ext true p) _ p (λ q. none_behind (small a i q) _ q (λ r. ap (λ o. open_bits a o r) (chosen_none a qs i v (ltb-false i (count qs) h) 0) ∙ no_contents a r))
+    none_after (extension_bit ext true p) _ p (λ q. none_after (small a i q) _ q (λ r. ap (λ o. open_bits a o r) (chosen_none a qs i v (ltb-false i (count qs) h) 0) ∙ no_contents a r))
 
 not_written : (b : Bool) (w : Writer) (p : ℕ) → b ≡ false → written_if b w p ≡ None
 not_written true w p h = absurd cc
@@ -154,8 +154,8 @@ past_numbers aligned n i p h = not_written (ltb i n) _ p h
 
 item_none : (a : Variant) (r e : ℕ) (ext : Bool) (d : Side) (i : ℕ) → is_of_kind (Schema.items r e ext) (item d i) ≡ false → (p : ℕ) → canon a (Schema.items r e ext) (item d i) p ≡ None
 unfolding canon item_of
-item_none a r e ext root i h p = none_behind (extension_bit ext false p) _ p (λ q. past_numbers a r i q h)
-item_none a r e ext added i h p = none_behind (extension_bit ext true p) _ p (λ q. ap (λ b. written_if b (small a i) q) h)
+item_none a r e ext root i h p = none_after (extension_bit ext false p) _ p (λ q. past_numbers a r i q h)
+item_none a r e ext added i h p = none_after (extension_bit ext true p) _ p (λ q. ap (λ b. written_if b (small a i) q) h)
 
 -- a character outside an alphabet
 not_in : (own : List ℕ) (c : ℕ) → has own c ≡ false → index_of c own ≡ None
@@ -179,7 +179,7 @@ unfolding char_writers
 foreign_refused a own [] h = absurd cc
 foreign_refused a own (c ∷ cs) h = elim (one_fails (has own c) (has_all own cs) h) [
   | inl e ↦ refused_here (λ p. ap (λ o. coded (char_width a own) o p) (no_code a own c e))
-  | inr e ↦ refused_behind (foreign_refused a own cs e)
+  | inr e ↦ refused_after (foreign_refused a own cs e)
 ]
 
 characters_none : (a : Variant) (own : List ℕ) (size : Size) (mark : Bool) (cs : List ℕ) → has_all own cs ≡ false → (p : ℕ) → canon a (Schema.char_string own size mark) (characters cs) p ≡ None
@@ -229,7 +229,7 @@ none_of_other a (Schema.sequence o ps ext qs) _ h p = refl
 none_of_other a (Schema.choice ps qs ext) (alternative d i v) h p = alternative_none a ps ext qs d i v h p
 none_of_other a (Schema.choice ps qs ext) _ h p = refl
 
-pub other_refused : (e : EncodeError) (x : State) → IsError WrongKind e x → (s : Schema) (v : Value) → is_of_kind s v ≡ false → RefusesValue e x s v
+pub other_refused : (e : EncodeError) (x : WriterState) → IsError WrongKind e x → (s : Schema) (v : Value) → is_of_kind s v ≡ false → RefusesValue e x s v
 other_refused e x h s v o = record {
   none = λ f p. none_of_other (variant_of x.codec) s v o p;
   stands = subst (λ k. Stands k x s v) (sym h.kind_is) (at_once o);

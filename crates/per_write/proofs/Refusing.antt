@@ -21,27 +21,27 @@ use Rattle.per_core.specs.declared.encode_error.EncodeErrorKind.TheVariants.{Rea
 use Rattle.per_core.specs.declared.encode_error.EncodeErrorKind.TheVariants.{SizeConstraintNotSatisfied}
 use Rattle.per_core.specs.WritingFaults.{at_once, OutsideSize, HasForeign}
 use Rattle.per_write.specs.Faults.{IsError, IsMemory, RefusesValue, Stands}
-use Rattle.per_write.specs.Items.{HasRefused, refused_behind, refused_here, RefusesCounted, no_memory, wrong_count, wrong_item}
+use Rattle.per_write.specs.Items.{HasRefused, refused_after, refused_here, RefusesCounted, no_memory, wrong_count, wrong_item}
 use Rattle.per_pieces.specs.Fragments.{one_fragment}
-use Rattle.per_write.specs.State.{State, StateAppends}
+use Rattle.per_write.specs.WriterState.{WriterState, StateAppends}
 use Rattle.per_pieces.proofs.Fragments.{first_fragment, length-octet_writers, fragments_of_few, fragments_of_many}
 use Rattle.per_write.proofs.Steps.{length-bit_writers, length-char_writers}
-use Rattle.per_pieces.proofs.Writing.{none_behind}
+use Rattle.per_pieces.proofs.Writing.{none_after}
 use Rattle.per_write.proofs.Writing.{wrote_same}
 
 none_one_by_one : (ws : List Writer) → HasRefused ws → (p : ℕ) → one_by_one ws p ≡ None
 none_one_by_one [] h p = elim h [ ]
 none_one_by_one (w ∷ ws) (refused_here h) p = ap (λ o. go_on o (one_by_one ws) p) (h p)
-none_one_by_one (w ∷ ws) (refused_behind h) p = none_behind (w p) (one_by_one ws) p (λ q. none_one_by_one ws h q)
+none_one_by_one (w ∷ ws) (refused_after h) p = none_after (w p) (one_by_one ws) p (λ q. none_one_by_one ws h q)
 
 none_in_fragment : (a : Variant) (ws : List Writer) → HasRefused ws → (p : ℕ) → one_fragment a ws p ≡ None
-none_in_fragment a ws h p = none_behind ((padding a ▹ just (determinant (length ws))) p) (one_by_one ws) p (λ q. none_one_by_one ws h q)
+none_in_fragment a ws h p = none_after ((padding a ▹ just (determinant (length ws))) p) (one_by_one ws) p (λ q. none_one_by_one ws h q)
 
 in_part : (m : ℕ) (ws : List Writer) → HasRefused ws → HasRefused (take m ws) ⊎ HasRefused (drop m ws)
 in_part zero ws h = inr h
 in_part (suc m) [] h = elim h [ ]
 in_part (suc m) (w ∷ ws) (refused_here h) = inl (refused_here h)
-in_part (suc m) (w ∷ ws) (refused_behind h) = elim (in_part m ws h) [ inl i ↦ inl (refused_behind i) | inr i ↦ inr i ]
+in_part (suc m) (w ∷ ws) (refused_after h) = elim (in_part m ws h) [ inl i ↦ inl (refused_after i) | inr i ↦ inr i ]
 
 none_in_fragments : (k : ℕ) (a : Variant) (ws : List Writer) → length ws ≤ k → HasRefused ws → (p : ℕ) → in_fragments a (fragment_sizes (length ws)) ws p ≡ None
 none_in_fragments zero a ws l h p = fragments_of_few a ws (omega arith) p ∙ none_in_fragment a ws h p
@@ -58,7 +58,7 @@ none_in_fragments (suc k) a ws l h p = go (ltb (length ws) 16384) refl (λ vs. n
         fragments_of_many a ws m many refl p
         ∙ elim (in_part m ws h) [
           | inl i ↦ ap (λ o. go_on o (in_fragments a (fragment_sizes (length (drop m ws))) (drop m ws)) p) (none_in_fragment a (take m ws) i p)
-          | inr i ↦ none_behind (one_fragment a (take m ws) p) (in_fragments a (fragment_sizes (length (drop m ws))) (drop m ws)) p (λ q. rest (drop m ws) (omega arith) i q)
+          | inr i ↦ none_after (one_fragment a (take m ws) p) (in_fragments a (fragment_sizes (length (drop m ws))) (drop m ws)) p (λ q. rest (drop m ws) (omega arith) i q)
         ]
 
 -- where an item is refused, nothing is written of all
@@ -74,7 +74,7 @@ none_counted_under a (Some l) (Some u) kind ws h p = go (ltb u 65536)
     pads = padding_if (ltb 0 (length ws) && is_aligned kind l u) a
 
     go : (b : Bool) → cond b (begin ▹ pads ▹ one_by_one ws) (in_fragments a (fragment_sizes (length ws)) ws) p ≡ None
-    go true = none_behind (begin p) (pads ▹ one_by_one ws) p (λ q. none_behind (pads q) (one_by_one ws) q (λ r. none_one_by_one ws h r))
+    go true = none_after (begin p) (pads ▹ one_by_one ws) p (λ q. none_after (pads q) (one_by_one ws) q (λ r. none_one_by_one ws h r))
     go false = none_in_fragments (length ws) a ws (omega arith) h p
 
 none_written_if : (b : Bool) (w : Writer) (p : ℕ) → w p ≡ None → written_if b w p ≡ None
@@ -89,8 +89,8 @@ none_counted a size mark kind ws h p = go mark (allows size (length ws))
 
     go : (m t : Bool) → marked_form m t (counted_in a size kind ws) (counted_in a any_size kind ws) p ≡ None
     go false t = inside size p
-    go true true = none_behind (just (false ∷ []) p) (counted_in a size kind ws) p (inside size)
-    go true false = none_behind (just (true ∷ []) p) (counted_in a any_size kind ws) p (inside any_size)
+    go true true = none_after (just (false ∷ []) p) (counted_in a size kind ws) p (inside size)
+    go true false = none_after (just (true ∷ []) p) (counted_in a any_size kind ws) p (inside any_size)
 
 -- a count outside a size that isn't extensible
 pub none_outside : (a : Variant) (size : Size) (mark : Bool) (kind : ItemKind) (ws : List Writer) → mark ≡ false → allows size (length ws) ≡ false → (p : ℕ) → counted a size mark kind ws p ≡ None
@@ -98,7 +98,7 @@ none_outside a size true kind ws m h p = absurd cc
 none_outside a size false kind ws m h p = ap (λ (b : Bool). written_if b (counted_under a size.least size.most kind (length ws) ws) p) h
 
 -- what a call that writes counted items owes, where they are a value of a schema
-module _ (x y : State) (s : Schema) (v : Value) (size : Size) (mark : Bool) (kind : ItemKind) (fault : EncodeErrorKind → Type 0) (ws : List Writer)
+module _ (x y : WriterState) (s : Schema) (v : Value) (size : Size) (mark : Bool) (kind : ItemKind) (fault : EncodeErrorKind → Type 0) (ws : List Writer)
     (same : (p : ℕ) → counted (variant_of x.codec) size mark kind ws p ≡ canon (variant_of x.codec) s v p)
     (of_count : (lower upper : Option ℕ) → mark ≡ false → OutsideSize size (length ws) (length ws) lower upper → Stands (SizeConstraintNotSatisfied (record { size = length ws; lower = lower; upper = upper })) x s v)
     (of_item : (k : EncodeErrorKind) → (mark || allows size (length ws)) ≡ true → fault k → Stands k x s v) where
@@ -125,12 +125,12 @@ octet_string_form : (a : Variant) (size : Size) (mark : Bool) (os : List ℕ) (p
 unfolding canon
 octet_string_form a size mark os p = refl
 
-octet_count : (x : State) (size : Size) (mark : Bool) (os : List ℕ) (lower upper : Option ℕ) → mark ≡ false → OutsideSize size (length (octet_writers os)) (length (octet_writers os)) lower upper →
+octet_count : (x : WriterState) (size : Size) (mark : Bool) (os : List ℕ) (lower upper : Option ℕ) → mark ≡ false → OutsideSize size (length (octet_writers os)) (length (octet_writers os)) lower upper →
     Stands (SizeConstraintNotSatisfied (record { size = length (octet_writers os); lower = lower; upper = upper })) x (Schema.octet_string size mark) (octets os)
 octet_count x size true os lower upper m o = absurd cc
 octet_count x size false os lower upper m o = at_once (subst (λ (n : ℕ). OutsideSize size n (length (octet_writers os)) lower upper) (length-octet_writers os) o)
 
-pub octet_string_law : (x y : State) (size : Size) (mark : Bool) (os : List ℕ) (result : Result (Unit {0}) EncodeError) →
+pub octet_string_law : (x y : WriterState) (size : Size) (mark : Bool) (os : List ℕ) (result : Result (Unit {0}) EncodeError) →
     OnOk result (StateAppends x (counted (variant_of x.codec) size mark octet_items (octet_writers os)) y) → IfErr result (λ e. RefusesCounted size mark (λ k. ⊥) (octet_writers os) e x) →
     Written encoder_rules (Schema.octet_string size mark) (octets os) x result y
 octet_string_law x y size mark os =
@@ -141,12 +141,12 @@ bit_string_form : (a : Variant) (size : Size) (mark named : Bool) (bs : Bits) (p
 unfolding canon
 bit_string_form a size mark named bs p = refl
 
-bit_count : (x : State) (size : Size) (mark named : Bool) (bs : Bits) (lower upper : Option ℕ) → mark ≡ false → OutsideSize size (length (bit_writers bs)) (length (bit_writers bs)) lower upper →
+bit_count : (x : WriterState) (size : Size) (mark named : Bool) (bs : Bits) (lower upper : Option ℕ) → mark ≡ false → OutsideSize size (length (bit_writers bs)) (length (bit_writers bs)) lower upper →
     Stands (SizeConstraintNotSatisfied (record { size = length (bit_writers bs); lower = lower; upper = upper })) x (Schema.bit_string size mark named) (bits bs)
 bit_count x size true named bs lower upper m o = absurd cc
 bit_count x size false named bs lower upper m o = at_once (subst (λ (n : ℕ). OutsideSize size n (length (bit_writers bs)) lower upper) (length-bit_writers bs) o)
 
-pub bit_string_law : (x y : State) (size : Size) (mark named : Bool) (bs : Bits) (result : Result (Unit {0}) EncodeError) →
+pub bit_string_law : (x y : WriterState) (size : Size) (mark named : Bool) (bs : Bits) (result : Result (Unit {0}) EncodeError) →
     OnOk result (StateAppends x (counted (variant_of x.codec) size mark bit_items (bit_writers bs)) y) → IfErr result (λ e. RefusesCounted size mark (λ k. ⊥) (bit_writers bs) e x) →
     Written encoder_rules (Schema.bit_string size mark named) (bits bs) x result y
 bit_string_law x y size mark named bs =
@@ -158,19 +158,19 @@ char_string_form : (a : Variant) (alphabet : List ℕ) (size : Size) (mark : Boo
 unfolding canon
 char_string_form a alphabet size mark cs p = refl
 
-char_count : (x : State) (a : Variant) (alphabet : List ℕ) (size : Size) (mark : Bool) (cs : List ℕ) (lower upper : Option ℕ) → mark ≡ false →
+char_count : (x : WriterState) (a : Variant) (alphabet : List ℕ) (size : Size) (mark : Bool) (cs : List ℕ) (lower upper : Option ℕ) → mark ≡ false →
     OutsideSize size (length (char_writers a alphabet cs)) (length (char_writers a alphabet cs)) lower upper →
     Stands (SizeConstraintNotSatisfied (record { size = length (char_writers a alphabet cs); lower = lower; upper = upper })) x (Schema.char_string alphabet size mark) (characters cs)
 char_count x a alphabet size true cs lower upper m o = absurd cc
 char_count x a alphabet size false cs lower upper m o = at_once (subst (λ (n : ℕ). OutsideSize size n (length (char_writers a alphabet cs)) lower upper) (length-char_writers a alphabet cs) o)
 
-char_foreign : (x : State) (a : Variant) (alphabet : List ℕ) (size : Size) (mark : Bool) (cs : List ℕ) (k : EncodeErrorKind) → (mark || allows size (length (char_writers a alphabet cs))) ≡ true →
+char_foreign : (x : WriterState) (a : Variant) (alphabet : List ℕ) (size : Size) (mark : Bool) (cs : List ℕ) (k : EncodeErrorKind) → (mark || allows size (length (char_writers a alphabet cs))) ≡ true →
     (k ≡ AlphabetConstraintNotSatisfied) × HasForeign alphabet cs → Stands k x (Schema.char_string alphabet size mark) (characters cs)
 char_foreign x a alphabet size mark cs k m h =
     subst (λ (q : EncodeErrorKind). Stands q x (Schema.char_string alphabet size mark) (characters cs)) (sym h.0)
     (at_once (subst (λ (n : ℕ). (mark || allows size n) ≡ true) (length-char_writers a alphabet cs) m, h.1))
 
-pub char_string_law : (x y : State) (alphabet : Alphabet) (own : List ℕ) (size : Size) (mark : Bool) (cs : List ℕ) (result : Result (Unit {0}) EncodeError) → alphabet.variant ≡ variant_of x.codec → alphabet.characters ≡ own →
+pub char_string_law : (x y : WriterState) (alphabet : Alphabet) (own : List ℕ) (size : Size) (mark : Bool) (cs : List ℕ) (result : Result (Unit {0}) EncodeError) → alphabet.variant ≡ variant_of x.codec → alphabet.characters ≡ own →
     OnOk result (StateAppends x (counted (variant_of x.codec) size mark (char_items (char_width alphabet.variant alphabet.characters)) (char_writers alphabet.variant alphabet.characters cs)) y) →
     IfErr result (λ e. RefusesCounted size mark (λ k. (k ≡ AlphabetConstraintNotSatisfied) × HasForeign alphabet.characters cs) (char_writers alphabet.variant alphabet.characters cs) e x) →
     Written encoder_rules (Schema.char_string own size mark) (characters cs) x result y
@@ -183,7 +183,7 @@ char_string_law x y alphabet own size mark cs result v c w h =
     (char_count x a ds size mark cs) (char_foreign x a ds size mark cs) result w h)
 
 -- X.691 15: a REAL
-pub real_refused : (e : EncodeError) (x : State) → IsError RealNotSupported e x → (v : Value) → RefusesValue e x Schema.real v
+pub real_refused : (e : EncodeError) (x : WriterState) → IsError RealNotSupported e x → (v : Value) → RefusesValue e x Schema.real v
 unfolding canon
 real_refused e x h v = record {
   none = λ f p. refl;
@@ -219,7 +219,7 @@ none_of_absent a (Schema.set_of e size mark) p = refl
 none_of_absent a (Schema.sequence o ps ext adds) p = refl
 none_of_absent a (Schema.choice ps adds ext) p = refl
 
-pub absent_refused : (e : EncodeError) (x : State) → IsError OutOfTurn e x → (s : Schema) → RefusesValue e x s no_value
+pub absent_refused : (e : EncodeError) (x : WriterState) → IsError OutOfTurn e x → (s : Schema) → RefusesValue e x s no_value
 absent_refused e x h s = record {
   none = λ f p. none_of_absent (variant_of x.codec) s p;
   stands = subst (λ k. Stands k x s no_value) (sym h.kind_is) (at_once refl);

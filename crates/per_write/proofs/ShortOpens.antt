@@ -33,7 +33,7 @@ one_short a os h l = begins_short a (octet_writers os)
 pub few_octets : (contents : Bits) (os : List ℕ) → length contents ≤ 1016 → os ≡ complete contents → length os < 128
 few_octets contents os l e = omega (arith, ap (λ (qs : List ℕ). length qs) e ∙ length-pack (max 1 ((length contents + 7) / 8)) contents)
 
--- X.691 11.2: they stand behind their count, at position 0
+-- X.691 11.2: they are after their count, at position 0
 pub short_open : (a : Variant) (contents opened : Bits) (os : List ℕ) (n : ℕ) → length contents ≤ 1016 → os ≡ complete contents → n ≡ length os → opened ≡ unpack (n ∷ os) → Some opened ≡ open_bits a (Some contents) 0
 unfolding open_bits
 short_open a contents opened os n l e c o =

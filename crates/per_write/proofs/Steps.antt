@@ -11,7 +11,7 @@ use Rattle.per_core.specs.Canon.{char_writers, coded}
 use Rattle.per_core.specs.Counts.{bit_writers}
 use Rattle.per_core.specs.Writers.{Writer, after, join, one_by_one}
 use Rattle.per_core.specs.WritingFaults.{HasForeign}
-use Rattle.per_write.specs.Items.{HasRefused, refused_behind, refused_here}
+use Rattle.per_write.specs.Items.{HasRefused, refused_after, refused_here}
 
 -- an element within a list is there
 pub some_within : {A : Type 0} (xs : List A) (i : ℕ) (o : Option A) → o ≡ slice_get xs i → i < length xs → IsSome o
@@ -19,7 +19,7 @@ some_within [] i o e h = absurd (omega arith)
 some_within (x ∷ xs) zero o e h = subst (λ (q : Option _). IsSome q) (sym e) refl
 some_within (x ∷ xs) (suc i) o e h = some_within xs i o e (omega arith)
 
--- the first of the items between two places, and those behind it
+-- the first of the items between two places, and those after it
 pub next_between : {A : Type 0} (f : A → Writer) (xs : List A) (i e : ℕ) (x : A) → i < e → slice_get xs i ≡ Some x → slice_range (map f xs) i e ≡ f x ∷ slice_range (map f xs) (i + 1) e
 next_between f xs i e x h g =
     let within : i < length xs = slice_get_within xs i x g in
@@ -33,7 +33,7 @@ next_between f xs i e x h g =
 refused_at : {A : Type 0} (f : A → Writer) (xs : List A) (i : ℕ) (x : A) → slice_get xs i ≡ Some x → ((p : ℕ) → f x p ≡ None) → HasRefused (map f xs)
 refused_at f [] i x g h = absurd cc
 refused_at f (y ∷ ys) zero x g h = refused_here (λ p. let e : y ≡ x = cc in ap (λ z. f z p) e ∙ h p)
-refused_at f (y ∷ ys) (suc i) x g h = refused_behind (refused_at f ys i x g h)
+refused_at f (y ∷ ys) (suc i) x g h = refused_after (refused_at f ys i x g h)
 
 pub character_refused : (a : Alphabet) (cs : List ℕ) (i c : ℕ) → slice_get cs i ≡ Some c → char_code a.variant a.characters c ≡ None → HasRefused (char_writers a.variant a.characters cs)
 unfolding char_writers
@@ -71,7 +71,7 @@ bits_one_by_one (b ∷ bs) p = ap (join (b ∷ [])) (bits_one_by_one bs (after p
 pub bits_between : (bs : Bits) (start end : ℕ) → slice_range (bit_writers bs) start end ≡ bit_writers (slice_range bs start end)
 bits_between bs start end = ap (take (end - start)) (drop-map _ start bs) ∙ take-map _ (end - start) (drop start bs)
 
--- what is taken of octets behind `start` bits is what stands there of the bits that the octets hold
+-- what is taken of octets behind `start` bits is what is there of the bits that the octets hold
 pub taken_between : (bs all front rest these others : Bits) (start end : ℕ) → take (length bs) all ≡ bs → end ≤ length bs → start ≤ end → all ≡ front ++ rest → length front ≡ start →
     rest ≡ these ++ others → length these ≡ end - start → these ≡ slice_range bs start end
 taken_between bs all front rest these others start end h l o e f i k =

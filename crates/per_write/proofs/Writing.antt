@@ -1,13 +1,13 @@
--- Writers one after another, and what they write behind what was written.
+-- Writers one after another, and what they write after what was written.
 use Rattle.std.proofs.Common.{◌≡◌, refl, sym, ap, ◌∙◌, ℕ, false, [], ◌++◌, Some}
 use Rattle.rasn_types.specs.Bits.{Bits}
 use Rattle.per_core.specs.Writers.{Writer, just, join, go_on, after, ◌▹◌}
 use Rattle.per_pieces.proofs.Placed.{appends_none, appends_same, appends_then, remains_after as pieces_after, remains_all as pieces_all, remains_last as pieces_last}
 use Rattle.per_pieces.proofs.Writing.{then_assoc}
-use Rattle.per_write.specs.Remains.{Remains}
-use Rattle.per_write.specs.State.{AppendsBits, State, StateAppends}
+use Rattle.per_write.specs.Unwritten.{Remains}
+use Rattle.per_write.specs.WriterState.{AppendsBits, WriterState, StateAppends}
 
--- what stands behind some bits, and then a further thing
+-- what is after some bits, and then a further thing
 pub behind : (x y : Bits) (f g : Writer) → AppendsBits x f y → (just y ▹ g) 0 ≡ (just x ▹ f ▹ g) 0
 behind x y f g h = ap (λ o. go_on o g 0) h ∙ sym (then_assoc (just x) f g 0)
 
@@ -17,11 +17,11 @@ bits_then x y z f g h k = k ∙ behind x y f g h
 pub bits_same : (x y : Bits) (f g : Writer) → ((p : ℕ) → f p ≡ g p) → AppendsBits x f y → AppendsBits x g y
 bits_same x y f g e h = h ∙ ap (join x) (e (after 0 x))
 
-pub bits_behind : (x y b : Bits) → y ≡ x ++ b → AppendsBits x (just b) y
-bits_behind x y b e = ap Some e
+pub bits_after : (x y b : Bits) → y ≡ x ++ b → AppendsBits x (just b) y
+bits_after x y b e = ap Some e
 
 -- one thing and then another
-pub wrote_then : (x m y : State) (f g : Writer) → StateAppends x f m → StateAppends m g y → StateAppends x (f ▹ g) y
+pub wrote_then : (x m y : WriterState) (f g : Writer) → StateAppends x f m → StateAppends m g y → StateAppends x (f ▹ g) y
 wrote_then x m y f g h k = record {
   begun = h.begun;
   left = k.left;
@@ -31,7 +31,7 @@ wrote_then x m y f g h k = record {
 }
 
 -- the same from each position
-pub wrote_same : (x y : State) (f g : Writer) → ((p : ℕ) → f p ≡ g p) → StateAppends x f y → StateAppends x g y
+pub wrote_same : (x y : WriterState) (f g : Writer) → ((p : ℕ) → f p ≡ g p) → StateAppends x f y → StateAppends x g y
 wrote_same x y f g e h = record {
   begun = h.begun;
   left = h.left;
@@ -40,10 +40,10 @@ wrote_same x y f g e h = record {
   appended = appends_same x.pieces y.pieces f g e h.appended;
 }
 
-pub remains_all : (x : State) (all : Writer) → x.failed ≡ false → Remains x all x all
+pub remains_all : (x : WriterState) (all : Writer) → x.failed ≡ false → Remains x all x all
 remains_all x all f = record { begun = f; left = f; same = refl; beside = refl; pieces = pieces_all x.pieces all }
 
-pub remains_after : (x y z : State) (all rest f next : Writer) → Remains x all y rest → ((p : ℕ) → rest p ≡ (f ▹ next) p) → StateAppends y f z → Remains x all z next
+pub remains_after : (x y z : WriterState) (all rest f next : Writer) → Remains x all y rest → ((p : ℕ) → rest p ≡ (f ▹ next) p) → StateAppends y f z → Remains x all z next
 remains_after x y z all rest f next h e k = record {
   begun = h.begun;
   left = k.left;
@@ -52,7 +52,7 @@ remains_after x y z all rest f next h e k = record {
   pieces = pieces_after x.pieces y.pieces z.pieces all rest f next h.pieces e k.appended;
 }
 
-pub remains_last : (x y z : State) (all rest f : Writer) → Remains x all y rest → ((p : ℕ) → rest p ≡ f p) → StateAppends y f z → StateAppends x all z
+pub remains_last : (x y z : WriterState) (all rest f : Writer) → Remains x all y rest → ((p : ℕ) → rest p ≡ f p) → StateAppends y f z → StateAppends x all z
 remains_last x y z all rest f h e k = record {
   begun = h.begun;
   left = k.left;
@@ -61,5 +61,5 @@ remains_last x y z all rest f h e k = record {
   appended = pieces_last x.pieces y.pieces z.pieces all rest f h.pieces e k.appended;
 }
 
-pub wrote_none : (x : State) → x.failed ≡ false → StateAppends x (just []) x
+pub wrote_none : (x : WriterState) → x.failed ≡ false → StateAppends x (just []) x
 wrote_none x f = record { begun = f; left = f; same = refl; beside = refl; appended = appends_none x.pieces }

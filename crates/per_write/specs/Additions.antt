@@ -14,7 +14,7 @@ use Rattle.per_core.specs.declared.encode_error.EncodeError.{EncodeError}
 use Rattle.per_core.specs.declared.encode_error.EncodeErrorKind.TheVariants.{TooManyAdditions}
 use Rattle.per_write.specs.declared.presences.Presences.{Presences}
 use Rattle.per_write.specs.Faults.{IsAlready, IsError, IsMemory}
-use Rattle.per_write.specs.State.{Additions, AppendsBits, State, empty_scope}
+use Rattle.per_write.specs.WriterState.{Additions, AppendsBits, WriterState, empty_scope}
 
 -- what waits outside of an open type: what was written before, and what is kept of the open SEQUENCE
 pub record OutsideAddition : Type 0 where
@@ -48,7 +48,7 @@ abbrev pub is_group_there : Bool → Bits → Bool
 is_group_there has_required contents = has_required || any_set contents
 
 -- an addition is still to be given
-pub record Awaits (x : State) (k : Additions) : Type 0 where
+pub record Awaits (x : WriterState) (k : Additions) : Type 0 where
   pub begun : x.failed ≡ false
   pub some : x.scope.additions ≡ Some k
   pub left : length k.flags < k.count
@@ -59,15 +59,15 @@ NoneLeft None = Unit {0}
 NoneLeft (Some k) = k.count ≤ length k.flags
 
 -- an error by which an addition is refused: memory ran out, or none is left
-abbrev pub RefusesAddition : EncodeError → State → Type 0
+abbrev pub RefusesAddition : EncodeError → WriterState → Type 0
 RefusesAddition e x = IsMemory e x ⊎ (IsError TooManyAdditions e x × NoneLeft x.scope.additions)
 
 -- an error by which an addition is refused: none is left to give, or the encoder had been refused before
-abbrev pub IsSurplus : EncodeError → State → Type 0
+abbrev pub IsSurplus : EncodeError → WriterState → Type 0
 IsSurplus e x = (IsError TooManyAdditions e x × NoneLeft x.scope.additions) ⊎ (IsAlready e x × (x.failed ≡ true))
 
 -- A call that takes the additions of the open SEQUENCE, of which one is still to be given.
-pub record TakesOrNot (x : State) (result : Result Additions EncodeError) (y : State) : Type 0 where
+pub record TakesOrNot (x : WriterState) (result : Result Additions EncodeError) (y : WriterState) : Type 0 where
   pub ok : IfOk result (λ k. Awaits x k)
   pub same : OnOk result (y ≡ record x { scope = record x.scope { additions = None } })
   pub err : IfErr result (λ e. IsError TooManyAdditions e x × NoneLeft x.scope.additions)
@@ -75,46 +75,46 @@ pub record TakesOrNot (x : State) (result : Result Additions EncodeError) (y : S
   pub kept : y.codec ≡ x.codec
 
 -- A call that goes on with additions of which one more is given.
-pub record GivesOrNot (b : Bool) (k : Additions) (x : State) (result : Result (Unit {0}) EncodeError)
-    (y : State) : Type 0 where
+pub record GivesOrNot (b : Bool) (k : Additions) (x : WriterState) (result : Result (Unit {0}) EncodeError)
+    (y : WriterState) : Type 0 where
   pub ok : OnOk result (y ≡ record x { scope = record x.scope { additions = Some (with_next k b k.opens) } })
   pub err : IfErr result (λ e. IsMemory e x)
   pub fails : OnErr result (y.failed ≡ true)
   pub kept : y.codec ≡ x.codec
 
 -- the next addition is absent
-pub record Skips (x y : State) : Type 0 where
+pub record Skips (x y : WriterState) : Type 0 where
   pub before : Additions
   pub awaits : Awaits x before
   pub same : y ≡ record x { scope = record x.scope { additions = Some (with_next before false before.opens) } }
 
 -- A call that gives the next addition as absent.
-pub record SkipsOrNot (x : State) (result : Result (Unit {0}) EncodeError) (y : State) : Type 0 where
+pub record SkipsOrNot (x : WriterState) (result : Result (Unit {0}) EncodeError) (y : WriterState) : Type 0 where
   pub ok : OnOk result (Skips x y)
   pub err : IfErr result (λ e. RefusesAddition e x)
   pub fails : OnErr result (y.failed ≡ true)
   pub kept : y.codec ≡ x.codec
 
 -- an open type begins at position 0, and what was there waits outside; what is open stays so
-pub record Opens (x : State) (outside : OutsideAddition) (y : State) : Type 0 where
+pub record Opens (x : WriterState) (outside : OutsideAddition) (y : WriterState) : Type 0 where
   pub awaits : Awaits x outside.additions
   pub waits : outside ≡ record { pieces = x.pieces; presences = x.scope.presences; additions = outside.additions }
   pub same : y ≡ record x { pieces = no_pieces; scope = empty_scope x.scope.is_open }
 
 -- the contents of the next addition's open type begin
-pub record Begins (x y : State) : Type 0 where
+pub record Begins (x y : WriterState) : Type 0 where
   pub outside : OutsideAddition
   pub opened : Opens x outside y
 
 -- A call that opens the open type of the next addition.
-pub record OpensOrNot (x : State) (result : Result OutsideAddition EncodeError) (y : State) : Type 0 where
+pub record OpensOrNot (x : WriterState) (result : Result OutsideAddition EncodeError) (y : WriterState) : Type 0 where
   pub ok : IfOk result (λ outside. Opens x outside y)
   pub err : IfErr result (λ e. RefusesAddition e x)
   pub fails : OnErr result (y.failed ≡ true)
   pub kept : y.codec ≡ x.codec
 
 -- an addition was given: where it is there, what was written is the contents of its open type, from position 0 on
-pub record Closes (is_there : Bool) (outside : OutsideAddition) (x y : State) : Type 0 where
+pub record Closes (is_there : Bool) (outside : OutsideAddition) (x y : WriterState) : Type 0 where
   pub begun : x.failed ≡ false
   pub opens : Bits
   pub appended : AppendsBits outside.additions.opens (open_if (variant_of x.codec) is_there
@@ -130,9 +130,9 @@ pub record Closes (is_there : Bool) (outside : OutsideAddition) (x y : State) : 
         };
   }
 
--- A call that puts what was written, as the contents of an open type, behind the open types of other additions.
-pub record PutsAddition (k : Additions) (before : Pieces) (x : State) (result : Result Additions EncodeError)
-    (y : State) : Type 0 where
+-- A call that puts what was written, as the contents of an open type, after the open types of other additions.
+pub record PutsAddition (k : Additions) (before : Pieces) (x : WriterState) (result : Result Additions EncodeError)
+    (y : WriterState) : Type 0 where
   pub opens : IfOk result (λ l. AppendsBits k.opens (open_bits (variant_of x.codec)
       (Some (placed_bits x.pieces.list 0))) l.opens)
   pub others : IfOk result (λ l. l ≡ record k { opens = l.opens })
@@ -141,9 +141,9 @@ pub record PutsAddition (k : Additions) (before : Pieces) (x : State) (result : 
   pub fails : OnErr result (y.failed ≡ true)
   pub kept : y.codec ≡ x.codec
 
--- A call that puts the contents of an open type behind the open types of other additions.
-pub record PutsContents (k : Additions) (contents : Bits) (x : State) (result : Result Additions EncodeError)
-    (y : State) : Type 0 where
+-- A call that puts the contents of an open type after the open types of other additions.
+pub record PutsContents (k : Additions) (contents : Bits) (x : WriterState) (result : Result Additions EncodeError)
+    (y : WriterState) : Type 0 where
   pub opens : IfOk result (λ l. AppendsBits k.opens (open_bits (variant_of x.codec) (Some contents)) l.opens)
   pub others : IfOk result (λ l. l ≡ record k { opens = l.opens })
   pub same : OnOk result (y ≡ x)
@@ -152,15 +152,15 @@ pub record PutsContents (k : Additions) (contents : Bits) (x : State) (result : 
   pub kept : y.codec ≡ x.codec
 
 -- A call that closes the open type of an addition.
-pub record ClosesOrNot (is_there : Bool) (outside : OutsideAddition) (x : State)
-    (result : Result (Unit {0}) EncodeError) (y : State) : Type 0 where
+pub record ClosesOrNot (is_there : Bool) (outside : OutsideAddition) (x : WriterState)
+    (result : Result (Unit {0}) EncodeError) (y : WriterState) : Type 0 where
   pub ok : OnOk result (Closes is_there outside x y)
   pub err : IfErr result (λ e. IsMemory e x)
   pub fails : OnErr result (y.failed ≡ true)
   pub kept : y.codec ≡ x.codec
 
 -- the next addition is there: one value in an open type
-pub record Adds (x : State) (s : Schema) (v : Value) (y : State) : Type 0 where
+pub record Adds (x : WriterState) (s : Schema) (v : Value) (y : WriterState) : Type 0 where
   pub before : Additions
   pub awaits : Awaits x before
   pub contents : Bits

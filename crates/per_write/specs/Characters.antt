@@ -25,8 +25,8 @@ abbrev pub text_characters : Codec → List ℕ → CountedItems
 text_characters codec cs = counted_characters (record { variant = variant_of codec; characters = visible }) cs
 
 -- X.691 30.5: the characters from an index on are written as the bits of a number, and then those from a later index on
-abbrev pub IsField : Alphabet → List ℕ → ℕ → ℕ → ℕ → Type 0
-IsField alphabet cs start end number =
+abbrev pub IsBitField : Alphabet → List ℕ → ℕ → ℕ → ℕ → Type 0
+IsBitField alphabet cs start end number =
     let ws = char_writers alphabet.variant alphabet.characters cs in
     let bits = to_bits ((end - start) * char_width alphabet.variant alphabet.characters) number in
     (last : ℕ) → end ≤ last → (p : ℕ) → one_by_one (slice_range ws start last) p

@@ -14,7 +14,7 @@ use Rattle.per_core.specs.declared.encode_error.EncodeErrorKind.TheVariants.{Siz
 use Rattle.per_write.specs.Faults.{IsError, IsMemory}
 use Rattle.per_core.specs.WritingFaults.{OutsideSize}
 use Rattle.per_pieces.specs.Fragments.{one_fragment}
-use Rattle.per_write.specs.State.{Puts, State}
+use Rattle.per_write.specs.WriterState.{Puts, WriterState}
 
 -- what a length counts: of which kind its items are, how each is written, and the fault that a kind of error names in
 -- them
@@ -26,23 +26,23 @@ pub record CountedItems : Type 1 where
 -- one of some items has no encoding, wherever it begins
 pub data HasRefused : List Writer → Type 0 where
   refused_here : {w : Writer} {ws : List Writer} → ((p : ℕ) → w p ≡ None) → HasRefused (w ∷ ws)
-  refused_behind : {w : Writer} {ws : List Writer} → HasRefused ws → HasRefused (w ∷ ws)
+  refused_after : {w : Writer} {ws : List Writer} → HasRefused ws → HasRefused (w ∷ ws)
 
--- an item is refused, and the error's fault stands in the items
+-- an item is refused, and the error's fault is in the items
 pub record RefusesItem (fault : EncodeErrorKind → Type 0) (items : List Writer) (e : EncodeError)
-    (x : State) : Type 0 where
+    (x : WriterState) : Type 0 where
   pub refused : HasRefused items
   pub stands : fault e.kind
   pub codec_is : e.codec ≡ x.codec
 
 -- memory ran out, or an item is refused
-abbrev pub IsMemoryOrItem : (EncodeErrorKind → Type 0) → List Writer → EncodeError → State → Type 0
+abbrev pub IsMemoryOrItem : (EncodeErrorKind → Type 0) → List Writer → EncodeError → WriterState → Type 0
 IsMemoryOrItem fault items e x = IsMemory e x ⊎ RefusesItem fault items e x
 
 -- why items under a size constraint are not written: want of memory; their count, where the constraint isn't
 -- extensible; or, where the count is allowed or the constraint is extensible, one of them
 pub data RefusesCounted (size : Size) (mark : Bool) (fault : EncodeErrorKind → Type 0) (items : List Writer)
-    (e : EncodeError) (x : State) : Type 0 where
+    (e : EncodeError) (x : WriterState) : Type 0 where
   no_memory : IsMemory e x → RefusesCounted size mark fault items e x
   wrong_count : {lower upper : Option ℕ} → mark ≡ false → OutsideSize size (length items) (length items) lower upper →
       IsError (SizeConstraintNotSatisfied (record { size = length items; lower = lower; upper = upper })) e x
@@ -54,15 +54,15 @@ pub data RefusesCounted (size : Size) (mark : Bool) (fault : EncodeErrorKind →
 abbrev pub items_between : ℕ → ℕ → CountedItems → Variant → Writer
 items_between start end items a = one_by_one (slice_range (items.writers a) start end)
 
--- X.691 11.9.3.5 to 11.9.3.8: the same behind one length
+-- X.691 11.9.3.5 to 11.9.3.8: the same after one length
 abbrev pub fragment_between : ℕ → ℕ → CountedItems → Variant → Writer
 fragment_between start end items a = one_fragment a (slice_range (items.writers a) start end)
 
--- X.691 11.9.3.3, 11.9.4.1: all items behind their count, in the form that its bounds give it
+-- X.691 11.9.3.3, 11.9.4.1: all items after their count, in the form that its bounds give it
 abbrev pub sized_items : Option ℕ → Option ℕ → CountedItems → Variant → Writer
 sized_items lower upper items a = counted_in a (record { least = lower; most = upper }) items.kind (items.writers a)
 
--- X.691 11.9.3.5 to 11.9.3.8: all items behind an unconstrained length
+-- X.691 11.9.3.5 to 11.9.3.8: all items after an unconstrained length
 abbrev pub unconstrained_items : CountedItems → Variant → Writer
 unconstrained_items items a = counted_in a any_size items.kind (items.writers a)
 
@@ -78,13 +78,15 @@ pub record IsOnlySize (size : Option (Extensible (Bounded ℕ))) (count : ℕ) :
   pub few : count < 65536
 
 -- A call that writes items in some form: an error says that memory ran out, or that an item is refused.
-abbrev pub PutsItems : CountedItems → (CountedItems → Variant → Writer) → State → Result (Unit {0}) EncodeError → State
+abbrev pub PutsItems : CountedItems → (CountedItems → Variant → Writer) → WriterState → Result (Unit {0}) EncodeError
+    → WriterState
     → Type 0
 PutsItems items form x result y =
     let a = variant_of x.codec in Puts (IsMemoryOrItem items.fault (items.writers a)) (form items a) x result y
 
 -- X.691 16, 17, 20, 30.5: a call that writes items under the size constraint in use
-abbrev pub PutsCounted : Option (Extensible (Bounded ℕ)) → CountedItems → State → Result (Unit {0}) EncodeError → State
+abbrev pub PutsCounted : Option (Extensible (Bounded ℕ)) → CountedItems → WriterState → Result (Unit {0}) EncodeError
+    → WriterState
     → Type 0
 PutsCounted size items x result y =
     let a = variant_of x.codec in

@@ -9,7 +9,7 @@ pub mod Numbers
 pub mod Unplaced
 pub mod Presences
 pub mod Records
-pub mod Remains
+pub mod Unwritten
 pub mod Rules
-pub mod State
+pub mod WriterState
 pub mod Lists

@@ -14,11 +14,11 @@ use Rattle.per_core.specs.declared.encode_error.EncodeErrorKind.TheVariants.{Out
 use Rattle.per_write.specs.declared.lists.UnwrittenElements.{UnwrittenElements}
 use Rattle.per_write.specs.Faults.{IsError, IsMemory}
 use Rattle.per_core.specs.WritingFaults.{OutsideSize}
-use Rattle.per_write.specs.Remains.{Remains}
+use Rattle.per_write.specs.Unwritten.{Remains}
 use Rattle.per_write.specs.Rules.{encoder_rules}
-use Rattle.per_write.specs.State.{State, within}
+use Rattle.per_write.specs.WriterState.{WriterState, within}
 
--- X.691 11.9.3.8: what is left of a fragment of so many items, and then the m items behind it, in fragments of their
+-- X.691 11.9.3.8: what is left of a fragment of so many items, and then the m items after it, in fragments of their
 -- own
 abbrev pub fragment_and : Variant → ℕ → ℕ → List Writer → Writer
 fragment_and a m zero ws = in_fragments a (fragment_sizes m) ws
@@ -30,51 +30,51 @@ abbrev pub still : Variant → Option ℕ → ℕ → List Writer → Writer
 still a None n ws = one_by_one ws
 still a (Some m) n ws = fragment_and a m n ws
 
--- how many items stand behind the open fragment
-abbrev pub count_behind : Option ℕ → ℕ
-count_behind None = 0
-count_behind (Some m) = m
+-- how many items are after the open fragment
+abbrev pub count_after : Option ℕ → ℕ
+count_after None = 0
+count_after (Some m) = m
 
 -- how many items are still to be written
 abbrev pub count_left : UnwrittenElements → ℕ
-count_left l = l.fragment + count_behind l.behind
+count_left l = l.fragment + count_after l.behind
 
--- What stands in front of items was written, in a form: of each list of so many, the rest is still to be written.
-pub record Begins (form : Variant → List Writer → Writer) (count : ℕ) (x : State) (l : UnwrittenElements)
-    (y : State) : Type 0 where
+-- What is in front of items was written, in a form: of each list of so many, the rest is still to be written.
+pub record Begins (form : Variant → List Writer → Writer) (count : ℕ) (x : WriterState) (l : UnwrittenElements)
+    (y : WriterState) : Type 0 where
   pub counted : count_left l ≡ count
   pub some : 0 < count → 0 < l.fragment
   pub remains : (ws : List Writer) → length ws ≡ count → Remains x (form (variant_of x.codec) ws) y
       (still (variant_of x.codec) l.behind l.fragment ws)
 
--- A call that writes what stands in front of so many items, of a list around which something is open or not.
-pub record BeginsItems (errors : EncodeError → State → Type 0) (form : Variant → List Writer → Writer) (count : ℕ)
-    (around : Bool) (x : State) (result : Result UnwrittenElements EncodeError) (y : State) : Type 0 where
+-- A call that writes what is in front of so many items, of a list around which something is open or not.
+pub record BeginsItems (errors : EncodeError → WriterState → Type 0) (form : Variant → List Writer → Writer) (count : ℕ)
+    (around : Bool) (x : WriterState) (result : Result UnwrittenElements EncodeError) (y : WriterState) : Type 0 where
   pub ok : IfOk result (λ l. Begins form count x l y)
   pub stated : IfOk result (λ l. l.around ≡ around)
   pub err : IfErr result (λ e. errors e x)
   pub fails : OnErr result (y.failed ≡ true)
   pub kept : y.codec ≡ x.codec
 
--- What stands in front of items was written, and something is open until the list is closed: of each list of so many,
+-- What is in front of items was written, and something is open until the list is closed: of each list of so many,
 -- the rest is still to be written.
-pub record Enters (form : Variant → List Writer → Writer) (count : ℕ) (x : State) (l : UnwrittenElements)
-    (y : State) : Type 0 where
+pub record Enters (form : Variant → List Writer → Writer) (count : ℕ) (x : WriterState) (l : UnwrittenElements)
+    (y : WriterState) : Type 0 where
   pub counted : count_left l ≡ count
   pub remains : (ws : List Writer) → length ws ≡ count → Remains x (form (variant_of x.codec) ws) (within l.around y)
       (still (variant_of x.codec) l.behind l.fragment ws)
   pub is_open : y.scope.is_open ≡ true
 
 -- A call that opens a list of so many items.
-pub record EntersItems (errors : EncodeError → State → Type 0) (form : Variant → List Writer → Writer) (count : ℕ)
-    (x : State) (result : Result UnwrittenElements EncodeError) (y : State) : Type 0 where
+pub record EntersItems (errors : EncodeError → WriterState → Type 0) (form : Variant → List Writer → Writer) (count : ℕ)
+    (x : WriterState) (result : Result UnwrittenElements EncodeError) (y : WriterState) : Type 0 where
   pub ok : IfOk result (λ l. Enters form count x l y)
   pub err : IfErr result (λ e. errors e x)
   pub fails : OnErr result (y.failed ≡ true)
   pub kept : y.codec ≡ x.codec
 
 -- memory ran out, or a count is outside a size that isn't extensible
-pub data RefusesCount (size : Size) (mark : Bool) (count : ℕ) (e : EncodeError) (x : State) : Type 0 where
+pub data RefusesCount (size : Size) (mark : Bool) (count : ℕ) (e : EncodeError) (x : WriterState) : Type 0 where
   count_memory : IsMemory e x → RefusesCount size mark count e x
   count_outside : {lower upper : Option ℕ} → mark ≡ false → OutsideSize size count count lower upper →
       IsError (SizeConstraintNotSatisfied (record { size = count; lower = lower; upper = upper })) e x
@@ -82,7 +82,8 @@ pub data RefusesCount (size : Size) (mark : Bool) (count : ℕ) (e : EncodeError
 
 -- A list is open, which began at x: its last elements are still to be written, and with them it has its canonical bits.
 -- Something is open until it is closed.
-pub record IsOpenList (f : ListForm) (x : State) (vs : List Value) (l : UnwrittenElements) (y : State) : Type 0 where
+pub record IsOpenList (f : ListForm) (x : WriterState) (vs : List Value) (l : UnwrittenElements)
+    (y : WriterState) : Type 0 where
   pub front : List Value
   pub all_is : f.all ≡ front ++ vs
   pub counted : count_left l ≡ length vs
@@ -91,8 +92,8 @@ pub record IsOpenList (f : ListForm) (x : State) (vs : List Value) (l : Unwritte
   pub is_open : y.scope.is_open ≡ true
 
 -- A call before each element of a list, which gives no presence bit and no addition: where none is left it refuses.
-pub record NextElement (l : UnwrittenElements) (y : State) (result : Result (Unit {0}) EncodeError)
-    (m : UnwrittenElements) (z : State) : Type 0 where
+pub record NextElement (l : UnwrittenElements) (y : WriterState) (result : Result (Unit {0}) EncodeError)
+    (m : UnwrittenElements) (z : WriterState) : Type 0 where
   pub next : WritesNext encoder_rules IsOpenList l y result m z
   pub over : count_left l ≡ 0 → IsErrAnd result (λ e. IsMemory e y ⊎ IsError OutOfTurn e y)
   pub left : OnOk result (z.failed ≡ false)

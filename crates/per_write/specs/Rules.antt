@@ -1,13 +1,13 @@
--- The rules of an encoder that puts a value's canonical bits behind those that were written before.
+-- The rules of an encoder that puts a value's canonical bits after those that were written before.
 use Rattle.rasn_traits.specs.Calls.{EncoderRules}
 use Rattle.per_core.specs.declared.encode_error.EncodeError.{EncodeError}
 use Rattle.per_core.specs.declared.encode_error.EncodeErrorKind.TheVariants.{OutOfTurn, VariantNotInChoice}
 use Rattle.per_write.specs.Faults.{IsError, IsMemory, IsAlready, RefusesValue}
 use Rattle.per_write.specs.Additions.{Adds, Begins, IsSurplus, Skips}
 use Rattle.per_write.specs.Presences.{Marks, IsUnmarked}
-use Rattle.per_write.specs.State.{State, Presents}
+use Rattle.per_write.specs.WriterState.{WriterState, Presents}
 
-abbrev pub encoder_rules : EncoderRules EncodeError State
+abbrev pub encoder_rules : EncoderRules EncodeError WriterState
 encoder_rules = record {
   presents = Presents;
   marks = Marks;

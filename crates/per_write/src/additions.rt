@@ -1,5 +1,5 @@
-//! The additions behind the extension marker of a SEQUENCE (X.691 19.7 to 19.9). They are gathered while its root is
-//! open, and stand behind the root when it is closed.
+//! The additions after the extension marker of a SEQUENCE (X.691 19.7 to 19.9). They are gathered while its root is
+//! open, and stand after the root when it is closed.
 
 ghost use Rattle.std.specs.Prelude.{◌≡◌, length, true, false, nat_lt, Some};
 ghost use Rattle.per_core.specs.Writers.{padding};
@@ -9,7 +9,7 @@ ghost use Rattle.per_write.specs.Additions.{OpensOrNot as OpensOpenType, PutsAdd
 ghost use Rattle.per_write.specs.Additions.{SkipsOrNot, TakesOrNot};
 ghost use Rattle.per_write.specs.Faults.{IsMemory};
 ghost use Rattle.per_write.specs.Records.{KeepsOrNot, PutsAdditions};
-ghost use Rattle.per_write.specs.State.{PutsIn};
+ghost use Rattle.per_write.specs.WriterState.{PutsIn};
 
 use crate::error::{EncodeError, EncodeErrorKind};
 use crate::flags::{GatheredFlags, has_one};
@@ -32,12 +32,12 @@ pub struct Additions<A: Allocator + Clone> {
     count: usize,
     /// A bit for each that was given so far: whether it is there.
     flags: GatheredFlags<A>,
-    /// The open types of those that are there, one behind another.
+    /// The open types of those that are there, one after another.
     opens: BitList<A>,
 }
 
 impl<A: Allocator + Clone> Model for Additions<A> {
-    ghost use Rattle.per_write.specs.State.{Additions};
+    ghost use Rattle.per_write.specs.WriterState.{Additions};
 
     ghost Value = { Additions };
 
@@ -95,7 +95,7 @@ impl<A: Allocator + Clone> Writer<A> {
         })
     }
 
-    /// Closes the open type of an addition (X.691 11.2): what was written in it becomes whole octets, behind their
+    /// Closes the open type of an addition (X.691 11.2): what was written in it becomes whole octets, after their
     /// count. The bits from before are there again.
     #[inline(always)]
     pub fn close_addition(&mut self, outside: OutsideAddition<A>) -> Result<(), EncodeError>
@@ -137,7 +137,7 @@ impl<A: Allocator + Clone> Writer<A> {
         self.give_addition(additions, false)
     }
 
-    /// Puts what was written, as the contents of an open type (X.691 11.2), behind the open types of other additions.
+    /// Puts what was written, as the contents of an open type (X.691 11.2), after the open types of other additions.
     /// Where there is none, short contents become it in their own memory. What was written before is there again.
     fn put_addition(
         &mut self,
@@ -150,15 +150,15 @@ impl<A: Allocator + Clone> Writer<A> {
         let contents = mem::replace(&mut self.pieces, before).into_placed();
         let contents = self.unless_out_of_memory(contents)?;
         if !additions.opens.is_empty() || contents.len() > SHORT_CONTENTS {
-            return self.put_behind(additions, contents);
+            return self.put_after(additions, contents);
         }
         let opens = into_short_open_type(contents);
         additions.opens = self.unless_out_of_memory(opens)?;
         Ok(additions)
     }
 
-    /// Puts the contents of an open type (X.691 11.2) behind the open types of other additions.
-    fn put_behind(
+    /// Puts the contents of an open type (X.691 11.2) after the open types of other additions.
+    fn put_after(
         &mut self,
         additions: Additions<A>,
         contents: BitList<A>,
@@ -236,7 +236,7 @@ impl<A: Allocator + Clone> Writer<A> {
         Ok(())
     }
 
-    /// Writes the additions behind the root of a SEQUENCE (X.691 19.7 to 19.9), unless none is there. Where one wasn't
+    /// Writes the additions after the root of a SEQUENCE (X.691 19.7 to 19.9), unless none is there. Where one wasn't
     /// given it refuses.
     #[inline(always)]
     pub(crate) fn put_additions(&mut self, additions: Additions<A>) -> Result<(), EncodeError>

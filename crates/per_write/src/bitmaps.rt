@@ -4,7 +4,7 @@ ghost use Rattle.std.specs.Prelude.{◌≡◌, ◌<◌, ◌≤◌, ◌^◌, leng
 ghost use Rattle.rasn_types.specs.Bits.{to_bits};
 ghost use Rattle.per_core.specs.Canon.{bitmap};
 ghost use Rattle.per_write.specs.Faults.{IsMemory};
-ghost use Rattle.per_write.specs.State.{PutsIn};
+ghost use Rattle.per_write.specs.WriterState.{PutsIn};
 
 use crate::Writer;
 use crate::error::EncodeError;
@@ -14,7 +14,8 @@ use per_bits::BitList;
 use std::alloc::Allocator;
 
 impl<A: Allocator + Clone> Writer<A> {
-    /// Writes which additions are there, behind their count (X.691 19.7, 19.8, 11.9.3.4).
+    /// Writes which additions are there, after their count (X.691 19.7, 19.8, 11.9.3.4).
+    #[inline(always)]
     pub(crate) fn put_bitmap(
         &mut self,
         flags: &GatheredFlags<A>,
@@ -30,8 +31,9 @@ impl<A: Allocator + Clone> Writer<A> {
         }
     }
 
-    /// Writes up to 64 bits as a bitmap: the low `count` ones of a word, highest first. They and what stands in front
+    /// Writes up to 64 bits as a bitmap: the low `count` ones of a word, highest first. They and what is in front
     /// of them, a zero and the count less one in six bits, are one number.
+    #[inline(always)]
     fn put_small_bitmap(&mut self, word: u64, count: u32) -> Result<(), EncodeError>
         requires begun { self.old.failed ≡ false }
         requires few { count ≤ 64 }
@@ -43,6 +45,7 @@ impl<A: Allocator + Clone> Writer<A> {
     }
 
     /// Writes more than 64 bits as a bitmap.
+    #[inline(never)]
     fn put_large_bitmap(&mut self, bits: &BitList<A>, count: usize) -> Result<(), EncodeError>
         requires begun { self.old.failed ≡ false }
         requires counted { length bits.now ≡ count }

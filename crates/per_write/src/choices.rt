@@ -1,15 +1,15 @@
-//! The index of a CHOICE (X.691 23.6). It is known behind its alternative alone, so its bits are kept where the CHOICE
+//! The index of a CHOICE (X.691 23.6). It is known after its alternative alone, so its bits are kept where the CHOICE
 //! is opened.
 
 ghost use Rattle.std.specs.Prelude.{◌≡◌, ◌+◌, ◌^◌, ◌<◌, ◌≤◌, false};
 ghost use Rattle.rasn_types.specs.Variants.{variant_of};
 ghost use Rattle.per_write.specs.Choices.{FillsIndexOrNot, IsFilled, OpensIndexOrNot, index_padding, index_width};
 ghost use Rattle.per_write.specs.Faults.{IsMemory};
-ghost use Rattle.per_write.specs.State.{PutsIn};
+ghost use Rattle.per_write.specs.WriterState.{PutsIn};
 
 use crate::Writer;
 use crate::error::{EncodeError, EncodeErrorKind};
-use crate::presences::{Presences, Scope};
+use crate::presences::{Frame, Presences};
 use per_pieces::Pieces;
 use per_pieces::lengths::push_padding;
 use rasn_types::types::Codec;
@@ -19,7 +19,7 @@ use std::alloc::Allocator;
 impl<A: Allocator + Clone> Writer<A> {
     /// Opens a CHOICE of so many root alternatives: zeros stand for the index of the one that follows. Answers what
     /// waits outside until the CHOICE is closed.
-    pub fn open_index(&mut self, count: usize) -> Result<Scope<A>, EncodeError>
+    pub fn open_index(&mut self, count: usize) -> Result<Frame<A>, EncodeError>
         requires { self.old.failed ≡ false }
         ensures { OpensIndexOrNot count self.old result self.new }
     {
@@ -37,7 +37,7 @@ impl<A: Allocator + Clone> Writer<A> {
         &mut self,
         count: usize,
         index: usize,
-        outside: Scope<A>,
+        outside: Frame<A>,
     ) -> Result<(), EncodeError>
         requires { self.old.failed ≡ false }
         ensures { FillsIndexOrNot count index outside self.old result self.new }
@@ -53,7 +53,7 @@ impl<A: Allocator + Clone> Writer<A> {
         Ok(())
     }
 
-    /// Writes what stands in front of the index of one of so many root alternatives: in the aligned variant zeros up to
+    /// Writes what is in front of the index of one of so many root alternatives: in the aligned variant zeros up to
     /// the next octet, where the index is whole octets (X.691 11.5.7).
     pub fn put_index_padding(&mut self, count: usize) -> Result<(), EncodeError>
         requires { self.old.failed ≡ false }
@@ -80,7 +80,7 @@ pub fn index_width(codec: Codec, count: usize) -> usize
     width_of(count as u128) as usize
 }
 
-/// Writes the low `width` bits of a number, highest first, over the zeros that stand at a place.
+/// Writes the low `width` bits of a number, highest first, over the zeros that are at a place.
 fn fill<A: Allocator>(pieces: &mut Pieces<A>, place: u128, width: usize, number: usize)
     requires within { place + width < 2 ^ 128 }
     requires few { width ≤ 64 }

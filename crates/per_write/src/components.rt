@@ -13,7 +13,7 @@ use rasn_schema::fields::Fields;
 use std::alloc::{AllocError, Allocator};
 
 impl<A: Allocator + Clone> Writer<A> {
-    /// Opens a SET of so many root components. What was written so far stands before it, and what follows has no place
+    /// Opens a SET of so many root components. What was written so far is before it, and what follows has no place
     /// yet. All memory that the SET needs beside its components is taken here.
     pub fn open_components(&mut self, count: usize) -> Result<EnclosingSet<A>, EncodeError>
         requires { self.old.failed ≡ false }
@@ -40,6 +40,7 @@ impl<A: Allocator + Clone> Writer<A> {
     }
 
     /// The same, where something may be counted or gathered.
+    #[inline(never)]
     fn note_enclosed(&mut self, set: &mut EnclosingSet<A>)
         ensures { record { writer = self.new; set = set.new } ≡ noted set.old self.old }
     {
@@ -64,7 +65,7 @@ impl<A: Allocator + Clone> Writer<A> {
         }
     }
 
-    /// Puts the components of an open SET with some fields behind what stands before it, in ascending order of their
+    /// Puts the components of an open SET with some fields after what is before it, in ascending order of their
     /// smallest tags: their presence bits, and then their values. Where the SET isn't complete it refuses.
     pub fn put_components(&mut self, set: OpenSet<A>, fields: &Fields) -> Result<(), EncodeError>
         requires { self.old.failed ≡ false }

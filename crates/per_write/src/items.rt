@@ -4,7 +4,7 @@ ghost use Rattle.std.specs.Prelude.{◌≡◌, ◌-◌, ◌*◌, ◌≤◌, fals
 ghost use Rattle.rasn_types.specs.Alphabets.{char_width};
 ghost use Rattle.rasn_types.specs.Variants.{Variant};
 ghost use Rattle.per_core.specs.Counts.{counted_of};
-ghost use Rattle.per_write.specs.Characters.{AreOwnBetween, IsField, IsRefused};
+ghost use Rattle.per_write.specs.Characters.{AreOwnBetween, IsBitField, IsRefused};
 ghost use Rattle.per_write.specs.Items.{CountedItems, PutsItems, items_between};
 
 use crate::Writer;
@@ -20,7 +20,7 @@ use std::alloc::Allocator;
 pub const FIELD_BITS: u32 = 56;
 
 /// Items that a length counts.
-pub trait Items {
+pub trait ItemsToWrite {
     // What is counted, how each item is written, and the fault that an error names in them.
     ghost counted: { Self → CountedItems };
 
@@ -50,7 +50,7 @@ pub trait Items {
 #[derive(Drop)]
 pub(crate) struct Octets<'a>(pub(crate) &'a [u8]);
 
-impl Items for Octets<'_> {
+impl ItemsToWrite for Octets<'_> {
     ghost use Rattle.per_core.specs.Counts.{octet_items, octet_writers};
 
     ghost counted = { λ x. record { kind = octet_items; writers = λ a. octet_writers x.0.now; fault = λ k. ⊥ } };
@@ -73,7 +73,7 @@ impl Items for Octets<'_> {
     }
 }
 
-impl Items for BitString {
+impl ItemsToWrite for BitString {
     ghost use Rattle.per_core.specs.Counts.{bit_items, bit_writers};
 
     ghost counted = { λ x. record { kind = bit_items; writers = λ a. bit_writers x; fault = λ k. ⊥ } };
@@ -108,7 +108,7 @@ pub(crate) struct Flags<'a, B: Allocator> {
     ghost counted: { length bits.now ≡ count },
 }
 
-impl<B: Allocator> Items for Flags<'_, B> {
+impl<B: Allocator> ItemsToWrite for Flags<'_, B> {
     ghost use Rattle.per_core.specs.Counts.{bit_items, bit_writers};
 
     ghost counted = { λ x. record { kind = bit_items; writers = λ a. bit_writers x.bits.now; fault = λ k. ⊥ } };
@@ -141,7 +141,7 @@ pub(crate) struct Characters<'a, S> {
     pub(crate) alphabet: CharacterAlphabet<'a>,
 }
 
-impl<S: StaticPermittedAlphabet> Items for Characters<'_, S> {
+impl<S: StaticPermittedAlphabet> ItemsToWrite for Characters<'_, S> {
     ghost use Rattle.per_write.specs.Characters.{counted_characters};
 
     ghost counted = { λ x. counted_characters x.alphabet (S.characters x.string.now) };
@@ -202,7 +202,7 @@ impl<S: StaticPermittedAlphabet> Characters<'_, S> {
         requires within { end ≤ length (S.characters self.now.string.now) }
         requires few { (end - start) * char_width self.now.alphabet.variant self.now.alphabet.characters ≤ FIELD_BITS }
         ensures some { IfSome result (λ number.
-            IsField self.now.alphabet (S.characters self.now.string.now) start end number) }
+            IsBitField self.now.alphabet (S.characters self.now.string.now) start end number) }
         ensures none { IfNone result (IsRefused self.now.alphabet (S.characters self.now.string.now)) }
     {
         let width = self.alphabet.width();

@@ -1,5 +1,5 @@
 //! What the packed encoding rules write, bit by bit (ITU-T X.691): whole numbers, lengths, counted strings, records and
-//! what stands between the elements of a list, in their canonical form, behind what was written before.
+//! what is between the elements of a list, in their canonical form, after what was written before.
 #![tactic(auto)]
 
 ghost use Rattle.std.specs.Prelude.{◌≡◌, ◌≤◌, ◌∷◌, [], true, false, Some, OnOk, OnErr, IfOk, IfErr};
@@ -13,7 +13,7 @@ ghost use Rattle.per_core.specs.Writers.{just, one_by_one};
 ghost use Rattle.per_core.specs.Counts.{octet_writers, unconstrained_octets};
 ghost use Rattle.per_core.specs.Canon.{completed};
 ghost use Rattle.per_pieces.specs.Pieces.{no_pieces};
-ghost use Rattle.per_write.specs.State.{fresh, view, Puts};
+ghost use Rattle.per_write.specs.WriterState.{fresh, view, Puts};
 ghost use Rattle.per_write.specs.Rules.{encoder_rules};
 ghost use Rattle.per_write.specs.Faults.{IsError, IsMemory, IsAlready, RefusesOutput};
 
@@ -39,10 +39,12 @@ use error::{EncodeError, EncodeErrorKind};
 use items::Octets;
 use per_bits::per::complete_in_place;
 use per_bits::{BitList, BitReader};
+use per_core::lengths::FRAGMENT;
 use per_pieces::Pieces;
 pub use per_pieces::enclosing::EnclosingSet;
+use per_pieces::lengths::push_counted_octets;
+pub use presences::Frame;
 use presences::Presences;
-pub use presences::Scope;
 use rasn_types::types::Codec;
 use std::alloc::{AllocError, Allocator};
 use std::marker::Model;
@@ -66,9 +68,9 @@ pub struct Writer<A: Allocator + Clone> {
 }
 
 impl<A: Allocator + Clone> Model for Writer<A> {
-    ghost use Rattle.per_write.specs.State.{State};
+    ghost use Rattle.per_write.specs.WriterState.{WriterState};
 
-    ghost Value = { State };
+    ghost Value = { WriterState };
 
     ghost view = { λ a. record {
       pieces = a.pieces;
@@ -89,6 +91,7 @@ impl<A: Allocator + Clone> Writer<A> {
 
     /// A writer that has written nothing, as `new` makes it, over a list of bits. The bits are cleared; the list's
     /// memory may be used for what is written. It takes no memory yet.
+    #[inline(always)]
     pub fn new_with_output(codec: Codec, mut output: BitList<A>) -> Self
         ensures { result ≡ fresh codec }
     {
@@ -286,11 +289,15 @@ impl<A: Allocator + Clone> Writer<A> {
         self.unless_out_of_memory(pushed)
     }
 
-    /// Writes octets behind an unconstrained length (X.691 11.9.3.5 to 11.9.3.8).
+    /// Writes octets after an unconstrained length (X.691 11.9.3.5 to 11.9.3.8).
     pub fn put_octets(&mut self, octets: &[u8]) -> Result<(), EncodeError>
         requires { self.old.failed ≡ false }
         ensures { Puts IsMemory (unconstrained_octets (variant_of self.old.codec) octets.now) self.old result self.new }
     {
+        if octets.len() < FRAGMENT {
+            let pushed = push_counted_octets(&mut self.pieces, self.codec, octets);
+            return self.unless_out_of_memory(pushed);
+        }
         self.put_unconstrained_items(&Octets(octets))?;
         Ok(())
     }

@@ -23,7 +23,7 @@ use std::alloc::Allocator;
 pub struct UnwrittenElements {
     // How many elements of the open fragment are still to be written.
     fragment: usize,
-    // How many elements stand behind it, in fragments of their own; none where it is the last.
+    // How many elements are after it, in fragments of their own; none where it is the last.
     behind: Option<usize>,
     // Whether anything was open around the list.
     around: bool,
@@ -38,7 +38,7 @@ impl UnwrittenElements {
     }
 }
 
-/// Opens a SEQUENCE OF so many elements under constraints (X.691 20): writes what stands in front of the first.
+/// Opens a SEQUENCE OF so many elements under constraints (X.691 20): writes what is in front of the first.
 pub fn open_list<A: Allocator + Clone>(
     writer: &mut Writer<A>,
     constraints: &Constraints,
@@ -51,7 +51,7 @@ pub fn open_list<A: Allocator + Clone>(
     begin_list(writer, constraints.size(), count)
 }
 
-/// Opens a list of so many elements under a size constraint (X.691 20): writes what stands in front of the first.
+/// Opens a list of so many elements under a size constraint (X.691 20): writes what is in front of the first.
 pub fn begin_list<A: Allocator + Clone>(
     writer: &mut Writer<A>,
     size: Option<Extensible<Bounded<usize>>>,
@@ -86,7 +86,7 @@ pub fn next_element<A: Allocator + Clone>(
     }
 }
 
-/// Closes a list: behind fragments of 16384 elements or more a last length is written, which is zero. What was open
+/// Closes a list: after fragments of 16384 elements or more a last length is written, which is zero. What was open
 /// around it is open still. Where an element is left it refuses.
 pub fn close_list<A: Allocator + Clone>(
     writer: &mut Writer<A>,
@@ -105,7 +105,7 @@ pub fn close_list<A: Allocator + Clone>(
     }
 }
 
-/// Writes what stands in front of elements under a size constraint: where the constraint is extensible, a bit that
+/// Writes what is in front of elements under a size constraint: where the constraint is extensible, a bit that
 /// says whether their count is outside; and their count (X.691 20.4).
 fn begin_counted<A: Allocator + Clone>(
     writer: &mut Writer<A>,

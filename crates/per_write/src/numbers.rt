@@ -1,4 +1,4 @@
-//! Whole numbers of an INTEGER, and what stands in front of them (X.691 11.5, 11.6, 13 and 14.3).
+//! Whole numbers of an INTEGER, and what is in front of them (X.691 11.5, 11.6, 13 and 14.3).
 
 ghost use Rattle.std.specs.Prelude.{◌≡◌, ◌≤◌, ◌≤ℤ◌, ◌+◌, ◌||◌, not, true, false, None, Some, OnOk, IfOk, is_ok};
 ghost use Rattle.rasn_types.specs.Variants.{variant_of};
@@ -8,7 +8,7 @@ ghost use Rattle.per_core.specs.Canon.{extension_bit};
 ghost use Rattle.per_core.specs.Counts.{constrained_whole, number_under, small};
 ghost use Rattle.per_write.specs.Faults.{IsMemory};
 ghost use Rattle.per_write.specs.Numbers.{unconstrained_whole};
-ghost use Rattle.per_write.specs.State.{Puts, PutsIn, StateAppends};
+ghost use Rattle.per_write.specs.WriterState.{Puts, PutsIn, StateAppends};
 
 use crate::Writer;
 use crate::error::EncodeError;
@@ -19,7 +19,7 @@ use rasn_schema::schema::IntegerType;
 use std::alloc::{AllocError, Allocator};
 
 impl<A: Allocator + Clone> Writer<A> {
-    /// Writes an INTEGER as if it had no constraint: its fewest octets in two's complement behind an unconstrained
+    /// Writes an INTEGER as if it had no constraint: its fewest octets in two's complement after an unconstrained
     /// length (X.691 13.2.4). Memory for the octets themselves is taken only where an `i128` doesn't hold the number.
     #[inline(always)]
     pub fn put_unconstrained_whole<I: IntegerType>(&mut self, value: &I) -> Result<(), EncodeError>
@@ -100,7 +100,7 @@ impl<A: Allocator + Clone> Writer<A> {
         pushed.is_ok()
     }
 
-    /// Writes the extension bit of a type with an extension marker, whether what follows stands after the marker (X.691
+    /// Writes the extension bit of a type with an extension marker, whether what follows is after the marker (X.691
     /// 14.3); of another type nothing.
     #[inline(always)]
     pub fn put_extension_bit(&mut self, extensible: bool, extended: bool) -> Result<(), EncodeError>

@@ -4,7 +4,7 @@ ghost use Rattle.std.specs.Prelude.{◌≡◌, ◌≤◌, false, length, Some, I
 ghost use Rattle.rasn_types.specs.Variants.{Variant};
 ghost use Rattle.per_core.specs.Counts.{open_bits};
 ghost use Rattle.per_write.specs.Faults.{IsMemory};
-ghost use Rattle.per_write.specs.State.{PutsIn};
+ghost use Rattle.per_write.specs.WriterState.{PutsIn};
 ghost use Rattle.per_pieces.specs.Pieces.{placed_bits};
 
 use crate::Writer;
@@ -18,7 +18,7 @@ use std::alloc::{AllocError, Allocator};
 pub(crate) const SHORT_CONTENTS: u128 = 8 * 127;
 
 impl<A: Allocator + Clone> Writer<A> {
-    /// Writes an open type of some contents (X.691 11.2): their complete encoding, behind the count of its octets.
+    /// Writes an open type of some contents (X.691 11.2): their complete encoding, after the count of its octets.
     #[inline(always)]
     pub(crate) fn put_open_type(&mut self, contents: &BitList<A>) -> Result<(), EncodeError>
         requires { self.old.failed ≡ false }

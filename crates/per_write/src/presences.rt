@@ -3,7 +3,7 @@
 
 ghost use Rattle.std.specs.Prelude.{◌≡◌, Option, true, false};
 ghost use Rattle.per_write.specs.Presences.{MarksOrNot};
-ghost use Rattle.per_write.specs.State.{empty_scope, within};
+ghost use Rattle.per_write.specs.WriterState.{empty_scope, within};
 
 use crate::Writer;
 use crate::additions::Additions;
@@ -24,16 +24,16 @@ pub struct Presences {
 /// What waits outside of a SEQUENCE or CHOICE until it is closed: the presence bits that are still to be given there,
 /// the additions, and whether anything is open there.
 #[derive(Drop)]
-pub struct Scope<A: Allocator + Clone> {
+pub struct Frame<A: Allocator + Clone> {
     presences: Presences,
     additions: Option<Additions<A>>,
     is_open: bool,
 }
 
-impl<A: Allocator + Clone> Model for Scope<A> {
-    ghost use Rattle.per_write.specs.State.{Scope};
+impl<A: Allocator + Clone> Model for Frame<A> {
+    ghost use Rattle.per_write.specs.WriterState.{Frame};
 
-    ghost Value = { Scope };
+    ghost Value = { Frame };
 
     ghost view = { λ a. record { presences = a.presences; additions = a.additions; is_open = a.is_open } };
 }
@@ -61,12 +61,12 @@ impl<A: Allocator + Clone> Writer<A> {
         &mut self,
         presences: Presences,
         additions: Option<Additions<A>>,
-    ) -> Scope<A>
+    ) -> Frame<A>
         ensures waits { result ≡ self.old.scope }
         ensures inside { self.new
             ≡ record self.old { scope = record { presences = presences; additions = additions; is_open = true } } }
     {
-        Scope {
+        Frame {
             presences: mem::replace(&mut self.presences, presences),
             additions: exchanged(&mut self.additions, additions),
             is_open: mem::replace(&mut self.is_open, true),
@@ -76,7 +76,7 @@ impl<A: Allocator + Clone> Writer<A> {
     /// Goes into an alternative of a CHOICE, of which no presence bit and no addition is given. Answers what waits
     /// outside until it is closed.
     #[inline(always)]
-    pub fn enter_alternative(&mut self) -> Scope<A>
+    pub fn enter_alternative(&mut self) -> Frame<A>
         ensures waits { result ≡ self.old.scope }
         ensures inside { self.new ≡ record self.old { scope = empty_scope true } }
     {
@@ -94,10 +94,10 @@ impl<A: Allocator + Clone> Writer<A> {
 
     /// Goes out of a SEQUENCE or CHOICE: what waited outside is there again.
     #[inline(always)]
-    pub fn leave(&mut self, outside: Scope<A>)
+    pub fn leave(&mut self, outside: Frame<A>)
         ensures { self.new ≡ record self.old { scope = outside } }
     {
-        let Scope {
+        let Frame {
             presences,
             additions,
             is_open,
@@ -110,7 +110,7 @@ impl<A: Allocator + Clone> Writer<A> {
 
 /// Puts additions in the place of others, and answers these. Where there are none, none are moved.
 #[inline(always)]
-fn exchanged<A: Allocator + Clone>(
+pub(crate) fn exchanged<A: Allocator + Clone>(
     place: &mut Option<Additions<A>>,
     additions: Option<Additions<A>>,
 ) -> Option<Additions<A>>

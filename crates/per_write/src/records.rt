@@ -1,12 +1,12 @@
 //! SEQUENCE (X.691 19): its extension bit and its presence bits stand as zeros until they are given, and its additions
-//! stand behind its root.
+//! are after its root.
 
 ghost use Rattle.std.specs.Prelude.{◌≡◌, false, Some};
 ghost use Rattle.per_write.specs.Records.{ClosesOrNot, OpensOrNot};
 
 use crate::Writer;
 use crate::error::{EncodeError, EncodeErrorKind};
-use crate::presences::{Presences, Scope};
+use crate::presences::{Frame, Presences, exchanged};
 use std::alloc::Allocator;
 
 impl<A: Allocator + Clone> Writer<A> {
@@ -18,7 +18,7 @@ impl<A: Allocator + Clone> Writer<A> {
         &mut self,
         presences: usize,
         additions: Option<usize>,
-    ) -> Result<Scope<A>, EncodeError>
+    ) -> Result<Frame<A>, EncodeError>
         requires { self.old.failed ≡ false }
         ensures { OpensOrNot presences additions self.old result self.new }
     {
@@ -34,17 +34,17 @@ impl<A: Allocator + Clone> Writer<A> {
     }
 
     /// Closes a SEQUENCE of which each presence bit and each addition was given, else it refuses. Where an addition is
-    /// there, its extension bit becomes 1, and behind its root stand the bitmap and the open types. What waited outside
+    /// there, its extension bit becomes 1, and after its root stand the bitmap and the open types. What waited outside
     /// is there again.
     #[inline(always)]
-    pub fn close_record(&mut self, outside: Scope<A>) -> Result<(), EncodeError>
+    pub fn close_record(&mut self, outside: Frame<A>) -> Result<(), EncodeError>
         requires { self.old.failed ≡ false }
         ensures { ClosesOrNot outside self.old result self.new }
     {
         if self.presences.left > 0 {
             return Err(self.refuse(EncodeErrorKind::OutOfTurn));
         }
-        if let Some(additions) = self.additions.take() {
+        if let Some(additions) = exchanged(&mut self.additions, None) {
             self.put_additions(additions)?;
         }
         self.leave(outside);

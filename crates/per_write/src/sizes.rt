@@ -7,11 +7,11 @@ ghost use Rattle.per_write.specs.Faults.{IsMemory};
 ghost use Rattle.per_pieces.specs.Fragments.{constrained_length, unconstrained_length};
 ghost use Rattle.per_write.specs.Items.{AllowsItems, PutsCounted, PutsItems, fragment_between, sized_items};
 ghost use Rattle.per_write.specs.Items.{unconstrained_items};
-ghost use Rattle.per_write.specs.State.{PutsIn};
+ghost use Rattle.per_write.specs.WriterState.{PutsIn};
 
 use crate::Writer;
 use crate::error::{EncodeError, EncodeErrorKind};
-use crate::items::Items;
+use crate::items::ItemsToWrite;
 use per_core::lengths::{FRAGMENT, constrained_bounds};
 use per_pieces::lengths::{push_constrained_length, push_unconstrained_length};
 use rasn_constraints::sizes::OutOfSize;
@@ -20,9 +20,9 @@ use rasn_types::types::Codec;
 use std::alloc::Allocator;
 
 impl<A: Allocator + Clone> Writer<A> {
-    /// Writes items under a size constraint: where the constraint is extensible, behind a bit that says whether their
+    /// Writes items under a size constraint: where the constraint is extensible, after a bit that says whether their
     /// count is outside (X.691 16.6, 17.3, 20.4, 30.4).
-    pub(crate) fn put_counted<I: Items>(
+    pub(crate) fn put_counted<I: ItemsToWrite>(
         &mut self,
         size: Option<Extensible<Bounded<usize>>>,
         items: &I,
@@ -57,7 +57,7 @@ impl<A: Allocator + Clone> Writer<A> {
 
     /// Writes items whose count is within bounds, in the form that these give it (X.691 11.9.3.3, 11.9.4.1): where both
     /// are there and the upper is below 65536 as a constrained whole number, and else as an unconstrained length.
-    fn put_sized<I: Items>(
+    fn put_sized<I: ItemsToWrite>(
         &mut self,
         lower: Option<usize>,
         upper: Option<usize>,
@@ -81,9 +81,9 @@ impl<A: Allocator + Clone> Writer<A> {
         }
     }
 
-    /// Writes items behind an unconstrained length (X.691 11.9.3.5 to 11.9.3.8): in fragments while there are 16384 or
-    /// more, each as large as it may be, and then the rest behind a length of its own, which may be zero.
-    pub fn put_unconstrained_items<I: Items>(&mut self, items: &I) -> Result<(), EncodeError>
+    /// Writes items after an unconstrained length (X.691 11.9.3.5 to 11.9.3.8): in fragments while there are 16384 or
+    /// more, each as large as it may be, and then the rest after a length of its own, which may be zero.
+    pub fn put_unconstrained_items<I: ItemsToWrite>(&mut self, items: &I) -> Result<(), EncodeError>
         requires { self.old.failed ≡ false }
         ensures { PutsItems (I.counted items.now) unconstrained_items self.old result self.new }
     {
@@ -97,8 +97,8 @@ impl<A: Allocator + Clone> Writer<A> {
         self.put_fragment(items, start, count)
     }
 
-    /// Writes the items from an index on and before another, behind one length.
-    fn put_fragment<I: Items>(
+    /// Writes the items from an index on and before another, after one length.
+    fn put_fragment<I: ItemsToWrite>(
         &mut self,
         items: &I,
         start: usize,

@@ -37,6 +37,9 @@ impl<A: Allocator + Clone> Writer<A> {
         if self.codec == Codec::Uper && is_only_size(size, value.len()) {
             return self.put_bare_octets(value);
         }
+        if size.is_none() {
+            return self.put_octets(value);
+        }
         self.put_counted(size, &Octets(value))
     }
 

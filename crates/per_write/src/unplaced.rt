@@ -5,11 +5,11 @@ ghost use Rattle.std.specs.Prelude.{◌≡◌, false, IfOk};
 ghost use Rattle.per_pieces.specs.Pieces.{unplaced, writer_of};
 ghost use Rattle.per_write.specs.Faults.{IsMemory};
 ghost use Rattle.per_write.specs.Unplaced.{BeginsUnplacedOrNot};
-ghost use Rattle.per_write.specs.State.{Puts};
+ghost use Rattle.per_write.specs.WriterState.{Puts};
 
 use crate::Writer;
 use crate::error::EncodeError;
-use crate::presences::{Presences, Scope};
+use crate::presences::{Frame, Presences};
 use per_pieces::Pieces;
 use std::alloc::{AllocError, Allocator};
 use std::marker::Model;
@@ -21,7 +21,7 @@ pub struct OutsideUnplaced<A: Allocator + Clone> {
     /// What was written before.
     pub pieces: Pieces<A>,
     /// What was open.
-    pub scope: Scope<A>,
+    pub scope: Frame<A>,
 }
 
 impl<A: Allocator + Clone> Model for OutsideUnplaced<A> {

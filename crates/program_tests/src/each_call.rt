@@ -71,7 +71,7 @@ fn is_any_unread<T: Decode>(rt: &impl Abort, alloc: Global, codec: Codec, octets
     all || front || limited || is_refused_by_decoder::<T>(rt, alloc, codec, octets)
 }
 
-/// Why a decoder refuses octets, and a NULL behind them: of any decoder, since to prove it of one alone costs more.
+/// Why a decoder refuses octets, and a NULL after them: of any decoder, since to prove it of one alone costs more.
 fn refusals_to_read<T: Decode, D: AnyDecoder>(
     decoder: &mut D,
 ) -> (Option<D::Error>, Option<D::Error>) {
@@ -132,7 +132,7 @@ fn is_refused_into_buffer<T: Encode>(
     is_unwritten(rt, codec, written.err()) || !is_filled
 }
 
-/// Why an encoder refuses a value, and a NULL behind it.
+/// Why an encoder refuses a value, and a NULL after it.
 fn refusals_to_write<T: Encode, E: AnyEncoder>(
     encoder: &mut E,
     value: &T,

@@ -20,7 +20,7 @@ use std::process::Abort;
 /// Encodings of one type, and the variant of each.
 type Rows = &'static [(Codec, &'static [u8])];
 
-/// Whether a call for one of the encodings was refused. None is made behind the first row where one was.
+/// Whether a call for one of the encodings was refused. None is made after the first row where one was.
 fn is_any_row_refused<T: Encode + Decode>(rt: &impl Abort, alloc: Global, rows: Rows) -> bool {
     for (codec, octets) in rows {
         if is_any_refused::<T>(rt, alloc, *codec, octets) {

@@ -129,7 +129,7 @@ const BROKEN_READERS: &[(&str, &[u8], ErrorKind, &str, u8, &str)] = &[
         1,
         "OutOfMemory\n",
     ),
-    // Nothing is read behind the line.
+    // Nothing is read after the line.
     (
         "uper integer",
         b"021000\n",
@@ -379,7 +379,7 @@ fn replies_together_to_lines_that_are_there(rt: HostRuntime) -> Result<(), Fail>
     let (status, faults) = told(rt.alloc(), "uper integer lines", &mut input, &mut output)?;
     expect_status(&rt, status, 0);
     expect_text(&rt, faults.as_slice(), "");
-    // Once behind the three lines, and once at the end of the input.
+    // Once after the three lines, and once at the end of the input.
     assert_eq!(rt; flushes.get(), 2);
     Ok(())
 }

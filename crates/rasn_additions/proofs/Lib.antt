@@ -1,3 +1,3 @@
-pub mod Given
+pub mod AdditionLaws
 pub mod OneAddition
 pub mod Trees

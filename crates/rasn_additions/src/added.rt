@@ -1,4 +1,4 @@
-//! Cells, of which the list of a record's additions is made. Their tags and constraints stand in lists beside them.
+//! Cells, of which the list of a record's additions is made. Their tags and constraints are in lists beside them.
 
 ghost use Rattle.std.specs.Prelude.{◌≡◌, ◌≤◌, ℕ, max, List, [], ◌∷◌, Option, map};
 ghost use Rattle.std.proofs.Common.{arith};
@@ -7,7 +7,7 @@ ghost use Rattle.rasn_types.specs.Values.{Value};
 ghost use Rattle.rasn_constraints.specs.declared.constraints.Constraint.{Constraint};
 ghost use Rattle.rasn_schema.specs.Schemas.{Parts, no_parts, part};
 ghost use Rattle.rasn_schema.specs.Records.{own_or};
-ghost use Rattle.rasn_schema.specs.Extensions.{fields_behind};
+ghost use Rattle.rasn_schema.specs.Extensions.{fields_after};
 ghost use Rattle.rasn_schema.specs.Fields.{Shape, shape_of};
 ghost use Rattle.rasn_schema.specs.Structures.{tag_of};
 ghost use Rattle.rasn_traits.specs.Additions.{WritesAdditions};
@@ -56,7 +56,7 @@ pub trait EncodeAdditionCells {
 
 /// Additions of a record that are still to be read, of which lists state the tags and the constraints.
 pub trait DecodeAdditionCells {
-    /// What they are: a pair of the first and of those behind it, and `()` at the end.
+    /// What they are: a pair of the first and of those after it, and `()` at the end.
     type Values: Drop;
 
     // The additions, by what the lists state of them, to a number of levels.
@@ -100,9 +100,9 @@ pub struct ListedAdditions<P> {
     pub cells: P,
 }
 
-/// The fields behind the extension marker, of which there are none without one.
-fn behind_marker(fields: &FieldLists) -> &'static [Field]
-    ensures { map shape_of result.now ≡ fields_behind fields.now.behind }
+/// The fields after the extension marker, of which there are none without one.
+fn after_marker(fields: &FieldLists) -> &'static [Field]
+    ensures { map shape_of result.now ≡ fields_after fields.now.behind }
 {
     match fields.added {
         Some(list) => list,
@@ -159,7 +159,7 @@ impl<C: EncodeAddition, N: EncodeAdditionCells> EncodeAdditionCells for Cell<C, 
 }
 
 impl<T: Components, P: EncodeAdditionCells> EncodeAdditions for AddedTo<T, P> {
-    ghost additions = { λ p. P.additions p.cells (fields_behind T.COMPONENTS.behind) p.constraints.now };
+    ghost additions = { λ p. P.additions p.cells (fields_after T.COMPONENTS.behind) p.constraints.now };
 
     ghost contents = { λ p. P.contents p.cells };
 
@@ -178,7 +178,7 @@ impl<T: Components, P: EncodeAdditionCells> EncodeEachAddition for AddedTo<T, P>
 }
 
 impl<P: EncodeAdditionCells> EncodeAdditions for ListedAdditions<P> {
-    ghost additions = { λ p. P.additions p.cells (fields_behind p.fields.behind) p.constraints.now };
+    ghost additions = { λ p. P.additions p.cells (fields_after p.fields.behind) p.constraints.now };
 
     ghost contents = { λ p. P.contents p.cells };
 
@@ -186,7 +186,7 @@ impl<P: EncodeAdditionCells> EncodeAdditions for ListedAdditions<P> {
 
     fn encode_additions<E: Encoder>(&self, encoder: &mut E) -> Result<(), E::Error> {
         self.cells
-            .encode_addition_cells(behind_marker(&self.fields), self.constraints, encoder)
+            .encode_addition_cells(after_marker(&self.fields), self.constraints, encoder)
     }
 }
 
@@ -235,7 +235,7 @@ impl<C: DecodeAddition, N: DecodeAdditionCells> DecodeAdditionCells for Cell<C, 
 impl<T: Components, P: DecodeAdditionCells> DecodeAdditions for AddedTo<T, P> {
     type Values = P::Values;
 
-    ghost additions = { λ p. P.additions p.cells (fields_behind T.COMPONENTS.behind) p.constraints.now };
+    ghost additions = { λ p. P.additions p.cells (fields_after T.COMPONENTS.behind) p.constraints.now };
 
     ghost contents = { P.contents };
 
@@ -248,12 +248,12 @@ impl<T: Components, P: DecodeAdditionCells> DecodeAdditions for AddedTo<T, P> {
 impl<P: DecodeAdditionCells> DecodeAdditions for ListedAdditions<P> {
     type Values = P::Values;
 
-    ghost additions = { λ p. P.additions p.cells (fields_behind p.fields.behind) p.constraints.now };
+    ghost additions = { λ p. P.additions p.cells (fields_after p.fields.behind) p.constraints.now };
 
     ghost contents = { P.contents };
 
     fn decode_additions<D: Decoder>(&self, decoder: &mut D) -> Result<P::Values, D::Error> {
         self.cells
-            .decode_addition_cells(behind_marker(&self.fields), self.constraints, decoder)
+            .decode_addition_cells(after_marker(&self.fields), self.constraints, decoder)
     }
 }

@@ -1,4 +1,4 @@
-//! One addition of a record behind its extension marker: required, optional, with a default, or a group.
+//! One addition of a record after its extension marker: required, optional, with a default, or a group.
 
 ghost use Rattle.std.specs.Prelude.{◌≤◌, ℕ, Option, Some};
 ghost use Rattle.rasn_types.specs.Values.{Value};

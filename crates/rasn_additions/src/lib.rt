@@ -1,4 +1,4 @@
-//! The calls of every encoder that give the additions behind an extension marker, and those of every decoder that read
+//! The calls of every encoder that give the additions after an extension marker, and those of every decoder that read
 //! them, by the types of their values; and additions by their list, as cells of which the macros of `rasn_below` make
 //! an
 //! author's list.
@@ -54,7 +54,7 @@ impl<'a, T: Encode> AdditionValue for Option<&'a T> {
     }
 }
 
-/// What every encoder gives of additions, in the scope of their SEQUENCE and behind its root components, one call for
+/// What every encoder gives of additions, in the scope of their SEQUENCE and after its root components, one call for
 /// each addition of the type, in the order of `EXTENDED_FIELDS`.
 pub trait ExtensionEncoder: Encoder {
     /// Gives the next addition (X.691 19.7 to 19.9): its value in an open type, under a tag, constraints and a name; or
@@ -101,7 +101,7 @@ pub trait ExtensionEncoder: Encoder {
 
 impl<E: Encoder> ExtensionEncoder for E {}
 
-/// What every decoder reads of additions, in the scope of their SEQUENCE and behind its root components, one call for
+/// What every decoder reads of additions, in the scope of their SEQUENCE and after its root components, one call for
 /// each addition of the type, in the order of `EXTENDED_FIELDS`.
 pub trait ExtensionDecoder: Decoder {
     /// Reads the next addition (X.691 19.7 to 19.9), the value in its open type, under its type's own tag and

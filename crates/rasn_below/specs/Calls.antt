@@ -1,4 +1,4 @@
--- What stands between the calls of a type by hand: the laws of calls, of the parts of a scope, and of a reader by
+-- What is between the calls of a type by hand: the laws of calls, of the parts of a scope, and of a reader by
 -- index.
 pub use Rattle.rasn_types.specs.declared.types.Codec.{Codec}
 pub use Rattle.rasn_schema.specs.Normal.{AtDepths}
@@ -13,4 +13,4 @@ pub use Rattle.rasn_traits.specs.Additions.{WritesAdditions, presents_no_more}
 pub use Rattle.rasn_traits.specs.AdditionsRead.{AnswersAdditions, ReadsAddition, ReadsAdditions, TakesAdditions}
 pub use Rattle.rasn_traits.specs.AdditionsRead.{reads_further, reads_no_more}
 pub use Rattle.rasn_sets.specs.Components.{Gathers, gathers_end, gathers_gap, gathers_item, IsMade, ItemAnswered}
-pub use Rattle.rasn_sets.specs.Components.{StandsAt, stands_behind, stands_first}
+pub use Rattle.rasn_sets.specs.Components.{StandsAt, stands_after, stands_first}

@@ -9,7 +9,7 @@ abbrev pub ascend_from : Tag → List Tag → Bool
 ascend_from t [] = true
 ascend_from t (u ∷ us) = tag_less t u && ascend_from u us
 
--- X.680 8.6: whether each tag is less than the one behind it
+-- X.680 8.6: whether each tag is less than the one after it
 abbrev pub ascend : List Tag → Bool
 ascend [] = true
 ascend (t ∷ ts) = ascend_from t ts

@@ -2,7 +2,7 @@
 //!
 //! The list is a macro of the author's file, which hands itself on. It has a line for each alternative, at most 32:
 //! its context-specific tag, its name, its variant and the type of the value in it, and its constraints in brackets. A
-//! variant without a value, which has no type, is NULL. Those before the extension marker stand in ascending order of
+//! variant without a value, which has no type, is NULL. Those before the extension marker are in ascending order of
 //! their tags (X.691 23.5).
 //!
 //! ```text
@@ -17,7 +17,7 @@
 //! }
 //! ```
 //!
-//! Behind the marker `...;` stand the alternatives after it, at most 32 of them, or none:
+//! After the marker `...;` stand the alternatives after it, at most 32 of them, or none:
 //!
 //! ```text
 //! 0 "a" A: bool [];
@@ -89,7 +89,7 @@ macro_rules! alternative_bounds {
     ([] $($list:tt)*) => { $crate::alternative_bounds_in_turn!([] [] $($list)*) };
 }
 
-/// The constraints of alternatives in turn, in the second brackets behind those that are done; in the first ones stand
+/// The constraints of alternatives in turn, in the second brackets after those that are done; in the first ones stand
 /// those before the marker, once it is passed.
 #[macro_export]
 macro_rules! alternative_bounds_in_turn {
@@ -124,7 +124,7 @@ macro_rules! place_of_alternative {
     ([$of:ident] $($list:tt)*) => { $crate::with_places!(places_of_alternatives Root [$of]; $($list)*) };
 }
 
-/// The alternatives of a list and where each stands, behind those that are done.
+/// The alternatives of a list and where each stands, after those that are done.
 #[macro_export]
 macro_rules! places_of_alternatives {
     ($places:tt $side:ident [$of:ident $($done:tt)*];) => { match $of { $($done)* } };
@@ -157,7 +157,7 @@ macro_rules! encode_alternative {
     }};
 }
 
-/// Reads the alternative of a list that stands at a place. Their constraints are in the constant `BOUNDS`.
+/// Reads the alternative of a list that is at a place. Their constraints are in the constant `BOUNDS`.
 #[macro_export]
 macro_rules! decode_alternative {
     ([$decoder:ident $place:ident] $($list:tt)*) => {{
@@ -166,14 +166,14 @@ macro_rules! decode_alternative {
     }};
 }
 
-/// The alternatives of a list to write, behind those that are done.
+/// The alternatives of a list to write, after those that are done.
 #[macro_export]
 macro_rules! alternatives_to_write {
     ($places:tt $write:ident [$of:ident $encoder:ident $limits:ident $($done:tt)*];) => {
         match $of { $($done)* }
     };
     ($places:tt $write:ident $done:tt; ...; $($rest:tt)*) => {
-        $crate::with_places!(alternatives_to_write write_behind $done; $($rest)*)
+        $crate::with_places!(alternatives_to_write write_after $done; $($rest)*)
     };
     ([32 $($places:tt)*] $write:ident $done:tt; $($rest:tt)+) => {
         compile_error!("a list has at most 32 alternatives on either side of its marker")
@@ -200,7 +200,7 @@ macro_rules! alternatives_to_write {
     };
 }
 
-/// The alternatives to read of a list, by the side of the marker on which one stands, behind those before it.
+/// The alternatives to read of a list, by the side of the marker on which one stands, after those before it.
 #[macro_export]
 macro_rules! alternatives_on_sides {
     ([$decoder:ident $place:ident $limits:ident] [$($root:tt)+]; $(...;)?) => {{
@@ -213,7 +213,7 @@ macro_rules! alternatives_on_sides {
                 $crate::with_places!(alternatives_to_read read [$decoder $limits index]; $($root)+)
             }
             $crate::Place::Added(index) => {
-                $crate::with_places!(alternatives_to_read read_behind [$decoder $limits index]; $($added)+)
+                $crate::with_places!(alternatives_to_read read_after [$decoder $limits index]; $($added)+)
             }
         }
     };
@@ -226,7 +226,7 @@ macro_rules! alternatives_on_sides {
     };
 }
 
-/// The alternatives to read of one side of a marker, or of a list without one, behind those that are done.
+/// The alternatives to read of one side of a marker, or of a list without one, after those that are done.
 #[macro_export]
 macro_rules! alternatives_to_read {
     ([$last:literal $($places:tt)*] $read:ident [$decoder:ident $limits:ident $index:ident $($done:tt)*];
@@ -250,7 +250,7 @@ macro_rules! alternatives_to_read {
     };
 }
 
-/// The alternative at a place, to read, by a function for those before the marker or behind it.
+/// The alternative at a place, to read, by a function for those before the marker or after it.
 #[macro_export]
 macro_rules! alternative_to_read {
     ($decoder:ident $tag:tt $limits:ident $read:ident $place:literal $variant:ident) => {{

@@ -55,7 +55,7 @@ macro_rules! one {
     ($name:ident) => { 1 };
 }
 
-/// Where an item stands in its list, as `Place`.
+/// Where an item is in its list, as `Place`.
 #[macro_export]
 macro_rules! place_of_item {
     ([$of:ident] $($list:tt)*) => { $crate::with_places!(placed_items Root [$of]; $($list)*) };
@@ -67,7 +67,7 @@ macro_rules! item_at {
     ([$place:ident] $($list:tt)*) => { $crate::with_places!(items_placed Root [$place]; $($list)*) };
 }
 
-/// The places of items, behind those that are done.
+/// The places of items, after those that are done.
 #[macro_export]
 macro_rules! placed_items {
     ($places:tt $side:ident [$of:ident $($done:tt)*];) => { match $of { $($done)* } };
@@ -98,7 +98,7 @@ macro_rules! placed_items {
     };
 }
 
-/// The items at places, behind those that are done.
+/// The items at places, after those that are done.
 #[macro_export]
 macro_rules! items_placed {
     ($places:tt $side:ident [$of:ident $($done:tt)*];) => { match $of { $($done)* _ => None } };

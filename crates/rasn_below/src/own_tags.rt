@@ -3,7 +3,7 @@
 //! The list is as one with automatic tags, but a line begins with the tag of its alternative: the number of a
 //! context-specific one, `[APPLICATION 1]` or `[PRIVATE 1]`, or the name of a constant of `Tag`, for an alternative
 //! under its type's own. One that is an untagged CHOICE has the smallest of its tags, and behind `of` a constant of all
-//! of them, as `own_tags_of_choice` or `tags_of_choice` gives it. Those before the extension marker stand in ascending
+//! of them, as `own_tags_of_choice` or `tags_of_choice` gives it. Those before the extension marker are in ascending
 //! order of these tags (X.691 23.5).
 //!
 //! ```text
@@ -27,7 +27,7 @@ ghost use Rattle.rasn_below.specs.OwnTags.{ascend};
 
 use rasn_schema::alternatives::Alternatives;
 
-/// The alternatives before the extension marker stand in ascending order of the tags by which they go, which is that of
+/// The alternatives before the extension marker are in ascending order of the tags by which they go, which is that of
 /// their indexes (X.691 23.5).
 #[inline(always)]
 pub fn stand_in_order<T: Alternatives>()
@@ -62,7 +62,7 @@ macro_rules! encode_own_alternative {
     }};
 }
 
-/// Reads the alternative of a list that stands at a place. Their constraints are in the constant `BOUNDS`.
+/// Reads the alternative of a list that is at a place. Their constraints are in the constant `BOUNDS`.
 #[macro_export]
 macro_rules! decode_own_alternative {
     ($with:tt $($list:tt)*) => { $crate::decode_alternative!($with $($list)*) };
@@ -78,7 +78,7 @@ macro_rules! own_tag {
     ($kind:ident) => { $crate::Tag::$kind };
 }
 
-/// The names and the trees of the alternatives of a list, in the first and the third brackets behind those that are
+/// The names and the trees of the alternatives of a list, in the first and the third brackets after those that are
 /// done, for a callback; in the second ones stand the trees before the marker, once it is passed.
 #[macro_export]
 macro_rules! own_trees {
@@ -94,7 +94,7 @@ macro_rules! own_trees {
     ($to:ident $names:tt $root:tt $done:tt $($list:tt)*) => { $crate::wrong_own_alternative!($($list)*) };
 }
 
-/// The names of alternatives and their tags, before a marker and behind it, as `VariantLists`.
+/// The names of alternatives and their tags, before a marker and after it, as `VariantLists`.
 #[macro_export]
 macro_rules! own_variant_lists {
     ([$($names:tt)*] [] [$($done:tt)*]) => {
@@ -128,7 +128,7 @@ macro_rules! wrong_own_alternative {
     };
 }
 
-/// Hands the lines of a list on with 0 in the place of each tag, behind those that are done.
+/// Hands the lines of a list on with 0 in the place of each tag, after those that are done.
 #[macro_export]
 macro_rules! without_tags {
     ($to:ident $with:tt [$($done:tt)*];) => { $crate::$to!($with $($done)*) };
@@ -151,14 +151,14 @@ macro_rules! without_tags {
     ($to:ident $with:tt $done:tt; $($list:tt)*) => { $crate::wrong_own_alternative!($($list)*) };
 }
 
-/// The alternatives of a list to write, behind those that are done.
+/// The alternatives of a list to write, after those that are done.
 #[macro_export]
 macro_rules! own_alternatives_to_write {
     ($places:tt $write:ident [$of:ident $encoder:ident $limits:ident $($done:tt)*];) => {
         match $of { $($done)* }
     };
     ($places:tt $write:ident $done:tt; ...; $($rest:tt)*) => {
-        $crate::with_places!(own_alternatives_to_write write_behind $done; $($rest)*)
+        $crate::with_places!(own_alternatives_to_write write_after $done; $($rest)*)
     };
     ([32 $($places:tt)*] $write:ident $done:tt; $($rest:tt)+) => {
         compile_error!("a list has at most 32 alternatives on either side of its marker")

@@ -2,7 +2,7 @@
 use Rattle.std.proofs.Common.{◌≡◌, refl, ap, subst, ℕ, suc, ◌+◌, ◌<◌, Bool, true, false, cond, List, [], ◌∷◌, map, length, Option, Some, None, Result, arith}
 use Rattle.rasn_types.specs.Values.{Value, root, added}
 use Rattle.std.specs.List.{position_from}
-use Rattle.rasn_schema.specs.Choices.{VariantShape, go_by, place_of, StandsAt, variants_behind}
+use Rattle.rasn_schema.specs.Choices.{VariantShape, go_by, place_of, StandsAt, variants_after}
 use Rattle.rasn_schema.specs.Structures.{alternative_in}
 use Rattle.rasn_schema.specs.declared.items.Place.{Place}
 use Rattle.rasn_schema.specs.declared.items.Place.TheVariants.{Root, Added}
@@ -35,9 +35,9 @@ alternative_within t vs i e =
 pub stands_within : (t : Tag) (vs : List VariantShape) (xs : Option (List VariantShape)) (p : Place)
     → StandsAt t vs xs (Some p) → IsPlaceOf vs xs p
 stands_within t vs xs (Root i) s = alternative_within t vs i s.0
-stands_within t vs xs (Added i) s = alternative_within t (variants_behind xs) i s.1
+stands_within t vs xs (Added i) s = alternative_within t (variants_after xs) i s.1
 
--- the alternative at a place is the one that goes by a tag which stands there
+-- the alternative at a place is the one that goes by a tag which is there
 pub taken_at : {E S T : Type 0} (rules : DecoderRules E S) (choice : ℕ → Schema) (vs : List VariantShape) (xs : Option (List VariantShape)) (t : Tag) (p : Place) (value : T → Value) (x : S) (r : Result T E) (y : S) → StandsAt t vs xs (Some p)
     → TakesAt rules choice p value x r y → TakesAlternative rules choice vs xs t value x r y
 taken_at rules choice vs xs t (Root i) value x r y s h = record {

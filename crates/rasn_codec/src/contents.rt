@@ -22,7 +22,7 @@ pub type Contains<T> = Containing<T, InOctetString>;
 /// An open type (X.681 14) whose values are of a type `T`.
 pub type OpenType<T> = Containing<T, InOpenType>;
 
-/// A value that stands as its complete encoding (X.691 11.1) in octets of a kind, behind an unconstrained length.
+/// A value that stands as its complete encoding (X.691 11.1) in octets of a kind, after an unconstrained length.
 /// Octets that are no encoding of a `T` are refused. No constraint on the octets is visible: of octets under a size,
 /// `EncodingOf` says what they are meant to be.
 #[derive(Debug, Drop, PartialEq, Eq)]

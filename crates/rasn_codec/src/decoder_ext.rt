@@ -18,7 +18,7 @@ use std::alloc::{AllocError, Global};
 
 /// What every decoder reads by the type of a value.
 pub trait DecoderExt: Decoder {
-    /// Reads a value whose type has an explicit tag (X.680 31): no tag is written in PER, so the value stands alone.
+    /// Reads a value whose type has an explicit tag (X.680 31): no tag is written in PER, so the value is alone.
     final fn decode_explicit_prefix<T: Decode>(&mut self, _tag: Tag) -> Result<T, Self::Error>
         ensures { Reads Self.rules (T.schema T.CONSTRAINTS (Self.rules.levels self.old)) T.value
             self.old result self.new }
@@ -67,7 +67,7 @@ pub trait DecoderExt: Decoder {
         self.decode_optional_with_tag_and_constraints(T::TAG, constraints)
     }
 
-    /// Reads an optional component: its presence bit, and behind a bit 1 its value (X.691 19.2).
+    /// Reads an optional component: its presence bit, and after a bit 1 its value (X.691 19.2).
     final fn decode_optional_with_tag_and_constraints<T: Decode>(
         &mut self,
         tag: Tag,
@@ -121,7 +121,7 @@ pub trait DecoderExt: Decoder {
         self.decode_default_with_tag_and_constraints(T::TAG, default, constraints)
     }
 
-    /// Reads a component with a default: its presence bit, and behind a bit 1 its value, else what `default` gives
+    /// Reads a component with a default: its presence bit, and after a bit 1 its value, else what `default` gives
     /// (X.691 19.5).
     final fn decode_default_with_tag_and_constraints<
         T: Decode,

@@ -39,7 +39,7 @@ pub trait EncoderExt: Encoder {
     }
 
     /// Writes a CHOICE (X.691 23) by the value of the alternative that goes by the tag `chosen`: the type's own tag, or
-    /// the smallest of a nested untagged choice. It stands in the root, or behind the extension marker.
+    /// the smallest of a nested untagged choice. It is in the root, or after the extension marker.
     final fn encode_alternative<C: Choice, T: Encode>(
         &mut self,
         tag: Tag,
@@ -56,7 +56,7 @@ pub trait EncoderExt: Encoder {
         self.close_choice::<C>(outside, chosen)
     }
 
-    /// Writes a value whose type has an explicit tag (X.680 31): no tag is written in PER, so the value stands alone.
+    /// Writes a value whose type has an explicit tag (X.680 31): no tag is written in PER, so the value is alone.
     final fn encode_explicit_prefix<T: Encode>(
         &mut self,
         _tag: Tag,

@@ -1,4 +1,4 @@
--- Bounds of numbers and of counts: which numbers stand within bounds, and which counts a size allows (ITU-T X.680, 51);
+-- Bounds of numbers and of counts: which numbers are within bounds, and which counts a size allows (ITU-T X.680, 51);
 -- and the number and the bounds that an error tells.
 use lib.Signed.{le_z}
 use Rattle.std.specs.Prelude.{ℕ, suc, ◌+◌, ◌-◌, ◌^◌, Bool, true, ◌&&◌, nat_le, nat_lt, Option, Some, None, ℤ, pos}
@@ -55,7 +55,7 @@ abbrev pub not_above : Option ℤ → ℤ → Bool
 not_above None v = true
 not_above (Some u) v = le_z v u
 
--- X.680 51.4: whether a number stands within bounds
+-- X.680 51.4: whether a number is within bounds
 abbrev pub holds : Bounds → ℤ → Bool
 holds b v = not_below b.low v && not_above b.high v
 

@@ -1,6 +1,6 @@
-pub mod Chosen
-pub mod Equal
+pub mod ChoiceTests
+pub mod Equality
 pub mod Forms
 pub mod Listed
-pub mod Told
+pub mod RecordTests
 pub mod TwoRecords

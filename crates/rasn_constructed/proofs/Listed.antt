@@ -10,8 +10,8 @@ use Rattle.rasn_schema.specs.Schemas.{Schema}
 use Rattle.rasn_schema.specs.Lists.{list_at}
 use Rattle.rasn_schema.specs.Structures.{list_value}
 use Rattle.rasn_schema.specs.Normal.{normal}
-use Rattle.rasn_constructed.specs.Listed.{are_same}
-use Rattle.rasn_constructed.proofs.Equal.{same_decides, both_decide}
+use Rattle.rasn_constructed.specs.ListDefaults.{are_same}
+use Rattle.rasn_constructed.proofs.Equality.{same_decides, both_decide}
 
 are_same_decides : (vs ws : List Value) → Decides (are_same vs ws) (vs ≡ ws)
 are_same_decides [] [] = (λ e. refl, λ e. refl)

@@ -9,10 +9,10 @@ use Rattle.rasn_schema.specs.Normal.{normal, normals}
 use Rattle.rasn_schema.specs.Structures.{record_value}
 use Rattle.rasn_schema.specs.Schemas.{Parts}
 use Rattle.rasn_record.specs.Lists.{deeper_of}
-use Rattle.rasn_defaults.specs.Told.{TellsSame}
+use Rattle.rasn_defaults.specs.AtDefault.{TellsSame}
 use Rattle.rasn_constructed.specs.Parts.{Form, forms_of, HaveForms, AreFilled, TellsParts, same_slot, same_slots}
-use Rattle.rasn_constructed.proofs.Equal.{same_decides, both_decide}
-use Rattle.rasn_constructed.proofs.Told.{both_told, one_false}
+use Rattle.rasn_constructed.proofs.Equality.{same_decides, both_decide}
+use Rattle.rasn_constructed.proofs.RecordTests.{both_told, one_false}
 
 slot_decides : (r d : Option Value) → Decides (same_slot r d) (r ≡ d)
 slot_decides None None = (λ e. refl, λ e. refl)

@@ -1,4 +1,4 @@
 pub mod Alternatives
-pub mod Listed
+pub mod ListDefaults
 pub mod Parts
-pub mod Held
+pub mod HeldTypes

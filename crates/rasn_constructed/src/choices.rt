@@ -4,7 +4,7 @@ ghost use Rattle.std.specs.Prelude.{◌≡◌, ◌≤◌, suc, true, IfOk};
 ghost use Rattle.rasn_types.specs.Values.{added, root};
 ghost use Rattle.rasn_schema.specs.Components.{added_parts, alternatives_at, chosen, chosen_behind, chosen_value};
 ghost use Rattle.rasn_schema.specs.Components.{root_parts};
-ghost use Rattle.rasn_defaults.specs.Told.{TellsSame};
+ghost use Rattle.rasn_defaults.specs.AtDefault.{TellsSame};
 ghost use Rattle.rasn_constructed.specs.Alternatives.{HasType, is_another};
 
 use rasn_defaults::DefaultOf;
@@ -51,8 +51,8 @@ pub fn is_another<T: Alternatives, H: AsnType, K: DefaultOf<H>>(
     false
 }
 
-/// Whether the alternative at a place behind the extension marker, which is chosen, has the value of a default.
-pub fn is_default_behind<T: Alternatives, H: AsnType, K: DefaultOf<H>>(
+/// Whether the alternative at a place after the extension marker, which is chosen, has the value of a default.
+pub fn is_default_after<T: Alternatives, H: AsnType, K: DefaultOf<H>>(
     of: &T,
     place: usize,
     value: &H,
@@ -70,8 +70,8 @@ pub fn is_default_behind<T: Alternatives, H: AsnType, K: DefaultOf<H>>(
     default.stands_for(value, &H::CONSTRAINTS)
 }
 
-/// Whether a choice of another alternative is the one at a place behind the extension marker: it isn't.
-pub fn is_another_behind<T: Alternatives, H: AsnType, K: DefaultOf<H>>(
+/// Whether a choice of another alternative is the one at a place after the extension marker: it isn't.
+pub fn is_another_after<T: Alternatives, H: AsnType, K: DefaultOf<H>>(
     of: &T,
     place: usize,
     value: PhantomData<H>,

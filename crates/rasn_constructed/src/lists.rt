@@ -4,7 +4,7 @@ ghost use Rattle.std.specs.Prelude.{◌≡◌, List, [], ◌∷◌, ◌++◌, ma
 ghost use Rattle.rasn_types.specs.Values.{Value};
 ghost use Rattle.rasn_schema.specs.Lists.{deepest};
 ghost use Rattle.rasn_schema.specs.Structures.{list_value};
-ghost use Rattle.rasn_constructed.specs.Listed.{TellsElements};
+ghost use Rattle.rasn_constructed.specs.ListDefaults.{TellsElements};
 
 use rasn_defaults::DefaultOf;
 use rasn_schema::schema::{AsnType, Constraints};
@@ -20,9 +20,9 @@ pub trait ElementDefaults<T: AsnType> {
         ensures { TellsElements (T.schema T.CONSTRAINTS) (deepest T.levels elements.now) (map T.value elements.now)
             (defaults self.now) result };
 
-    /// Puts elements that they stand for behind those of a list, in memory of `alloc`. The only error is want of
-    /// memory, behind which some elements may have been put.
-    fn put_behind(&self, elements: &mut Vec<T>, alloc: Global) -> Result<(), AllocError>
+    /// Puts elements that they stand for after those of a list, in memory of `alloc`. The only error is want of
+    /// memory, after which some elements may have been put.
+    fn put_after(&self, elements: &mut Vec<T>, alloc: Global) -> Result<(), AllocError>
         ensures { OnOk result (map T.value elements.new.items ≡ map T.value elements.old.items ++ defaults self.now) };
 }
 
@@ -30,12 +30,12 @@ pub trait ElementDefaults<T: AsnType> {
 #[derive(Clone, Copy, Debug)]
 pub struct NoElements {}
 
-/// An element, and those behind it.
+/// An element, and those after it.
 #[derive(Clone, Copy, Debug)]
 pub struct Element<K, N> {
     /// The default of the element.
     pub default: K,
-    /// Those of the elements behind it.
+    /// Those of the elements after it.
     pub next: N,
 }
 
@@ -50,7 +50,7 @@ impl<T: AsnType> ElementDefaults<T> for NoElements {
         elements.is_empty()
     }
 
-    fn put_behind(&self, elements: &mut Vec<T>, _: Global) -> Result<(), AllocError> {
+    fn put_after(&self, elements: &mut Vec<T>, _: Global) -> Result<(), AllocError> {
         let _ = elements;
         Ok(())
     }
@@ -69,9 +69,9 @@ impl<T: AsnType + Drop, K: DefaultOf<T>, N: ElementDefaults<T>> ElementDefaults<
         }
     }
 
-    fn put_behind(&self, elements: &mut Vec<T>, alloc: Global) -> Result<(), AllocError> {
+    fn put_after(&self, elements: &mut Vec<T>, alloc: Global) -> Result<(), AllocError> {
         elements.push(self.default.made(alloc)?)?;
-        self.next.put_behind(elements, alloc)
+        self.next.put_after(elements, alloc)
     }
 }
 
@@ -84,7 +84,7 @@ impl<T: AsnType + Drop, P: ElementDefaults<T>> DefaultOf<Vec<T>> for Elements<P>
 
     fn made(&self, alloc: Global) -> Result<Vec<T>, AllocError> {
         let mut elements = Vec::new(alloc);
-        self.0.put_behind(&mut elements, alloc)?;
+        self.0.put_after(&mut elements, alloc)?;
         Ok(elements)
     }
 }

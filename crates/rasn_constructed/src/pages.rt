@@ -1,7 +1,7 @@
 //! What an author's list of the defaults of a record's components is handed to, and a list's elements.
 //!
 //! A component has a line with the word of the record's own list, its field, the field's type, and in brackets its
-//! default, or `ABSENT`; additions stand behind `...;`.
+//! default, or `ABSENT`; additions are behind `...;`.
 //!
 //! ```text
 //! macro_rules! somewhere {
@@ -37,7 +37,7 @@ macro_rules! elements {
     ($($element:expr),+ $(,)?) => { $crate::lists::Elements($crate::element_defaults!([$($element)+])) };
 }
 
-/// Defaults of elements, one behind another.
+/// Defaults of elements, one after another.
 #[macro_export]
 macro_rules! element_defaults {
     ([]) => { $crate::lists::NoElements {} };
@@ -148,15 +148,15 @@ macro_rules! alternative_stands_for {
     };
 }
 
-/// Whether a choice is the alternative of a default, behind the extension marker: the body of `stands_for`.
+/// Whether a choice is the alternative of a default, after the extension marker: the body of `stands_for`.
 #[macro_export]
 macro_rules! alternative_behind_stands_for {
     ([$component:ident $of:ident] $place:literal $variant:ident: $type:ty [$default:expr];
         $($other:ident $(($any:tt))?)|+
     ) => {
         match $component {
-            $of::$variant(value) => $crate::choices::is_default_behind($component, $place, value, &$default),
-            $($of::$other $(($any))? => $crate::choices::is_another_behind(
+            $of::$variant(value) => $crate::choices::is_default_after($component, $place, value, &$default),
+            $($of::$other $(($any))? => $crate::choices::is_another_after(
                 $component, $place, std::marker::PhantomData::<$type>, &$default,
             ),)+
         }

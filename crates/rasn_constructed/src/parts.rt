@@ -1,4 +1,4 @@
-//! Defaults of the components of a record, one behind another.
+//! Defaults of the components of a record, one after another.
 
 ghost use Rattle.std.specs.Prelude.{◌≡◌, ℕ, List, [], ◌∷◌, Option, IfOk};
 ghost use Rattle.rasn_types.specs.Values.{Value};
@@ -31,7 +31,7 @@ pub trait ComparedParts {
 
 /// Defaults of which components of a record are made.
 pub trait MadeParts {
-    /// What they are: a pair of the first and of those behind it, and `()` at the end.
+    /// What they are: a pair of the first and of those after it, and `()` at the end.
     type Values: Drop;
 
     // What values of them are.
@@ -45,14 +45,14 @@ pub trait MadeParts {
         ensures { IfOk result (λ x. contents x ≡ defaults self.now) };
 }
 
-/// A component and its default, and those behind it.
+/// A component and its default, and those after it.
 #[derive(Clone, Copy)]
 pub struct Part<F, K, N> {
     /// To compare, a reference to the field; to make, `PhantomData` of its type.
     pub field: F,
     /// What the component is in the default.
     pub default: K,
-    /// Those behind it.
+    /// Those after it.
     pub next: N,
 }
 

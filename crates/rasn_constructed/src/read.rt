@@ -15,7 +15,7 @@ ghost use Rattle.rasn_traits.specs.Optionals.{ReadsComponent};
 ghost use Rattle.rasn_traits.specs.Presences.{slot_of};
 ghost use Rattle.rasn_traits.specs.Scopes.{TakesParts};
 ghost use Rattle.rasn_record.specs.Lists.{ArePlain, given};
-ghost use Rattle.rasn_constructed.specs.Held.{ReadsHeld};
+ghost use Rattle.rasn_constructed.specs.HeldTypes.{ReadsHeld};
 
 use rasn_codec::boxed::boxed;
 use rasn_codec::codec::Decoder;
@@ -325,7 +325,7 @@ pub struct Tagged<C> {
 
 /// Components that are still to be read of a record that holds values of `T`.
 pub trait DecodeHoldingCells<T: AsnType> {
-    /// What they are: a pair of the first and of those behind it, and `()` at the end.
+    /// What they are: a pair of the first and of those after it, and `()` at the end.
     type Values: Drop;
 
     // The components, to a number of levels.

@@ -143,7 +143,7 @@ macro_rules! decode_recursive_alternative {
     };
 }
 
-/// The alternatives to read, behind those that are done.
+/// The alternatives to read, after those that are done.
 #[macro_export]
 macro_rules! recursive_alternatives {
     ([$place:literal $($places:tt)*] [$decoder:ident $by:ident $held:ident $of:ident $($done:tt)*];

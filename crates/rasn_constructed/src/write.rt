@@ -27,7 +27,7 @@ use rasn_traits::parts::NoAdditions;
 use rasn_types::types::{Identifier, Tag};
 use std::marker::PhantomData;
 
-/// Writes a CHOICE under a tag and a name by the value of one alternative, which stands at a place before the extension
+/// Writes a CHOICE under a tag and a name by the value of one alternative, which is at a place before the extension
 /// marker and goes by the tag `by`.
 pub fn write_alternative<C: Choice, H: Encode, E: Encoder>(
     value: &H,
@@ -51,7 +51,7 @@ pub fn write_alternative<C: Choice, H: Encode, E: Encoder>(
 pub struct Held {}
 
 /// Components of a record that are still to be written, of which one, of a type `H`, holds values of the record's type:
-/// this stands beside the list, since the toolchain refuses a list with a reference to it.
+/// this is beside the list, since the toolchain refuses a list with a reference to it.
 pub trait EncodeHoldingCells<H> {
     // The components, by what the lists state of them, to a number of levels.
     ghost parts: { Self → List Shape → List (Bor (List Constraint)) → ℕ → Parts };

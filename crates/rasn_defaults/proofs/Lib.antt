@@ -1,3 +1,3 @@
-pub mod Same
-pub mod Kept
+pub mod SameValues
+pub mod TestedCharacters
 pub mod Named

@@ -9,9 +9,9 @@ use Rattle.rasn_types.proofs.Trimming.{trimmed-split}
 use Rattle.rasn_constraints.specs.Bounds.{Size}
 use Rattle.rasn_schema.specs.Normal.{normal, normal_bits}
 use Rattle.rasn_schema.specs.Schemas.{Schema}
-use Rattle.rasn_defaults.proofs.Same.{same_bits}
+use Rattle.rasn_defaults.proofs.SameValues.{same_bits}
 
--- a bit of zero bits, and of bits with zero bits behind them
+-- a bit of zero bits, and of bits with zero bits after them
 zero_bit : (n i : ℕ) → get_or (replicate n false) i false ≡ false
 zero_bit zero i = refl
 zero_bit (suc n) zero = refl

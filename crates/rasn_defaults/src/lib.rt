@@ -4,7 +4,7 @@
 
 ghost use Rattle.std.specs.Prelude.{◌≡◌, IfOk};
 ghost use Rattle.rasn_types.specs.Values.{Value};
-ghost use Rattle.rasn_defaults.specs.Told.{TellsSame};
+ghost use Rattle.rasn_defaults.specs.AtDefault.{TellsSame};
 
 pub mod bits;
 pub mod items;

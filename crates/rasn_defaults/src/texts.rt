@@ -3,7 +3,7 @@
 ghost use Rattle.std.specs.Prelude.{◌≡◌, nat_lt, IfOk};
 ghost use Rattle.rasn_types.specs.Alphabets.{has, numeric, printable, visible};
 ghost use Rattle.rasn_types.specs.Values.{characters, octets};
-ghost use Rattle.rasn_defaults.specs.Told.{are_all, kept};
+ghost use Rattle.rasn_defaults.specs.AtDefault.{are_all, kept};
 
 use crate::DefaultOf;
 use rasn_schema::schema::Constraints;

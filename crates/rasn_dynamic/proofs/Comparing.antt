@@ -121,7 +121,7 @@ module _ (ts : List Kind) (i : ℕ) (v : Value) where
       → AtDepths (schema_at ts i) (levels_of v) (λ s. false ≡ same (normal s (value_of v)) (list_value (map tree_value ds)))
   no_list_told ds h = record { at = λ n le. of_shape (schema_at ts i n) (value_of v) (list_value (map tree_value ds)) (no_list_shape v h) }
 
-  -- whether the parts of a record, behind its marker or before it, come to those of a default
+  -- whether the parts of a record, after its marker or before it, come to those of a default
   abbrev pub PartsCome : Bool → List Value → List DefaultTree → Bool → ℕ → Type 0
   PartsCome g vs ds b n = b ≡ all_pairs same_slot (normals (parts_in (groups g ts) (λ j. schema_at ts j n) (components_at ts i g)) (map slot_of vs)) (map tree_slot ds)
 

@@ -24,7 +24,7 @@ use Rattle.rasn_traits.specs.Moments.{date_at}
 use Rattle.rasn_dynamic.proofs.Places.{contained_none, contained_there, containing_there, date_plain, none_there, plain_there, simple_plain}
 use Rattle.rasn_dynamic.proofs.SameDefaults.{differs, is_named, same_bits}
 
--- a bit of zero bits, and of bits with zero bits behind them
+-- a bit of zero bits, and of bits with zero bits after them
 zero_bit : (n i : ℕ) → get_or (replicate n false) i false ≡ false
 zero_bit zero i = refl
 zero_bit (suc n) zero = refl
@@ -41,7 +41,7 @@ filled_bit least i bs =
     let s = trimmed-split bs in
     ap (λ cs. get_or cs i false) s.1 ∙ bit_before_zeros (trimmed bs) s.0 i ∙ sym (bit_before_zeros (trimmed bs) (least - length (trimmed bs)) i)
 
--- bits from a place on are the same exactly where those at the place and those behind it are
+-- bits from a place on are the same exactly where those at the place and those after it are
 head_bit : (i : ℕ) (xs ys : List Bool) → i < length xs → i < length ys → pointwise beq (drop i xs) (drop i ys) ≡ cond (beq (get_or xs i false) (get_or ys i false)) (pointwise beq (drop (suc i) xs) (drop (suc i) ys)) false
 head_bit i [] ys p q = absurd (omega (arith, p))
 head_bit i (x ∷ xs) [] p q = absurd (omega (arith, q))
@@ -134,7 +134,7 @@ unnamed_at ts i e n = go (slice_get ts i) refl e
     go (Some (Containing j)) q f = ap is_named (containing_there ts i j q n) ∙ inside j (slice_get ts j) refl f
     go (Some k) q f = outside k q (λ j g. absurd cc) f
 
--- the normal form of what stands at a place of named bits
+-- the normal form of what is at a place of named bits
 named_normal : (ts : List Kind) (i : ℕ) (c : Extensible (Bounded ℕ)) (v : Value) → named_size (within ts (slice_get ts i)) ≡ Some c → (n : ℕ) → normal (schema_at ts i n) v ≡ over_bits (normal_bits (size_of (of_size c)).least) v
 unfolding normal
 named_normal ts i c v e n = go (slice_get ts i) refl e

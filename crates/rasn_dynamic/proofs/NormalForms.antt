@@ -1,4 +1,4 @@
--- What the normal form of a value by a table is, by its outermost level and by what stands at its place.
+-- What the normal form of a value by a table is, by its outermost level and by what is at its place.
 use Rattle.std.proofs.Common.{◌≡◌, refl, sym, ap, ap₂, ◌∙◌, ℕ, zero, suc, ◌+◌, ◌<◌, ◌≤◌, Bool, true, false, List, [], ◌∷◌, map, length, drop, get_or, Option, Some, None, arith}
 use Rattle.std.specs.Bool.{Decides}
 use Rattle.std.specs.Prelude.{◌&&◌, slice_get}
@@ -22,7 +22,7 @@ use Rattle.rasn_dynamic.specs.declared.types.Kind.TheVariants.{Simple as SimpleK
 use Rattle.rasn_dynamic.specs.declared.types.Simple.{Simple}
 use Rattle.rasn_dynamic.specs.declared.types.Simple.TheVariants.{NamedBits}
 use Rattle.rasn_dynamic.specs.declared.values.Value.{Value}
-use Rattle.rasn_dynamic.specs.Defaults.{all_pairs, chosen_in, chosen_place, components_at, element_place, elements_of, groups, place_in, root_in, behind_in, same_slot, settled}
+use Rattle.rasn_dynamic.specs.Defaults.{all_pairs, chosen_in, chosen_place, components_at, element_place, elements_of, groups, place_in, root_in, after_in, same_slot, settled}
 use Rattle.rasn_dynamic.specs.Types.{alternatives_in, at_place, behind, grouped, in_root, parts_in, plain_at, presence_of, schema_at, simple_schema, within}
 use Rattle.rasn_dynamic.specs.Values.{slot_of, value_of}
 use Rattle.rasn_dynamic.proofs.Pairs.{both_decide, pairs_decide}
@@ -62,7 +62,7 @@ records_same rs xs ds es = same_from_decides _ _
     (both_decide (all_pairs same_slot rs ds) (all_pairs same_slot xs es) (pairs_decide same_slot slot_decides rs ds) (pairs_decide same_slot slot_decides xs es) (λ e f. cc) (records_one rs xs ds es))
     (same_decides (record_value rs xs) (record_value ds es))
 
--- ---- the normal form of what stands at a place
+-- ---- the normal form of what is at a place
 
 pub within_normal : (ts : List Kind) (i n : ℕ) (v : Content) → normal (schema_at ts i n) v ≡ normal (at_place (λ k. plain_at ts k n) (within ts (slice_get ts i))) v
 unfolding normal
@@ -130,7 +130,7 @@ unfolding normal over_bag
 fields_normal ts i n rs xs = within_normal ts i (suc n) (record_value rs xs) ∙ go (within ts (slice_get ts i))
   where
     go : (o : Option Kind) → normal (at_place (λ k. plain_at ts k (suc n)) o) (record_value rs xs)
-        ≡ record_value (normals (parts_in in_root (λ j. schema_at ts j n) (root_in o)) rs) (normals (parts_in (grouped ts) (λ j. schema_at ts j n) (behind_in o)) xs)
+        ≡ record_value (normals (parts_in in_root (λ j. schema_at ts j n) (root_in o)) rs) (normals (parts_in (grouped ts) (λ j. schema_at ts j n) (after_in o)) xs)
     go None = refl
     go (Some (SimpleKind k)) = simple_fields k (as_slots rs) (as_slots xs)
     go (Some Date) = date_normal (suc n) (record_value rs xs)

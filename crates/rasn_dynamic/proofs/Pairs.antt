@@ -6,7 +6,7 @@ use Rattle.std.proofs.lemmas.Bool.Decides.{same_from_decides}
 use Rattle.std.proofs.lemmas.List.{drop_more, drop_all}
 use Rattle.rasn_dynamic.specs.Defaults.{all_pairs}
 
--- an item of a list, and those behind it
+-- an item of a list, and those after it
 pub item_more : {A : Type 0} (xs : List A) (i : ℕ) (x : A) → i < length xs → x ≡ get_or xs i x → drop i xs ≡ x ∷ drop (i + 1) xs
 item_more xs i x l e = drop_more xs i x l ∙ ap (λ u. u ∷ drop (i + 1) xs) (sym e)
 

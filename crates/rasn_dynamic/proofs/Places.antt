@@ -1,4 +1,4 @@
--- The schema of a place by what stands there, and values of other kinds.
+-- The schema of a place by what is there, and values of other kinds.
 use Rattle.std.proofs.Common.{◌≡◌, refl, sym, ap, ap₂, ◌∙◌, ℕ, zero, suc, ◌≤◌, ◌⊎◌, inl, inr, Bool, true, false, Result, Ok, Err, List, [], ◌∷◌, Option, Some, None}
 use Rattle.std.specs.Prelude.{◌&&◌, slice_get}
 use Rattle.rasn_types.specs.Values
@@ -70,7 +70,7 @@ pub containing_there : (ts : List Kind) (i j : ℕ) → slice_get ts i ≡ Some 
 containing_there ts i j e zero = place_there ts i (Containing j) e zero
 containing_there ts i j e (suc n) = place_there ts i (Containing j) e (suc n)
 
--- what stands within such octets
+-- what is within such octets
 pub contained_there : (ts : List Kind) (i : ℕ) (k : Kind) → slice_get ts i ≡ Some k → (n : ℕ) → contained_at ts i n ≡ plain_at ts k n
 contained_there ts i k e n = ap (at_place (λ k. plain_at ts k n)) e
 

@@ -14,7 +14,7 @@ use Rattle.rasn_dynamic.specs.declared.types.Presence.TheVariants.{Group}
 use Rattle.rasn_dynamic.specs.declared.types.Record.{Record}
 use Rattle.rasn_dynamic.specs.Types.{behind, grouped, in_root, presence_of, standing, within}
 
--- which components may be groups: only those behind an extension marker
+-- which components may be groups: only those after an extension marker
 abbrev pub groups : Bool → List Kind → Component → Bool
 groups true ts = grouped ts
 groups false ts = in_root
@@ -24,7 +24,7 @@ abbrev pub elements_of : List Kind → Option Kind → ℕ
 elements_of ts (Some (ListKind i c)) = i
 elements_of ts k = length ts
 
--- the place of the elements of the list that stands at a place, or is contained there
+-- the place of the elements of the list that is at a place, or is contained there
 abbrev pub element_place : List Kind → ℕ → ℕ
 element_place ts i = elements_of ts (within ts (slice_get ts i))
 
@@ -33,13 +33,13 @@ abbrev pub root_in : Option Kind → List Component
 root_in (Some (RecordKind r)) = r.root.items
 root_in k = []
 
-abbrev pub behind_in : Option Kind → List Component
-behind_in (Some (RecordKind r)) = behind r.additions
-behind_in k = []
+abbrev pub after_in : Option Kind → List Component
+after_in (Some (RecordKind r)) = behind r.additions
+after_in k = []
 
--- the components of the record at a place, or contained there: those behind the extension marker or those before it
+-- the components of the record at a place, or contained there: those after the extension marker or those before it
 abbrev pub components_at : List Kind → ℕ → Bool → List Component
-components_at ts i true = behind_in (within ts (slice_get ts i))
+components_at ts i true = after_in (within ts (slice_get ts i))
 components_at ts i false = root_in (within ts (slice_get ts i))
 
 -- the place of an alternative's type, of none where no alternative is
@@ -56,7 +56,7 @@ chosen_in ts k p = length ts
 abbrev pub chosen_place : List Kind → ℕ → Place → ℕ
 chosen_place ts i p = chosen_in ts (within ts (slice_get ts i)) p
 
--- the record that stands at a place itself
+-- the record that is at a place itself
 abbrev pub record_of : Option Kind → Option Record
 record_of (Some (RecordKind r)) = Some r
 record_of k = None

@@ -3,7 +3,7 @@ use Rattle.std.specs.Prelude.{ℕ, suc, max}
 use Rattle.rasn_types.specs.Values.{Value, elements, bag, fields, alternative, day, Values, no_values, value, Slots}
 use Rattle.rasn_types.specs.Values.{no_slots, absent, there}
 
--- a list, a bag, a record and an alternative are one level above what stands in them; a date is a record that holds a
+-- a list, a bag, a record and an alternative are one level above what is in them; a date is a record that holds a
 -- choice (X.691 32)
 unfoldable mutual
   pub depth : Value → ℕ

@@ -1,4 +1,4 @@
--- Where things with names stand in a table of types.
+-- Where things with names are in a table of types.
 use Rattle.std.specs.Prelude.{ℕ, if◌then◌else◌, nat_eq, List, [], ◌∷◌, Option, Some, None, option_map, slice_get}
 use Rattle.std.specs.Prelude.{string_bytes}
 use Rattle.std.specs.Cmp.Lexicographic.{pointwise}
@@ -32,7 +32,7 @@ or_else (Some x) y = Some x
 abbrev pub part_named : Record → List (Option Value) → List (Option Value) → List ℕ → Option (Option Value)
 part_named r vs ws name = or_else (slot_named r.root.items vs name) (slot_named (behind r.additions) ws name)
 
--- the name of the item at a place, where one stands there
+-- the name of the item at a place, where one is there
 abbrev pub name_at : Items → Place → Option (List ℕ)
 name_at i (Root k) = option_map string_bytes (slice_get i.roots.items k)
 name_at i (Added k) = option_map string_bytes (slice_get (behind i.addeds) k)

@@ -50,7 +50,7 @@ use Rattle.rasn_dynamic.specs.declared.types.Kind.TheVariants.{Simple as SimpleK
 use Rattle.rasn_dynamic.specs.declared.types.Kind.TheVariants.{Date, Record as RecordKind, Choice as ChoiceKind}
 use Rattle.rasn_dynamic.specs.declared.types.Kind.TheVariants.{Containing, Open as OpenKind}
 
--- how many items there are before the extension marker, and behind it
+-- how many items there are before the extension marker, and after it
 abbrev pub counts_of : Items → ItemCounts
 counts_of i = record { roots = length i.roots.items; addeds = option_map (λ v. length v.items) i.addeds }
 
@@ -104,7 +104,7 @@ abbrev pub named_size : Option Kind → Option (Extensible (Bounded ℕ))
 named_size (Some (SimpleKind (NamedBits c))) = Some c
 named_size k = None
 
--- what stands within octets that contain it, and else the type itself
+-- what is within octets that contain it, and else the type itself
 abbrev pub within : List Kind → Option Kind → Option Kind
 within ts (Some (Containing i)) = slice_get ts i
 within ts k = k
@@ -173,12 +173,12 @@ required_in k = None
 abbrev pub grouped : List Kind → Component → Bool
 grouped ts c = is_some (required_in (slice_get ts c.of))
 
--- what stands behind an extension marker, where there is one
+-- what is after an extension marker, where there is one
 abbrev pub behind : {A : Type 0} → Option (Vec A) → List A
 behind None = []
 behind (Some v) = v.items
 
--- how many components stand behind one
+-- how many components are after one
 abbrev pub added_count : Option (Vec Component) → Option ℕ
 added_count None = None
 added_count (Some v) = Some (length v.items)
@@ -188,11 +188,11 @@ abbrev pub parts_in : (Component → Bool) → (ℕ → Schema) → List Compone
 parts_in g s [] = no_parts
 parts_in g s (c ∷ cs) = part (leaf (tag_of c.tag)) (presence_of (g c) c.presence) (s c.of) (parts_in g s cs)
 
--- how many alternatives there are before the extension marker, and behind it
+-- how many alternatives there are before the extension marker, and after it
 abbrev pub alternative_counts : Choice → ItemCounts
 alternative_counts c = record { roots = length c.roots.items; addeds = option_map (λ v. length v.items) c.addeds }
 
--- the alternative at a place, where one stands there
+-- the alternative at a place, where one is there
 abbrev pub standing : Choice → Place → Option Alternative
 standing c (Root i) = slice_get c.roots.items i
 standing c (Added i) = slice_get (behind c.addeds) i
@@ -229,12 +229,12 @@ plain_in ts s n (ChoiceKind c) = one_level n (choice_in s c)
 plain_in ts s n (Containing i) = Schemas.real
 plain_in ts s n (OpenKind o) = Schemas.any
 
--- what stands at a place; where nothing does it is REAL, which has no encoding
+-- what is at a place; where nothing does it is REAL, which has no encoding
 abbrev pub at_place : (Kind → Schema) → Option Kind → Schema
 at_place f None = Schemas.real
 at_place f (Some k) = f k
 
--- octets that contain a value take no level (X.682 11): what stands at its place is taken to the same levels; octets
+-- octets that contain a value take no level (X.682 11): what is at its place is taken to the same levels; octets
 -- that contain such octets are taken as REAL
 abbrev pub kind_in : List Kind → (ℕ → Schema) → ℕ → Kind → Schema
 kind_in ts s n (Containing i) = Schemas.containing (at_place (plain_in ts s n) (slice_get ts i))
@@ -250,7 +250,7 @@ abbrev pub plain_at : List Kind → Kind → ℕ → Schema
 plain_at ts k zero = plain_in ts (λ j. Schemas.cut) zero k
 plain_at ts k (suc n) = plain_in ts (λ j. schema_at ts j n) (suc n) k
 
--- what stands within octets that contain it, by its place
+-- what is within octets that contain it, by its place
 abbrev pub contained_at : List Kind → ℕ → ℕ → Schema
 contained_at ts i n = at_place (λ k. plain_at ts k n) (slice_get ts i)
 

@@ -207,7 +207,7 @@ fn record_comes_to(
     }
 }
 
-/// Whether the normal forms of a record's parts, behind its extension marker or before it, are those of a default.
+/// Whether the normal forms of a record's parts, after its extension marker or before it, are those of a default.
 #[cycle(comparing)]
 fn parts_come_to(
     values: &[Value],
@@ -325,7 +325,7 @@ fn is_vacant(value: &Value, kinds: &[Kind], record: &Record) -> bool
     }
 }
 
-/// Whether a record's parts, behind its extension marker or before it, are each absent or the default in normal form.
+/// Whether a record's parts, after its extension marker or before it, are each absent or the default in normal form.
 #[cycle(comparing)]
 fn are_idle(values: &[Value], kinds: &[Kind], components: &[Component], are_added: bool) -> bool
     ensures { (n : ℕ) → deepest levels_of values.now ≤ n →
@@ -408,7 +408,7 @@ fn record_of(kind: &Kind) -> Option<&Record>
     }
 }
 
-/// The place of the elements of the list that stands at a place, or is contained there; past the table for none.
+/// The place of the elements of the list that is at a place, or is contained there; past the table for none.
 pub fn element_place(kinds: &[Kind], place: usize) -> usize
     ensures { result ≡ element_place kinds.now place }
 {
@@ -418,7 +418,7 @@ pub fn element_place(kinds: &[Kind], place: usize) -> usize
     }
 }
 
-/// The components of the record at a place, or contained there: those behind the extension marker or those before it.
+/// The components of the record at a place, or contained there: those after the extension marker or those before it.
 pub fn components_at(kinds: &[Kind], place: usize, behind: bool) -> &[Component]
     ensures { result.now ≡ components_at kinds.now place behind }
 {

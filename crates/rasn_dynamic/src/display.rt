@@ -49,7 +49,7 @@ fn write_value<W: fmt::Write>(value: &Value, f: &mut fmt::Formatter<W>) -> fmt::
     }
 }
 
-/// Writes values with commas between them, behind what opens their list.
+/// Writes values with commas between them, after what opens their list.
 #[cycle(writing)]
 fn write_values<W: fmt::Write>(
     values: &[Value],

@@ -72,7 +72,7 @@ fn characters_of(alloc: Global, octets: &[u8]) -> Result<BmpString, AllocError>
     Ok(text)
 }
 
-/// The octets with the numbers of characters, and zeros behind them; none where the characters can't be the text of a
+/// The octets with the numbers of characters, and zeros after them; none where the characters can't be the text of a
 /// time, as they are too many, or one isn't an octet.
 fn octets_of(text: &BmpString) -> Option<[u8; MOST]>
     ensures few { IfSome result (λ octets. length text.now ≤ 25) }

@@ -1,4 +1,4 @@
-//! A table of types: what each type is, with the places in the table of the types that stand in it.
+//! A table of types: what each type is, with the places in the table of the types that are in it.
 
 ghost use Rattle.std.specs.Prelude.{◌≡◌, ℕ, MatchOption, None, Some, count_by, option_map, slice_get};
 ghost use Rattle.rasn_schema.specs.Levels.{Levelled};
@@ -268,7 +268,7 @@ impl Types {
 }
 
 impl Items {
-    /// How many items there are before the extension marker, and how many behind it.
+    /// How many items there are before the extension marker, and how many after it.
     pub fn counts(&self) -> ItemCounts
         ensures { result ≡ counts_of self.now }
     {
@@ -282,7 +282,7 @@ impl Items {
         }
     }
 
-    /// The name of the item at a place, where one stands there.
+    /// The name of the item at a place, where one is there.
     pub fn name(&self, place: Place) -> Option<&str>
         ensures { option_map (λ n. n.now) result ≡ name_at self.now place }
     {
@@ -292,7 +292,7 @@ impl Items {
         }
     }
 
-    /// The names of the items behind the extension marker, of which there are none without one.
+    /// The names of the items after the extension marker, of which there are none without one.
     pub fn behind(&self) -> &[String]
         ensures { result.now ≡ behind self.now.addeds }
     {
@@ -319,7 +319,7 @@ fn first_place(names: &[Name], name: &str) -> Option<usize>
 }
 
 impl Choice {
-    /// How many alternatives there are before the extension marker, and how many behind it.
+    /// How many alternatives there are before the extension marker, and how many after it.
     pub fn counts(&self) -> ItemCounts
         ensures { result ≡ alternative_counts self.now }
     {
@@ -331,7 +331,7 @@ impl Choice {
         ItemCounts { roots, addeds }
     }
 
-    /// The alternatives behind the extension marker, of which there are none without one.
+    /// The alternatives after the extension marker, of which there are none without one.
     pub fn behind(&self) -> &[Alternative]
         ensures { result.now ≡ behind self.now.addeds }
     {
@@ -341,7 +341,7 @@ impl Choice {
         }
     }
 
-    /// The alternative at a place, where one stands there.
+    /// The alternative at a place, where one is there.
     pub fn at(&self, place: Place) -> Option<&Alternative>
         ensures { MatchOption result (standing self.now place ≡ None) (λ a. standing self.now place ≡ Some a.now) }
     {
@@ -382,7 +382,7 @@ impl Record {
         }
     }
 
-    /// How many additions there are behind an extension marker, where it has one.
+    /// How many additions there are after an extension marker, where it has one.
     pub fn added_count(&self) -> Option<usize>
         ensures { result ≡ added_count self.now.additions }
     {
@@ -418,7 +418,7 @@ pub fn are_levelled(types: &Types)
     let _ = types;
 }
 
-/// Whether a root component of the SEQUENCE at a place of a table has to be there, where one stands there.
+/// Whether a root component of the SEQUENCE at a place of a table has to be there, where one is there.
 pub fn required_in(kinds: &[Kind], place: usize) -> Option<bool>
     ensures { result ≡ required_in (slice_get kinds.now place) }
 {
@@ -438,7 +438,7 @@ pub fn kind_within(kinds: &[Kind], place: usize) -> Option<&Kind>
     }
 }
 
-/// What stands at a place of a table.
+/// What is at a place of a table.
 pub fn kind_at(kinds: &[Kind], place: usize) -> Option<&Kind>
     ensures { option_map (λ k. k.now) result ≡ slice_get kinds.now place }
 {

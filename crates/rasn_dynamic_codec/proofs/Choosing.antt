@@ -44,8 +44,8 @@ has_some xs i a e = lt-ltb i (length xs) (slice_get_within xs i a e)
 has_none : (xs : List Alternative) (i : ℕ) → slice_get xs i ≡ None → nat_lt i (length xs) ≡ false
 has_none xs i e = elim (slice_get_cases xs i).1 [ inl q ↦ absurd (let f : Some q.0 ≡ None = sym q.2 ∙ e in cc) | inr q ↦ le-ltb i (length xs) q.0 ]
 
-behind_counted : (c : Choice) → addeds_of (alternative_counts c).addeds ≡ length (behind c.addeds)
-behind_counted c = go c.addeds
+after_counted : (c : Choice) → addeds_of (alternative_counts c).addeds ≡ length (behind c.addeds)
+after_counted c = go c.addeds
   where
     go : (o : Option (Vec Alternative)) → addeds_of (option_map (λ v. length v.items) o) ≡ length (behind o)
     go None = refl
@@ -53,7 +53,7 @@ behind_counted c = go c.addeds
 
 -- the choices of a table are of so many alternatives
 pub is_choice_of : (ts : List Kind) (c : Choice) (n : ℕ) → IsChoiceOf (alternative_counts c) (choice_of ts c n)
-is_choice_of ts c n = (counted (λ j. schema_at ts j n) c.roots.items, counted (λ j. schema_at ts j n) (behind c.addeds) ∙ sym (behind_counted c), refl)
+is_choice_of ts c n = (counted (λ j. schema_at ts j n) c.roots.items, counted (λ j. schema_at ts j n) (behind c.addeds) ∙ sym (after_counted c), refl)
 
 -- the schema of the alternative at a place
 pub chosen : (ts : List Kind) (c : Choice) (p : Place) (a : Alternative) → standing c p ≡ Some a → (n : ℕ) → alternative_in (choice_of ts c n) (side_of p) (index_in p) ≡ Some (schema_at ts a.of n)
@@ -63,11 +63,11 @@ chosen ts c (Added i) a e n = there_at (λ j. schema_at ts j n) (behind c.addeds
 -- where an alternative stands
 pub stands_some : (c : Choice) (p : Place) (a : Alternative) → standing c p ≡ Some a → stands_in (alternative_counts c) p ≡ true
 stands_some c (Root i) a e = has_some c.roots.items i a e
-stands_some c (Added i) a e = ap (nat_lt i) (behind_counted c) ∙ has_some (behind c.addeds) i a e
+stands_some c (Added i) a e = ap (nat_lt i) (after_counted c) ∙ has_some (behind c.addeds) i a e
 
 pub stands_none : (c : Choice) (p : Place) → standing c p ≡ None → stands_in (alternative_counts c) p ≡ false
 stands_none c (Root i) e = has_none c.roots.items i e
-stands_none c (Added i) e = ap (nat_lt i) (behind_counted c) ∙ has_none (behind c.addeds) i e
+stands_none c (Added i) e = ap (nat_lt i) (after_counted c) ∙ has_none (behind c.addeds) i e
 
 -- the alternative at a place of a choice that has one there
 pub stands_there : (c : Choice) (p : Place) → stands_in (alternative_counts c) p ≡ true → (a : Alternative) × (standing c p ≡ Some a)
@@ -88,7 +88,7 @@ no_choice ts c v e (suc n) le = go (alternatives_in (λ j. schema_at ts j n) c.r
     go ps qs m (alternative Values.added i w) f = f
     go ps qs m w f = f
 
--- no alternative stands at a place
+-- no alternative is at a place
 pub none_chosen : (ts : List Kind) (c : Choice) (p : Place) (v : Content) → standing c p ≡ None
     → (n : ℕ) → is_of_kind (one_level_in (choice_of ts c) n) (normal (one_level_in (choice_of ts c) n) (alternative (side_of p) (index_in p) v)) ≡ false
 unfolding normal
@@ -120,7 +120,7 @@ module _ {S O E : Type 0} {rules : DecoderRules E S} {unended : O → E → S �
   as_choice : (P : Schema → Type 0) → P (choice (rules.levels i)) → P (one_level_in choice (rules.levels s))
   as_choice P q = subst P (sym (ap (one_level_in choice) deeper)) q
 
-  -- the decoder behind an alternative hasn't failed
+  -- the decoder after an alternative hasn't failed
   pub placed_left : (v : Content) (j : S) → rules.spells a i v j → rules.failed j ≡ false
   placed_left v j q = (L.spelled a).left i v j q
 
@@ -137,7 +137,7 @@ module _ {S O E : Type 0} {rules : DecoderRules E S} {unended : O → E → S �
     stands = K.in_alternative (choice (rules.levels i)) d k a s o i e h there r.stands;
   }))
 
-  -- a choice that doesn't end behind its alternative
+  -- a choice that doesn't end after its alternative
   pub placed_endless : {e : E} (v : Content) (j : S) → rules.spells a i v j → rules.memory e j ⊎ (((u : S) → closes j o u → ⊥) × unended o e j)
       → rules.memory e s ⊎ Refuses (rules.spells (one_level_in choice (rules.levels s))) (rules.fault (one_level_in choice (rules.levels s))) e s
   placed_endless {e} v j q (inl m) = inl (K.room (choice (rules.levels i)) d k s o i e h ((L.spelled a).room i v j e q m))

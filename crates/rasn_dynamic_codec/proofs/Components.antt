@@ -12,7 +12,7 @@ use Rattle.rasn_schema.specs.Schemas
 use Rattle.rasn_schema.specs.Schemas.{leaf, Schema, Parts, no_parts, part, TagTree}
 use Rattle.rasn_traits.specs.Additions.{presents_no_more, WrittenAddition, WrittenAdditions}
 use Rattle.rasn_traits.specs.Calls.{EncoderRules, PresentsWell}
-use Rattle.rasn_traits.specs.Scopes.{PresentsPart, presents_end, presents_next, refuses_here, refuses_behind, WrittenPart, WrittenParts}
+use Rattle.rasn_traits.specs.Scopes.{PresentsPart, presents_end, presents_next, refuses_here, refuses_after, WrittenPart, WrittenParts}
 use Rattle.rasn_traits.proofs.Writing.{parts_room}
 use Rattle.rasn_dynamic_codec.specs.OneAddition.{normal_addition}
 use Rattle.rasn_dynamic_codec.proofs.OneAddition.{addition_normal, addition_refused, addition_written}
@@ -53,7 +53,7 @@ module _ {E X : Type 0} (rules : EncoderRules E X) where
   pub part_written : PresentsWell rules → (t : TagTree) (p : Schemas.Presence) (s : Schema) (ps : Parts) (x m : X) (o : Option Content) (os : List (Option Content)) → PresentsPart rules p s x o m
       → (r : Result (Unit {0}) E) (y : X) → WrittenParts rules ps os m r y → WrittenParts rules (part t p s ps) (o ∷ os) x r y
   part_written L t p s ps x m o os a (Ok u) y w = presents_next a w
-  part_written L t p s ps x m o os a (Err e) y (inr h) = inr (refuses_behind a h)
+  part_written L t p s ps x m o os a (Err e) y (inr h) = inr (refuses_after a h)
   part_written L t p s ps x m o os a (Err e) y (inl h) = inl (parts_room rules L (part t p s no_parts) x (o ∷ []) m e (presents_next a presents_end) h)
 
   pub added_refused : (t : TagTree) (p : Schemas.Presence) (s : Schema) (ps : Parts) (x y z : X) (o : Option Content) (os : List (Option Content)) (e : E) → WrittenAddition rules p s o x (Err e) y → WrittenAdditions rules (part t p s ps) (o ∷ os) x (Err e) z
@@ -113,7 +113,7 @@ module _ {E X : Type 0} (rules : EncoderRules E X) where
         pub onward_stands : may_stand true d.presence (slot_of v) ≡ true
         onward_stands = fits_both.0
 
-        -- the component at the place, and those behind it
+        -- the component at the place, and those after it
         abbrev pub tree : TagTree
         tree = leaf (tag_of d.tag)
 
@@ -126,20 +126,20 @@ module _ {E X : Type 0} (rules : EncoderRules E X) where
         abbrev pub behind : ℕ → Parts
         behind = parts_at T.groups ts (drop (i + 1) cs)
 
-        abbrev pub slots_behind : List (Option Content)
-        slots_behind = map slot_of (drop (i + 1) vs)
+        abbrev pub slots_after : List (Option Content)
+        slots_after = map slot_of (drop (i + 1) vs)
 
         at_first : (n : ℕ) → deepest levels_of vs ≤ n → (r : Result (Unit {0}) E) (z : X)
-            → T.all (part tree presence (of n) (behind n)) (normal_addition presence (of n) (slot_of v) ∷ normals (behind n) slots_behind) y r z
+            → T.all (part tree presence (of n) (behind n)) (normal_addition presence (of n) (slot_of v) ∷ normals (behind n) slots_after) y r z
             → T.all (parts_at T.groups ts cs n) (normals (parts_at T.groups ts cs n) (map slot_of vs)) x r z
-        at_first n le r z w = (rw (components_at, values_at) at (h.at n le)) r z (rw (addition_normal tree presence (of n) (behind n) (slot_of v) slots_behind) w)
+        at_first n le r z w = (rw (components_at, values_at) at (h.at n le)) r z (rw (addition_normal tree presence (of n) (behind n) (slot_of v) slots_after) w)
 
         -- a component is refused
         pub onward_refused : (e : E) (z : X) → AtDepths of (levels_of v) (λ s. T.one presence s (normal_addition presence s (slot_of v)) y (Err e) z)
             → AtParts (parts_at T.groups ts cs) (deepest levels_of vs) (λ ps. T.all ps (normals ps (map slot_of vs)) x (Err e) z)
         onward_refused e z w = record {
           at = λ n le. let s = rw values_at at h.shallow in at_first n le (Err e) z
-              (T.refused tree presence (of n) (behind n) y z z (normal_addition presence (of n) (slot_of v)) (normals (behind n) slots_behind) e (w.at n (omega (arith, s, le))));
+              (T.refused tree presence (of n) (behind n) y z z (normal_addition presence (of n) (slot_of v)) (normals (behind n) slots_after) e (w.at n (omega (arith, s, le))));
         }
 
         -- a component is presented
@@ -147,7 +147,7 @@ module _ {E X : Type 0} (rules : EncoderRules E X) where
             → rules.codec m ≡ rules.codec y → Onward ts cs vs x (i + 1) m
         onward_presented u m w k = let s = rw values_at at h.shallow in record {
           at = λ n le r z q. at_first n le r z
-              (T.written tree presence (of n) (behind n) y m u (normal_addition presence (of n) (slot_of v)) (normals (behind n) slots_behind) (w.at n (omega (arith, s, le))) r z q);
+              (T.written tree presence (of n) (behind n) y m u (normal_addition presence (of n) (slot_of v)) (normals (behind n) slots_after) (w.at n (omega (arith, s, le))) r z q);
           fits = fits_both.1;
           shallow = omega (arith, s);
           kept = k ∙ h.kept;

@@ -3,7 +3,7 @@ pub mod BagsReading
 pub mod Choosing
 pub mod Components
 pub mod Elements
-pub mod Given
+pub mod AdditionLaws
 pub mod OneAddition
 pub mod Members
 pub mod Presences

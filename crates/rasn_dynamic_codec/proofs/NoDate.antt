@@ -54,13 +54,13 @@ first_there : (s : Option Content) (os ps : List (Option Content)) → is_of_kin
 first_there None os ps = refl
 first_there (Some v) os ps = refl
 
-behind_there : (s : Option Content) (ps : List (Option Content)) → is_of_kind Schemas.cut (record_value [] (s ∷ ps)) ≡ false
-behind_there None ps = refl
-behind_there (Some v) ps = refl
+after_there : (s : Option Content) (ps : List (Option Content)) → is_of_kind Schemas.cut (record_value [] (s ∷ ps)) ≡ false
+after_there None ps = refl
+after_there (Some v) ps = refl
 
 held : (rs xs : List Value) → ((length rs == 0) && (length xs == 0)) ≡ false → is_of_kind Schemas.cut (record_value (map slot_of rs) (map slot_of xs)) ≡ false
 held [] [] e = absurd cc
-held [] (x ∷ xs) e = behind_there (slot_of x) (map slot_of xs)
+held [] (x ∷ xs) e = after_there (slot_of x) (map slot_of xs)
 held (r ∷ rs) xs e = first_there (slot_of r) (map slot_of rs) (map slot_of xs)
 
 -- a record with a component or an addition

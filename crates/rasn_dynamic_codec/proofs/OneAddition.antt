@@ -1,4 +1,4 @@
--- One addition in front of those behind it.
+-- One addition in front of those after it.
 use Rattle.std.proofs.Common.{◌≡◌, refl, inl, inr, ◌⊎◌, true, false, Result, Ok, Err, List, ◌∷◌, Option, Some, None}
 use Rattle.rasn_types.specs.Values.{Value}
 use Rattle.rasn_schema.specs.Schemas.{TagTree, Presence, Schema, Parts, part}
@@ -10,12 +10,12 @@ use Rattle.rasn_traits.proofs.Reading.{addition_of, given, lacking}
 use Rattle.rasn_dynamic_codec.specs.OneAddition.{normal_addition}
 
 module _ {E X : Type 0} (rules : EncoderRules E X) where
-  -- want of memory behind an addition is want of memory of the whole
+  -- want of memory after an addition is want of memory of the whole
   addition_room : PresentsWell rules → {p : Presence} {s : Schema} {x y : X} {r : Option Value} (e : E) → PresentsAddition rules p s x r y → rules.memory e y → rules.memory e x
   addition_room L {x = x} {y = y} e (presents_added {s = s} {v = v} i h) m = L.add_room x s v y e h m
   addition_room L {x = x} {y = y} e (presents_skipped i h) m = L.skip_room x y e h m
 
-  -- an addition that is given, and what comes of those behind it
+  -- an addition that is given, and what comes of those after it
   pub addition_written : PresentsWell rules → (t : TagTree) (p : Presence) (s : Schema) (ps : Parts) (x m : X) (r : Option Value) (rs : List (Option Value)) → PresentsAddition rules p s x r m
       → (result : Result (Unit {0}) E) (y : X) → WrittenAdditions rules ps rs m result y → WrittenAdditions rules (part t p s ps) (r ∷ rs) x result y
   addition_written L t p s ps x m r rs a (Ok u) y w = presents_further a w

@@ -1,4 +1,4 @@
--- How the law of a call that puts a value behind others follows from that of the call that reads it, over any decoder.
+-- How the law of a call that puts a value after others follows from that of the call that reads it, over any decoder.
 use Rattle.std.proofs.Common.{◌≡◌, refl, ◌∙◌, subst, inl, Result, Ok, Err, List, [], ◌∷◌, ◌++◌}
 use Rattle.std.specs.Prelude.{OnOk}
 use Rattle.rasn_schema.specs.Schemas
@@ -11,7 +11,7 @@ use Rattle.rasn_traits.proofs.Reading.{part_reads_well}
 use Rattle.rasn_dynamic.specs.declared.values.Value.{Value}
 use Rattle.rasn_dynamic.specs.Values.{slot_of, value_of}
 use Rattle.rasn_dynamic_codec.proofs.Reading.{required_taken, slotted}
-use Rattle.rasn_dynamic_codec.specs.Reads.{PutBehind, PutsRead, ReadsValue}
+use Rattle.rasn_dynamic_codec.specs.Reads.{PutAfter, PutsRead, ReadsValue}
 
 -- what holds of each answer of one call, holds of the one that another puts
 pub puts_same : {E S : Type 0} {P Q : Result Value E → S → Type 0} {vs ws : List Value} {r : Result (Unit {0}) E} {t : S} → ((a : Result Value E) → P a t → Q a t) → PutsRead P vs r ws t → PutsRead Q vs r ws t
@@ -22,7 +22,7 @@ module _ {E S : Type 0} {P : Result Value E → S → Type 0} {vs ws : List Valu
   pub put_failed : {e : E} → PutsRead P vs (Err e) ws t → P (Err e) t
   put_failed h = go h.answer h.put h.owed
     where
-      go : {e : E} (a : Result Value E) → PutBehind vs a (Err e) ws → P a t → P (Err e) t
+      go : {e : E} (a : Result Value E) → PutAfter vs a (Err e) ws → P a t → P (Err e) t
       go (Ok v) p w = absurd p
       go (Err x) p w = subst (λ z. P (Err z) t) p w
 
@@ -30,7 +30,7 @@ module _ {E S : Type 0} {P : Result Value E → S → Type 0} {vs ws : List Valu
   pub put_done : {u : Unit {0}} → PutsRead P vs (Ok u) ws t → (v : Value) × (ws ≡ vs ++ v ∷ []) × P (Ok v) t
   put_done h = go h.answer h.put h.owed
     where
-      go : {u : Unit {0}} (a : Result Value E) → PutBehind vs a (Ok u) ws → P a t → (v : Value) × (ws ≡ vs ++ v ∷ []) × P (Ok v) t
+      go : {u : Unit {0}} (a : Result Value E) → PutAfter vs a (Ok u) ws → P a t → (v : Value) × (ws ≡ vs ++ v ∷ []) × P (Ok v) t
       go (Ok v) p w = (v, p, w)
       go (Err x) p w = absurd p
 
@@ -42,7 +42,7 @@ required_read rules c s t a w = record {
 }
 
 module _ {E S : Type 0} {rules : DecoderRules E S} (L : DecodesWell rules) where
-  -- a value that was read is put behind others, or memory runs out
+  -- a value that was read is put after others, or memory runs out
   pub value_put : (c : Schema) (s u t : S) (v : Value) (vs ws : List Value) (r : Result (Unit {0}) E) → ReadsValue rules c s (Ok v) u → Holds rules (λ x. v) v u r t → OnOk r (ws ≡ vs ++ v ∷ [])
       → PutsRead (ReadsValue rules c s) vs r ws t
   value_put c s u t v vs ws (Ok x) h p o = record { answer = Ok v; put = o; owed = rw p.law.1 h }

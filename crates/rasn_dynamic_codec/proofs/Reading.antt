@@ -12,7 +12,7 @@ use Rattle.rasn_traits.specs.Boxes.{Held}
 use Rattle.rasn_traits.specs.Contents.{ContentsWell, OpenedContentsToRead}
 use Rattle.rasn_traits.specs.Presences.{left_out}
 use Rattle.rasn_traits.specs.Scopes.{FaultyPart, FaultyParts, faulty_required, ReadsPart, ReadsParts, reads_end, reads_left_out, reads_next, reads_required, reads_there}
-use Rattle.rasn_traits.proofs.Reading.{addition_lacks, addition_reads_well, fails_addition, fails_behind, fails_further, fails_part, part_reads_well}
+use Rattle.rasn_traits.proofs.Reading.{addition_lacks, addition_reads_well, fails_addition, fails_after, fails_further, fails_part, part_reads_well}
 use Rattle.rasn_dynamic.specs.declared.types.Component.{Component}
 use Rattle.rasn_dynamic.specs.declared.types.Kind.{Kind}
 use Rattle.rasn_dynamic.specs.declared.types.Presence.{Presence}
@@ -53,7 +53,7 @@ module _ {E S : Type 0} (rules : DecoderRules E S) where
     end = λ s. reads_end;
     next = λ k p c ps s m t r rs a b. reads_next a b;
     fails_here = λ k p c ps s e q. fails_part L q;
-    fails_next = λ k p c ps s m r e a q. fails_behind L a q;
+    fails_next = λ k p c ps s m r e a q. fails_after L a q;
   }
 
   abbrev pub read_additions : DecodesWell rules → List Kind → ReadTurns
@@ -75,7 +75,7 @@ module _ {E S : Type 0} (rules : DecoderRules E S) where
     abbrev pub Fails : Parts → E → S → Type 0
     Fails ps e s = rules.memory e s ⊎ Refuses (T.all ps) (λ e. T.faulty e ps) e s
 
-    -- What is read of the components from a place on is read of all, behind what was read.
+    -- What is read of the components from a place on is read of all, after what was read.
     pub record OnwardRead (ts : List Kind) (cs : List Component) (s : S) (i : ℕ) (xs : List Value) (y : S) : Type 0 where
       pub level : rules.levels y ≡ rules.levels s
       pub at : (rs : List (Option Content)) (t : S) → T.all (parts_at T.groups ts (drop i cs) (rules.levels s)) y rs t → T.all (parts_at T.groups ts cs (rules.levels s)) s (map slot_of xs ++ rs) t
@@ -178,7 +178,7 @@ module _ {E S : Type 0} {rules : DecoderRules E S} where
       stands = A.in_addition c s o i e h r.stands;
     })
 
-    -- an open type that doesn't end behind its value
+    -- an open type that doesn't end after its value
     pub open_unended : (c : Schema) (s : S) (o : O) (i j : S) (v : Content) (e : E) → opens s o i → rules.spells c i v j → rules.memory e j ⊎ (((u : S) → closes j o u → ⊥) × unended o e j)
         → rules.memory e s ⊎ Refuses (rules.adds c) (rules.misadds c) e s
     open_unended c s o i j v e h a (inl m) = inl (A.room s o i e h ((L.spelled c).room i v j e a m))
@@ -209,7 +209,7 @@ module _ {E S : Type 0} {rules : DecoderRules E S} where
       stands = K.in_contents c s o i e h r.stands;
     })
 
-    -- octets that don't end behind their value
+    -- octets that don't end after their value
     pub octets_unended : (c : Schema) (s : S) (o : O) (i j : S) (v : Content) (e : E) → opens s o i → rules.spells c i v j → rules.memory e j ⊎ (((u : S) → closes j o u → ⊥) × unended o e j)
         → rules.memory e s ⊎ Refuses (rules.spells (Schemas.containing c)) (rules.fault (Schemas.containing c)) e s
     octets_unended c s o i j v e h a (inl m) = inl (K.room s o i e h ((L.spelled c).room i v j e a m))
@@ -224,7 +224,7 @@ module _ {E S : Type 0} {rules : DecoderRules E S} where
     octets_level s (Err e) t h = tt
 
 module _ {E S : Type 0} {rules : DecoderRules E S} (L : DecodesWell rules) (d : Content) where
-  -- a default that stands for a component behind the presence bit 0
+  -- a default that stands for a component after the presence bit 0
   pub default_taken : (c : Schema) (s m t : S) (r : Result Value E) → rules.marks s false m → Held rules slot_of (Some d) m r t
       → Answers rules.memory (λ e. FaultyPart rules e (Schemas.default d) c) (ReadsPart rules (Schemas.default d) c) slot_of s r t
   default_taken c s m t (Ok v) b h = rw (h.0, h.1) (reads_left_out refl b)

@@ -58,7 +58,7 @@ pub record GivesSettled {E X : Type 0} (rules : EncoderRules E X) (schema : ℕ 
   pub kept : rules.codec y ≡ rules.codec x
 
 -- A call that opens a choice of a table to write its alternative at a place: Ok answers the place of the type of that
--- too; where no alternative stands at the place it is none, and nothing changes.
+-- too; where no alternative is at the place it is none, and nothing changes.
 abbrev pub OpensChosen : {E X O : Type 0} → EncoderRules E X → (Schema → Side → ℕ → X → O → X → Type 0) → Choice
     → Place → X → Result (Option (ℕ × O)) E → X → Type 0
 OpensChosen rules opens c p x (Ok None) y = (standing c p ≡ None) × (y ≡ x)

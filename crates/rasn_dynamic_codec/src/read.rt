@@ -30,7 +30,7 @@ use rasn_traits::counted::CountedDecoder;
 use rasn_types::types::Tag;
 use std::alloc::Global;
 
-/// Reads a value of the type at a place of a table. Where nothing stands there it refuses.
+/// Reads a value of the type at a place of a table. Where nothing is there it refuses.
 #[cycle(reading)]
 #[inline(always)]
 pub fn decode_value<D: CountedDecoder>(
@@ -47,7 +47,7 @@ pub fn decode_value<D: CountedDecoder>(
     }
 }
 
-/// Reads a value of what stands at a place of a table.
+/// Reads a value of what is at a place of a table.
 #[cycle(reading)]
 #[inline(always)]
 fn decode_kind<D: CountedDecoder>(
@@ -84,7 +84,7 @@ fn decode_containing<D: CountedDecoder>(
     Ok(value)
 }
 
-/// Reads the value that stands within octets which contain it.
+/// Reads the value that is within octets which contain it.
 #[cycle(reading)]
 fn decode_contained<D: CountedDecoder>(
     decoder: &mut D,
@@ -230,7 +230,7 @@ fn room_for(alloc: Global, count: usize) -> Vec<Value>
     values
 }
 
-/// Reads a root component, and puts it behind others: one that may be absent by its presence bit, and its value behind
+/// Reads a root component, and puts it after others: one that may be absent by its presence bit, and its value after
 /// a bit 1.
 #[cycle(reading)]
 #[inline(always)]
@@ -254,7 +254,7 @@ fn put_component<D: CountedDecoder>(
     }
 }
 
-/// Reads a component that may be absent, and puts it behind others.
+/// Reads a component that may be absent, and puts it after others.
 #[cycle(reading)]
 #[inline(always)]
 fn put_optional<D: CountedDecoder>(
@@ -272,7 +272,7 @@ fn put_optional<D: CountedDecoder>(
     put_value(decoder, kinds, place, values)
 }
 
-/// Reads a component with a default, and puts it behind others.
+/// Reads a component with a default, and puts it after others.
 #[cycle(reading)]
 #[inline(always)]
 fn put_default<D: CountedDecoder>(
@@ -290,7 +290,7 @@ fn put_default<D: CountedDecoder>(
     put(decoder, values, value)
 }
 
-/// Reads a value of the type at a place of a table, and puts it behind others.
+/// Reads a value of the type at a place of a table, and puts it after others.
 #[cycle(reading)]
 #[inline(always)]
 fn put_value<D: CountedDecoder>(
@@ -308,7 +308,7 @@ fn put_value<D: CountedDecoder>(
     }
 }
 
-/// Reads a value of what stands at a place of a table, and puts it behind others.
+/// Reads a value of what is at a place of a table, and puts it after others.
 #[cycle(reading)]
 #[inline(always)]
 fn put_kind<D: CountedDecoder>(
@@ -329,7 +329,7 @@ fn put_kind<D: CountedDecoder>(
     }
 }
 
-/// Reads a SEQUENCE, and puts it behind other values.
+/// Reads a SEQUENCE, and puts it after other values.
 #[cycle(reading)]
 #[inline(always)]
 fn put_record<D: CountedDecoder>(
@@ -345,7 +345,7 @@ fn put_record<D: CountedDecoder>(
     put(decoder, values, value)
 }
 
-/// Reads a value of what stands at a place of a table by itself, and puts it behind others.
+/// Reads a value of what is at a place of a table by itself, and puts it after others.
 #[cycle(reading)]
 #[inline(always)]
 fn put_other<D: CountedDecoder>(
@@ -383,6 +383,7 @@ fn decode_default<D: CountedDecoder>(
 }
 
 /// The value of a default, in memory of the decoder's.
+#[inline(never)]
 fn made<D: CountedDecoder>(decoder: &mut D, otherwise: &DefaultTree) -> Result<Value, D::Error>
     ensures { Holds D.rules slot_of (Some (tree_value otherwise.now)) decoder.old result decoder.new }
 {
@@ -410,7 +411,7 @@ fn decode_choice<D: CountedDecoder>(
     Ok(Value::Alternative(place, value))
 }
 
-/// Reads the value of the alternative at a place, where one stands there.
+/// Reads the value of the alternative at a place, where one is there.
 #[cycle(reading)]
 fn decode_chosen<D: CountedDecoder>(
     decoder: &mut D,
@@ -474,6 +475,7 @@ fn decode_additions<D: CountedDecoder>(
 
 /// Reads an addition: its value in an open type, or as absent.
 #[cycle(reading)]
+#[inline(never)]
 fn decode_addition<D: CountedDecoder>(
     decoder: &mut D,
     kinds: &[Kind],
@@ -514,6 +516,7 @@ fn decode_open<D: CountedDecoder>(
 }
 
 /// Opens the open type of the next addition, which takes no level, where it is there.
+#[inline(never)]
 fn open_next<D: CountedDecoder>(decoder: &mut D) -> Result<Option<D::Addition>, D::Error>
     ensures { OpensNext D.rules D.opens_addition decoder.old result decoder.new }
 {
@@ -521,13 +524,14 @@ fn open_next<D: CountedDecoder>(decoder: &mut D) -> Result<Option<D::Addition>, 
 }
 
 /// Opens octets that contain a value, which takes no level.
+#[inline(never)]
 fn open_octets<D: CountedDecoder>(decoder: &mut D) -> Result<D::Contents, D::Error>
     ensures { OpensWithin D.rules D.opens_contents decoder.old result decoder.new }
 {
     decoder.open_contents(Tag::OCTET_STRING)
 }
 
-/// Puts a value behind others, where there is memory for it.
+/// Puts a value after others, where there is memory for it.
 #[inline(always)]
 fn push_value(values: &mut Vec<Value>, value: Value) -> bool
     ensures { result ≡ true → values.new.items ≡ values.old.items ++ value ∷ [] }

@@ -32,7 +32,7 @@ use rasn_useful::generalized_time::GeneralizedTime;
 use rasn_useful::utc_time::UtcTime;
 
 /// Reads a value of a type in which no other stands: the commonest in place, the others by a call.
-#[inline(always)]
+#[inline(never)]
 pub(crate) fn decode_leaf<D: CountedDecoder>(
     decoder: &mut D,
     simple: &Simple,
@@ -73,8 +73,8 @@ pub(crate) fn decode_simple<D: CountedDecoder>(
     }
 }
 
-/// Reads a value of a type in which no other stands, and puts it behind others: the commonest in place.
-#[inline(always)]
+/// Reads a value of a type in which no other stands, and puts it after others: the commonest in place.
+#[inline(never)]
 pub(crate) fn put_leaf<D: CountedDecoder>(
     decoder: &mut D,
     simple: &Simple,
@@ -91,7 +91,7 @@ pub(crate) fn put_leaf<D: CountedDecoder>(
     }
 }
 
-/// Reads a BOOLEAN, and puts it behind other values.
+/// Reads a BOOLEAN, and puts it after other values.
 #[inline(always)]
 fn put_boolean<D: CountedDecoder>(decoder: &mut D, values: &mut Vec<Value>) -> Result<(), D::Error>
     ensures { PutsRead (ReadsValue D.rules Schema.boolean decoder.old)
@@ -101,7 +101,7 @@ fn put_boolean<D: CountedDecoder>(decoder: &mut D, values: &mut Vec<Value>) -> R
     put(decoder, values, value)
 }
 
-/// Reads an INTEGER within bounds, and puts it behind other values.
+/// Reads an INTEGER within bounds, and puts it after other values.
 #[inline(always)]
 fn put_integer<D: CountedDecoder>(
     decoder: &mut D,
@@ -115,7 +115,7 @@ fn put_integer<D: CountedDecoder>(
     put(decoder, values, value)
 }
 
-/// Reads an item of an ENUMERATED, and puts it behind other values.
+/// Reads an item of an ENUMERATED, and puts it after other values.
 #[inline(always)]
 fn put_enumerated<D: CountedDecoder>(
     decoder: &mut D,
@@ -129,7 +129,7 @@ fn put_enumerated<D: CountedDecoder>(
     put(decoder, values, value)
 }
 
-/// Reads a value of a type in which no other stands by itself, and puts it behind others.
+/// Reads a value of a type in which no other stands by itself, and puts it after others.
 #[inline(always)]
 fn put_simple<D: CountedDecoder>(
     decoder: &mut D,
@@ -143,7 +143,7 @@ fn put_simple<D: CountedDecoder>(
     put(decoder, values, value)
 }
 
-/// Refuses where nothing stands at a place, as for a REAL, and puts nothing behind other values.
+/// Refuses where nothing is at a place, as for a REAL, and puts nothing after other values.
 #[inline(always)]
 pub(crate) fn put_nothing<D: CountedDecoder>(
     decoder: &mut D,
@@ -156,7 +156,7 @@ pub(crate) fn put_nothing<D: CountedDecoder>(
     put(decoder, values, value)
 }
 
-/// Puts a value that was read behind others, where there is memory for it.
+/// Puts a value that was read after others, where there is memory for it.
 #[inline(always)]
 pub(crate) fn put<D: CountedDecoder>(
     decoder: &mut D,
@@ -172,7 +172,8 @@ pub(crate) fn put<D: CountedDecoder>(
     Ok(())
 }
 
-/// Refuses where nothing stands at a place, as for a REAL.
+/// Refuses where nothing is at a place, as for a REAL.
+#[inline(never)]
 pub(crate) fn decode_nothing<D: CountedDecoder>(decoder: &mut D) -> Result<Value, D::Error>
     ensures { ReadsValue D.rules Schema.real decoder.old result decoder.new }
 {
@@ -362,6 +363,7 @@ fn decode_generalized_time<D: CountedDecoder>(decoder: &mut D) -> Result<Value, 
 }
 
 /// Reads a DATE.
+#[inline(never)]
 pub(crate) fn decode_date<D: CountedDecoder>(decoder: &mut D) -> Result<Value, D::Error>
     ensures { ReadsValue D.rules (date_at (D.rules.levels decoder.old)) decoder.old result decoder.new }
 {

@@ -49,7 +49,7 @@ pub fn encode_value<E: CountedEncoder>(
     }
 }
 
-/// Writes a value of what stands at a place of a table.
+/// Writes a value of what is at a place of a table.
 #[cycle(writing)]
 #[inline(always)]
 fn encode_kind<E: CountedEncoder>(
@@ -87,7 +87,7 @@ fn encode_containing<E: CountedEncoder>(
     encoder.close_contents(outside)
 }
 
-/// Writes the value that stands within octets which contain it.
+/// Writes the value that is within octets which contain it.
 #[cycle(writing)]
 fn encode_contained<E: CountedEncoder>(
     encoder: &mut E,
@@ -221,7 +221,7 @@ fn encode_members<E: CountedEncoder>(
 
 /// Writes a SEQUENCE.
 #[cycle(writing)]
-#[inline(always)]
+#[inline(never)]
 fn encode_record<E: CountedEncoder>(
     encoder: &mut E,
     kinds: &[Kind],
@@ -341,7 +341,7 @@ fn encode_component<E: CountedEncoder>(
     }
 }
 
-/// Writes a component that may be absent: its presence bit, and its value behind a bit 1.
+/// Writes a component that may be absent: its presence bit, and its value after a bit 1.
 #[cycle(writing)]
 #[inline(always)]
 fn encode_optional<E: CountedEncoder>(
@@ -361,7 +361,7 @@ fn encode_optional<E: CountedEncoder>(
     encode_value(encoder, kinds, place, value)
 }
 
-/// Writes a component with a default: the presence bit 0 where it is the default, and else its value behind a bit 1.
+/// Writes a component with a default: the presence bit 0 where it is the default, and else its value after a bit 1.
 #[cycle(writing)]
 #[inline(never)]
 fn encode_default<E: CountedEncoder>(
@@ -421,7 +421,7 @@ fn encode_chosen<E: CountedEncoder>(
 }
 
 /// Opens a CHOICE to write its alternative at a place, and answers the place of the type of that. Where no alternative
-/// stands at the place it answers none, and changes nothing.
+/// is at the place it answers none, and changes nothing.
 fn open_chosen<E: CountedEncoder>(
     encoder: &mut E,
     choice: &Choice,
@@ -458,6 +458,7 @@ fn encode_additions<E: CountedEncoder>(
 
 /// Gives an addition: its value in an open type, or as absent.
 #[cycle(writing)]
+#[inline(never)]
 fn encode_addition<E: CountedEncoder>(
     encoder: &mut E,
     kinds: &[Kind],
@@ -484,6 +485,7 @@ fn encode_addition<E: CountedEncoder>(
 
 /// Gives an addition with a default: as absent where it is the default, and else as its value in an open type.
 #[cycle(writing)]
+#[inline(never)]
 fn encode_differing<E: CountedEncoder>(
     encoder: &mut E,
     kinds: &[Kind],
@@ -503,6 +505,7 @@ fn encode_differing<E: CountedEncoder>(
 
 /// Gives an addition as an addition group, where its type is a SEQUENCE.
 #[cycle(writing)]
+#[inline(never)]
 fn encode_group<E: CountedEncoder>(
     encoder: &mut E,
     kinds: &[Kind],
@@ -522,6 +525,7 @@ fn encode_group<E: CountedEncoder>(
 
 /// Gives an addition group, of which a root component has to be there or none has to be.
 #[cycle(writing)]
+#[inline(never)]
 fn encode_group_of<E: CountedEncoder>(
     encoder: &mut E,
     kinds: &[Kind],
@@ -540,6 +544,7 @@ fn encode_group_of<E: CountedEncoder>(
 
 /// Gives an addition as its value in an open type.
 #[cycle(writing)]
+#[inline(never)]
 fn encode_open<E: CountedEncoder>(
     encoder: &mut E,
     kinds: &[Kind],

@@ -35,7 +35,7 @@ use rasn_useful::generalized_time::GeneralizedTime;
 use rasn_useful::utc_time::UtcTime;
 
 /// Writes a value of a type in which no other stands: the commonest in place, the others by a call.
-#[inline(always)]
+#[inline(never)]
 pub(crate) fn encode_leaf<E: CountedEncoder>(
     encoder: &mut E,
     simple: &Simple,
@@ -378,6 +378,7 @@ fn encode_generalized_time<E: CountedEncoder>(
 }
 
 /// Writes a DATE.
+#[inline(never)]
 pub(crate) fn encode_date<E: CountedEncoder>(encoder: &mut E, value: &Value) -> Result<(), E::Error>
     ensures { Encodes E.rules date_at (levels_of value.now) (value_of value.now) encoder.old result encoder.new }
 {

@@ -13,7 +13,7 @@ use Rattle.std.proofs.lemmas.Str.{digit_value_digit}
 use Rattle.std.proofs.lemmas.Str.Parse.{digit_from_value}
 use Rattle.rasn_types.specs.Identifiers.{are_arcs, contents}
 use Rattle.rasn_types.specs.Values.{Value, octets}
-use Rattle.rasn_jer.specs.Strings.{behind_dot, dotted}
+use Rattle.rasn_jer.specs.Strings.{after_dot, dotted}
 use Rattle.rasn_dynamic_jer.specs.Identifiers.{identifier_told, numbers_in, object_with, read_on}
 
 grown : (cs : List ℕ) (m : ℕ) → m ≤ digits_value_after 10 m cs
@@ -50,11 +50,11 @@ first_number a t l =
     ∙ ap (λ (k : ℕ). numbers_in k t) d.1
 
 -- the numbers with full stops between them are read back
-spelled : (a : ℕ) (bs : List ℕ) → a < 2 ^ 32 → list_all (λ b. nat_lt b (2 ^ 32)) bs ≡ true → numbers_in 0 (decimal a ++ flat_map behind_dot bs) ≡ Some (a ∷ bs)
+spelled : (a : ℕ) (bs : List ℕ) → a < 2 ^ 32 → list_all (λ b. nat_lt b (2 ^ 32)) bs ≡ true → numbers_in 0 (decimal a ++ flat_map after_dot bs) ≡ Some (a ∷ bs)
 spelled a [] l h = first_number a [] l
 spelled a (b ∷ bs) l h =
     let p = and_parts (nat_lt b (2 ^ 32)) (list_all (λ b. nat_lt b (2 ^ 32)) bs) h in
-    first_number a (46 ∷ (decimal b ++ flat_map behind_dot bs)) l
+    first_number a (46 ∷ (decimal b ++ flat_map after_dot bs)) l
     ∙ ap (option_map (λ ns. a ∷ ns)) (spelled b bs (ltb-true b (2 ^ 32) p.0) p.1)
 
 small : (x y : ℕ) → (eqb x 2 || (ltb x 2 && ltb y 40)) ≡ true → x < 2 ^ 32

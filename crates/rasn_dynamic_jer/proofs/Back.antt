@@ -18,13 +18,13 @@ use Rattle.rasn_dynamic.specs.declared.values.Value.TheFolds.{fold-roll-Value, i
 use Rattle.rasn_dynamic.specs.declared.values.Value.TheOpen.{Value-F, Octets, Elements, Bag, Fields, Alternative, Date}
 use Rattle.rasn_dynamic.specs.declared.values.Value.TheViews.{roll-Value}
 use Rattle.rasn_dynamic.proofs.Trees.{value_there}
-use Rattle.rasn_dynamic_jer.specs.Apart.{is_kind_apart, is_named_apart}
+use Rattle.rasn_dynamic_jer.specs.DistinctNames.{is_kind_apart, is_named_apart}
 use Rattle.rasn_dynamic_jer.specs.Laws.{HaveOneForm, IsReadBack, Reads}
 use Rattle.rasn_dynamic_jer.specs.Leaves.{are_octets, digits_json, hexadecimal}
 use Rattle.rasn_dynamic_jer.specs.Normal.{normal_at, normal_by, normal_in}
 use Rattle.rasn_dynamic_jer.specs.Puts.{IsJsonText}
 use Rattle.rasn_dynamic_jer.specs.Shown.{json_at, json_by, kind_json, kind_within, Known, known}
-use Rattle.rasn_dynamic_jer.specs.Told.{IsJson, IsNoJson, IsNoText, IsTextOf, no_json, no_memory, no_room, no_utf8, told_alone, told_at, told_by, told_in, twice, unread, untold}
+use Rattle.rasn_dynamic_jer.specs.FromJson.{IsJson, IsNoJson, IsNoText, IsTextOf, no_json, no_memory, no_room, no_utf8, told_alone, told_at, told_by, told_in, twice, unread, untold}
 use Rattle.rasn_dynamic_jer.specs.declared.from_json_error.FromJsonError.TheVariants.{OutOfMemory}
 use Rattle.rasn_dynamic_jer.specs.declared.from_json_error.FromJsonError.{FromJsonError}
 use Rattle.rasn_dynamic_jer.proofs.Knowns.{roll_json}

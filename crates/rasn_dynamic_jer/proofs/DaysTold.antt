@@ -84,13 +84,13 @@ quad_shown n h =
 
 -- ---- the text of a day
 
-abbrev behind_year : ℕ → ℕ → List ℕ
-behind_year m d = 45 ∷ (pair m ++ 45 ∷ pair d)
+abbrev after_year : ℕ → ℕ → List ℕ
+after_year m d = 45 ∷ (pair m ++ 45 ∷ pair d)
 
-later_text : (n m d : ℕ) → n < 10000 → m < 100 → d < 100 → day_text (pos n) m d ≡ quad n ++ behind_year m d
+later_text : (n m d : ℕ) → n < 10000 → m < 100 → d < 100 → day_text (pos n) m d ≡ quad n ++ after_year m d
 later_text n m d h i j = ap₂ (λ xs ys. xs ++ ys) (four_padded n h) (ap₂ (λ xs ys. 45 ∷ (xs ++ 45 ∷ ys)) (two_padded m i) (two_padded d j))
 
-earlier_text : (n m d : ℕ) → suc n < 10000 → m < 100 → d < 100 → day_text (negsuc n) m d ≡ 45 ∷ (quad (suc n) ++ behind_year m d)
+earlier_text : (n m d : ℕ) → suc n < 10000 → m < 100 → d < 100 → day_text (negsuc n) m d ≡ 45 ∷ (quad (suc n) ++ after_year m d)
 earlier_text n m d h i j = ap₂ (λ xs ys. 45 ∷ (xs ++ ys)) (four_padded (suc n) h) (ap₂ (λ xs ys. 45 ∷ (xs ++ 45 ∷ ys)) (two_padded m i) (two_padded d j))
 
 -- the text shows the day
@@ -102,9 +102,9 @@ record IsShown (y : ℤ) (m d : ℕ) (s : List ℕ) : Type 0 where
 no_minus : (n : ℕ) → is_minus (Some (48 + n)) ≡ false
 no_minus n = ne_eqb (48 + n) 45 (λ e. absurd (omega (arith, e)))
 
-later_shown : (n m d : ℕ) → n < 10000 → m < 100 → d < 100 → IsShown (pos n) m d (quad n ++ behind_year m d)
+later_shown : (n m d : ℕ) → n < 10000 → m < 100 → d < 100 → IsShown (pos n) m d (quad n ++ after_year m d)
 later_shown n m d h i j =
-    let s = quad n ++ behind_year m d in
+    let s = quad n ++ after_year m d in
     let q = no_minus (n / 10 / 10 / 10) in
     record {
       year_is = ap (λ (b : Bool). cond b (neg_ℤ (pos (four_shown s 1))) (pos (four_shown s 0))) q ∙ ap (λ (k : ℕ). pos k) (quad_shown n h);
@@ -112,7 +112,7 @@ later_shown n m d h i j =
       day_is = ap (λ (b : Bool). cond b (two_shown s 9) (two_shown s 8)) q ∙ pair_shown d j;
     }
 
-earlier_shown : (n m d : ℕ) → suc n < 10000 → m < 100 → d < 100 → IsShown (negsuc n) m d (45 ∷ (quad (suc n) ++ behind_year m d))
+earlier_shown : (n m d : ℕ) → suc n < 10000 → m < 100 → d < 100 → IsShown (negsuc n) m d (45 ∷ (quad (suc n) ++ after_year m d))
 earlier_shown n m d h i j = record {
   year_is = ap (λ (k : ℕ). neg_ℤ (pos k)) (quad_shown (suc n) h);
   month_is = pair_shown m i;

@@ -7,18 +7,18 @@ use Rattle.rasn_dynamic.specs.Types.{behind}
 use Rattle.rasn_dynamic.specs.declared.types.Component.{Component}
 use Rattle.rasn_dynamic.specs.declared.types.Kind.{Kind}
 use Rattle.rasn_dynamic.specs.declared.types.Record.{Record}
-use Rattle.rasn_dynamic_jer.specs.Apart.{addition_names, component_names, differ, is_among, member_names}
+use Rattle.rasn_dynamic_jer.specs.DistinctNames.{addition_names, component_names, differ, is_among, member_names}
 use Rattle.rasn_dynamic_jer.specs.Shown.{group_in}
-use Rattle.rasn_dynamic_jer.specs.Told.{is_addition, is_component, is_member}
+use Rattle.rasn_dynamic_jer.specs.FromJson.{is_addition, is_component, is_member}
 use Rattle.rasn_dynamic_jer.proofs.Named.{among_append, or_right}
 
--- a name that none of those behind it has, and none of others
+-- a name that none of those after it has, and none of others
 pub differ_onward : (xs ys : List (List ℕ)) (x : List ℕ) (r : Bool) → is_among xs x ≡ false → is_among ys x ≡ false → (r && differ ys) ≡ differ (xs ++ ys) → (r && differ ys) ≡ differ (x ∷ xs ++ ys)
 differ_onward xs ys x r e f h = h ∙ sym (ap (λ b. not b && differ (xs ++ ys)) (among_append xs ys x ∙ ap (λ b. b || is_among ys x) e ∙ f))
 
 -- a name that one has
-pub one_behind : (xs ys : List (List ℕ)) (x : List ℕ) → is_among xs x ≡ true → false ≡ differ (x ∷ xs ++ ys)
-one_behind xs ys x e = sym (ap (λ b. not b && differ (xs ++ ys)) (among_append xs ys x ∙ ap (λ b. b || is_among ys x) e))
+pub one_after : (xs ys : List (List ℕ)) (x : List ℕ) → is_among xs x ≡ true → false ≡ differ (x ∷ xs ++ ys)
+one_after xs ys x e = sym (ap (λ b. not b && differ (xs ++ ys)) (among_append xs ys x ∙ ap (λ b. b || is_among ys x) e))
 
 pub one_other : (xs ys : List (List ℕ)) (x : List ℕ) → is_among ys x ≡ true → false ≡ differ (x ∷ xs ++ ys)
 one_other xs ys x e = sym (ap (λ b. not b && differ (xs ++ ys)) (among_append xs ys x ∙ or_right (is_among xs x) (is_among ys x) e))
@@ -56,29 +56,29 @@ module _ (ts : List Kind) where
   additions_are [] n = refl
   additions_are (c ∷ cs) n = among_append (addition_names (group_in ts c) c) (all_names cs) n ∙ ap₂ (λ a b. a || b) (addition_is (group_in ts c) c n) (additions_are cs n)
 
-  -- the first of some components, and those behind it
-  abbrev behind_first : List Component → List Component
-  behind_first cs = take (length cs - 1) (drop 1 cs)
+  -- the first of some components, and those after it
+  abbrev after_first : List Component → List Component
+  after_first cs = take (length cs - 1) (drop 1 cs)
 
-  are_behind : (c : Component) (cs : List Component) → behind_first (c ∷ cs) ≡ cs
-  are_behind c cs = take_all (length (c ∷ cs) - 1) cs (omega arith)
+  are_after : (c : Component) (cs : List Component) → after_first (c ∷ cs) ≡ cs
+  are_after c cs = take_all (length (c ∷ cs) - 1) cs (omega arith)
 
   pub name_again : (cs ds : List Component) (c : Component) (s : List ℕ) → 1 ≤ length cs → c ≡ get_or cs 0 c → s ≡ string_bytes c.name
-      → (is_component (behind_first cs) s ≡ true) ⊎ (list_any (λ a. is_addition (group_in ts a) a s) ds ≡ true) → false ≡ differ (component_names cs ++ all_names ds)
+      → (is_component (after_first cs) s ≡ true) ⊎ (list_any (λ a. is_addition (group_in ts a) a s) ds ≡ true) → false ≡ differ (component_names cs ++ all_names ds)
   name_again [] ds c s l e n h = absurd (omega (arith, l))
   name_again (d ∷ cs) ds c s l e n (inl h) =
-      one_behind (component_names cs) (all_names ds) (string_bytes d.name) (ap (λ (x : Component). is_among (component_names cs) (string_bytes x.name)) (sym e) ∙ ap (is_among (component_names cs)) (sym n) ∙ component_is cs s ∙ ap (λ ks. is_component ks s) (sym (are_behind d cs)) ∙ h)
+      one_after (component_names cs) (all_names ds) (string_bytes d.name) (ap (λ (x : Component). is_among (component_names cs) (string_bytes x.name)) (sym e) ∙ ap (is_among (component_names cs)) (sym n) ∙ component_is cs s ∙ ap (λ ks. is_component ks s) (sym (are_after d cs)) ∙ h)
   name_again (d ∷ cs) ds c s l e n (inr h) =
       one_other (component_names cs) (all_names ds) (string_bytes d.name) (ap (λ (x : Component). is_among (all_names ds) (string_bytes x.name)) (sym e) ∙ ap (is_among (all_names ds)) (sym n) ∙ additions_are ds s ∙ h)
 
   pub name_once : (cs ds : List Component) (c : Component) (s : List ℕ) (r : Bool) → 1 ≤ length cs → c ≡ get_or cs 0 c → s ≡ string_bytes c.name
-      → is_component (behind_first cs) s ≡ false → list_any (λ a. is_addition (group_in ts a) a s) ds ≡ false
-      → (r && differ (all_names ds)) ≡ differ (component_names (behind_first cs) ++ all_names ds) → (r && differ (all_names ds)) ≡ differ (component_names cs ++ all_names ds)
+      → is_component (after_first cs) s ≡ false → list_any (λ a. is_addition (group_in ts a) a s) ds ≡ false
+      → (r && differ (all_names ds)) ≡ differ (component_names (after_first cs) ++ all_names ds) → (r && differ (all_names ds)) ≡ differ (component_names cs ++ all_names ds)
   name_once [] ds c s r l e n h i k = absurd (omega (arith, l))
   name_once (d ∷ cs) ds c s r l e n h i k =
       differ_onward (component_names cs) (all_names ds) (string_bytes d.name) r
-      (ap (λ (x : Component). is_among (component_names cs) (string_bytes x.name)) (sym e) ∙ ap (is_among (component_names cs)) (sym n) ∙ component_is cs s ∙ ap (λ ks. is_component ks s) (sym (are_behind d cs)) ∙ h)
-      (ap (λ (x : Component). is_among (all_names ds) (string_bytes x.name)) (sym e) ∙ ap (is_among (all_names ds)) (sym n) ∙ additions_are ds s ∙ i) (k ∙ ap (λ ks. differ (component_names ks ++ all_names ds)) (are_behind d cs))
+      (ap (λ (x : Component). is_among (component_names cs) (string_bytes x.name)) (sym e) ∙ ap (is_among (component_names cs)) (sym n) ∙ component_is cs s ∙ ap (λ ks. is_component ks s) (sym (are_after d cs)) ∙ h)
+      (ap (λ (x : Component). is_among (all_names ds) (string_bytes x.name)) (sym e) ∙ ap (is_among (all_names ds)) (sym n) ∙ additions_are ds s ∙ i) (k ∙ ap (λ ks. differ (component_names ks ++ all_names ds)) (are_after d cs))
 
   -- an addition that is no group
   pub addition_alone : (ds : List Component) (a : Component) (s : List ℕ) (o : Option Record) (b : Bool) → o ≡ None → s ≡ string_bytes a.name

@@ -9,7 +9,7 @@ use Rattle.std.proofs.lemmas.Bool.{and_from, and_parts}
 use Rattle.rasn_types.specs.Integers.{is_i128}
 use Rattle.rasn_types.specs.Values.{whole, Value}
 use Rattle.rasn_types.proofs.Reading.{fits-is_i128, is_i128-fits}
-use Rattle.rasn_dynamic_jer.specs.Told.{are_digits, count_told, whole_told}
+use Rattle.rasn_dynamic_jer.specs.FromJson.{are_digits, count_told, whole_told}
 
 all_true : (ds : List ℕ) → AllDigits 10 ds → list_all (λ c. is_digit c 10) ds ≡ true
 all_true [] h = refl

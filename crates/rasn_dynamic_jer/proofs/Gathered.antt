@@ -16,7 +16,7 @@ moved : {V Y : Type 0} (g : V → Y) (vs : List V) (v : V) (o : Option (List Y))
 moved g vs v None = refl
 moved g vs v (Some zs) = ap Some (joined_before g vs v zs)
 
--- the next of a list and those behind it
+-- the next of a list and those after it
 next : {X Y : Type 0} (f : X → Option Y) (xs : List X) (i : ℕ) (x : X) → i < length xs → x ≡ get_or xs i x → all_of f (drop i xs) ≡ joined (f x) (all_of f (drop (i + 1) xs))
 next f xs i x l e = ap (all_of f) (drop_more xs i x l ∙ ap (λ u. u ∷ drop (i + 1) xs) (sym e))
 

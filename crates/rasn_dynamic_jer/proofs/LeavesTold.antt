@@ -27,7 +27,7 @@ use Rattle.rasn_types.specs.Values.{Value, bits, characters, octets, whole}
 use Rattle.rasn_types.proofs.Octets.{length-pack, octets-pack}
 use Rattle.rasn_types.proofs.Packing.{unpack-packed}
 use Rattle.rasn_dynamic_jer.specs.Leaves.{are_octets, are_plain, below, bits_shown, counted, counted_json, hexadecimal}
-use Rattle.rasn_dynamic_jer.specs.Told.{bits_in, bits_of, bits_told, both_told, characters_told, count_told, counted_told, fixed_told, latin_told, octets_in, time_told, whole_told}
+use Rattle.rasn_dynamic_jer.specs.FromJson.{bits_in, bits_of, bits_told, both_told, characters_told, count_told, counted_told, fixed_told, latin_told, octets_in, time_told, whole_told}
 use Rattle.rasn_dynamic_jer.proofs.Digits.{count_some, whole_some}
 
 pub some_same : {A : Type 0} {x y : A} → Some x ≡ Some y → x ≡ y

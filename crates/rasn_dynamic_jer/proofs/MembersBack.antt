@@ -8,7 +8,7 @@ use Rattle.json.specs.Json.{Json, Members, no_members, member, object}
 use Rattle.json.specs.Strict.{HasUniqueKeys, keys, MembersHaveUniqueKeys}
 use Rattle.rasn_types.specs.AllOf.{all_of, joined}
 use Rattle.rasn_types.specs.Values.{Value}
-use Rattle.rasn_dynamic_jer.specs.Apart.{differ, is_among}
+use Rattle.rasn_dynamic_jer.specs.DistinctNames.{differ, is_among}
 use Rattle.rasn_dynamic_jer.specs.Shown.{Member, members_from}
 use Rattle.rasn_dynamic_jer.proofs.Named.{among_append, differ_apart, differ_both, differ_distinct, differ_left, differ_right, or_none, or_right, or_left, own_name, same_name}
 

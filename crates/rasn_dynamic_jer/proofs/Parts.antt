@@ -7,7 +7,7 @@ use Rattle.json.specs.Json.{Json}
 use Rattle.json.specs.Strict.{keys}
 use Rattle.json.specs.Value.{items_view, members_view, value_view}
 use Rattle.json.specs.declared.value.Value.{Value as Tree}
-use Rattle.rasn_dynamic_jer.specs.Told.{items_told}
+use Rattle.rasn_dynamic_jer.specs.FromJson.{items_told}
 use Rattle.rasn_types.specs.Values.{Value}
 
 -- values by the items of an array

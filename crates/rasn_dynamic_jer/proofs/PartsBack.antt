@@ -35,10 +35,10 @@ use Rattle.rasn_dynamic.specs.declared.values.Value.TheFolds.{fold-roll-Value, i
 use Rattle.rasn_dynamic.specs.declared.values.Value.TheOpen.{Value-F, Fields}
 use Rattle.rasn_dynamic.specs.declared.values.Value.TheViews.{roll-Value}
 use Rattle.rasn_dynamic.proofs.Trees.{fields_slot}
-use Rattle.rasn_dynamic_jer.specs.Apart.{addition_names, alternative_names, are_rows_apart, component_names, differ, is_among, is_row_apart, is_row_of, member_names}
+use Rattle.rasn_dynamic_jer.specs.DistinctNames.{addition_names, alternative_names, are_rows_apart, component_names, differ, is_among, is_row_apart, is_row_of, member_names}
 use Rattle.rasn_dynamic_jer.specs.Normal.{addition_normal, additions_normal, are_idle, choice_normal, chosen_normal, group_normal, is_idle, open_normal, part_normal, record_normal, row_index, row_normal, slot_normal, slots_normal}
 use Rattle.rasn_dynamic_jer.specs.Shown.{all_json, alternative_json, array_json, both, component_members, fields_members, group_among, group_in, is_default, is_default_of, is_optional, json_at, json_by, Known, known, list_members, Member, members_from, members_of, members_there, named, one_member, record_members, record_of_group, row_json}
-use Rattle.rasn_dynamic_jer.specs.Told.{absent_told, addition_told, additions_told, alternative_place, alternative_told, choice_told, chosen_told, component_told, components_told, fields_told, group_told, has_member, is_member, items_list, items_told, members_told, one_row_told, one_told, open_told, own_member, read_told, record_told, row_place, row_told, slot_told, values_told}
+use Rattle.rasn_dynamic_jer.specs.FromJson.{absent_told, addition_told, additions_told, alternative_place, alternative_told, choice_told, chosen_told, component_told, components_told, fields_told, group_told, has_member, is_member, items_list, items_told, members_told, one_row_told, one_told, open_told, own_member, read_told, record_told, row_place, row_told, slot_told, values_told}
 use Rattle.rasn_dynamic_jer.proofs.Differing.{member_is}
 use Rattle.rasn_dynamic_jer.proofs.Knowns.{knows_slot, roll_known}
 use Rattle.rasn_dynamic_jer.proofs.LeavesTold.{given, some_same}
@@ -412,9 +412,9 @@ module _ (ts : List Kind) (m : ℕ) (g : ℕ → Json → Option Value) (f : ℕ
     is_there : s ≡ Some (record_value slots [])
     parts : PartsRead r.root.items slots ms
 
-  no_behind : {A : Type 0} (xs : List A) → eqb (length xs) 0 ≡ true → xs ≡ []
-  no_behind [] e = refl
-  no_behind (x ∷ xs) e = absurd (omega (arith, eqb-true (suc (length xs)) 0 e))
+  no_after : {A : Type 0} (xs : List A) → eqb (length xs) 0 ≡ true → xs ≡ []
+  no_after [] e = refl
+  no_after (x ∷ xs) e = absurd (omega (arith, eqb-true (suc (length xs)) 0 e))
 
   no_additions : (bs : List Tree) (ms : List Member) → list_members ts true m [] (map (known ts) bs) ≡ Some ms → (bs ≡ []) × (ms ≡ [])
   no_additions [] ms e = (refl, sym (some_same e))
@@ -470,7 +470,7 @@ module _ (ts : List Kind) (m : ℕ) (g : ℕ → Json → Option Value) (f : ℕ
   is_group : (p : Presence) (k : Option Kind) (r : Record) → record_of_group p k ≡ Some r → IsGroup p k r
   is_group Group (Some (RecordKind q)) r e =
       let w = given (eqb (length (behind q.additions)) 0) q r e in
-      record { presence = refl; alone = subst (λ z. behind z.additions ≡ []) w.1 (no_behind (behind q.additions) w.0) }
+      record { presence = refl; alone = subst (λ z. behind z.additions ≡ []) w.1 (no_after (behind q.additions) w.0) }
   is_group p k r e = absurd cc
 
   addition_read : (c : Component) (x : Tree) (ms : List Member) → differ (addition_names (group_in ts c) c) ≡ true → members_of ts m (group_in ts c) c (known ts x) (slot_of x) ≡ Some ms

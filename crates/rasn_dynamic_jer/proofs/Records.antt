@@ -10,7 +10,7 @@ use Rattle.rasn_dynamic.specs.Values.{slot_of}
 use Rattle.json.specs.Json.{Json, member, no_members}
 use Rattle.json.specs.Value.{members_view, value_view}
 use Rattle.json.specs.declared.value.Value.{Value as JsonTree}
-use Rattle.rasn_dynamic_jer.specs.Told.{fields_told, IsUntold, one_row_told, one_told, TellsSlot, TellsValue}
+use Rattle.rasn_dynamic_jer.specs.FromJson.{fields_told, IsUntold, one_row_told, one_told, TellsSlot, TellsValue}
 use Rattle.rasn_dynamic_jer.specs.declared.from_json_error.FromJsonError.{FromJsonError}
 use Rattle.rasn_dynamic_jer.proofs.Untold.{untold_by}
 

@@ -33,12 +33,12 @@ use Rattle.rasn_dynamic.specs.declared.values.Value.{Value as Tree}
 use Rattle.rasn_dynamic.specs.declared.values.Value.TheFolds.{map-Value}
 use Rattle.rasn_dynamic.specs.declared.values.Value.TheOpen.{Value-F, Boolean, Null, Integer, Item, Octets, Bits as BitsF, Characters}
 use Rattle.rasn_jer.specs.Strings.{day_text, dotted}
-use Rattle.rasn_dynamic_jer.specs.Apart.{differ, is_among, is_simple_apart, item_names}
+use Rattle.rasn_dynamic_jer.specs.DistinctNames.{differ, is_among, is_simple_apart, item_names}
 use Rattle.rasn_dynamic_jer.specs.Days.{date_json, date_told}
 use Rattle.rasn_dynamic_jer.specs.Identifiers.{arcs_in, are_contents, identifier_json, identifier_told}
 use Rattle.rasn_dynamic_jer.specs.Leaves.{are_octets, are_plain, bits_shown, characters_json, digits_json, fixed_by, hexadecimal, item_json, latin_json, number_json, octets_json, bits_json, null_json, simple_json, truth_json, utf8_json}
 use Rattle.rasn_dynamic_jer.specs.Shown.{Known, known}
-use Rattle.rasn_dynamic_jer.specs.Told.{item_place, place_among, simple_told}
+use Rattle.rasn_dynamic_jer.specs.FromJson.{item_place, place_among, simple_told}
 use Rattle.rasn_dynamic_jer.proofs.Arcs.{lawful}
 use Rattle.rasn_dynamic_jer.proofs.ArcsTold.{arcs_told}
 use Rattle.rasn_dynamic_jer.proofs.DaysTold.{date_back}

@@ -9,7 +9,7 @@ use Rattle.rasn_schema.specs.Structures.{is_of_kind}
 use Rattle.rasn_dynamic.specs.declared.values.Value.{Value as Tree}
 use Rattle.rasn_dynamic.specs.Values.{slot_of, value_of}
 use Rattle.rasn_dynamic.proofs.Trees.{value_there}
-use Rattle.rasn_dynamic_jer.specs.Told.{characters_told, time_told}
+use Rattle.rasn_dynamic_jer.specs.FromJson.{characters_told, time_told}
 
 -- the characters that were read are those of the string
 read_characters : (s : List ℕ) (x : Tree) → option_map Some (characters_told s) ≡ Some (slot_of x) → value_of x ≡ characters (chars s)

@@ -11,7 +11,7 @@ use Rattle.rasn_dynamic.specs.declared.values.Value.TheVariants
 use Rattle.rasn_dynamic.specs.Values.{slot_of, slot_step, value_of}
 use Rattle.rasn_dynamic.proofs.Trees.{slot_there, value_there}
 use Rattle.json.specs.Json.{Json, max_depth}
-use Rattle.rasn_dynamic_jer.specs.Told.{IsJson, IsNoText, no_room, untold, IsTextOf, IsUntold, TellsValue, told_alone, told_at, told_by, told_in}
+use Rattle.rasn_dynamic_jer.specs.FromJson.{IsJson, IsNoText, no_room, untold, IsTextOf, IsUntold, TellsValue, told_alone, told_at, told_by, told_in}
 use Rattle.rasn_dynamic_jer.specs.declared.from_json_error.FromJsonError.{FromJsonError}
 
 pub untold_by : {A B : Type 0} (o : Option A) (p : Option B) (e : FromJsonError) → (o ≡ None → p ≡ None) → IsUntold o e → IsUntold p e

@@ -31,8 +31,8 @@ abbrev pub is_minus : Option ℕ → Bool
 is_minus None = false
 is_minus (Some c) = nat_eq c 45
 
--- the year of a day, behind a minus sign where it is below zero; the month behind the year and a hyphen, and the day of
--- the month behind another
+-- the year of a day, after a minus sign where it is below zero; the month after the year and a hyphen, and the day of
+-- the month after another
 abbrev pub year_shown : List ℕ → ℤ
 year_shown s = if is_minus (slice_get s 0) then neg_ℤ (pos (four_shown s 1)) else pos (four_shown s 0)
 

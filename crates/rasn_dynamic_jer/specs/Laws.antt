@@ -6,7 +6,7 @@ use Rattle.rasn_dynamic.specs.declared.values.Value.{Value}
 use Rattle.rasn_dynamic.specs.Values.{slot_of}
 use Rattle.json.specs.Json.{max_depth}
 use Rattle.rasn_dynamic_jer.specs.Normal.{normal_at}
-use Rattle.rasn_dynamic_jer.specs.Told.{IsNoText, IsTextOf}
+use Rattle.rasn_dynamic_jer.specs.FromJson.{IsNoText, IsTextOf}
 use Rattle.rasn_dynamic_jer.specs.declared.from_json_error.FromJsonError.{FromJsonError}
 use Rattle.rasn_dynamic_jer.specs.declared.from_json_error.FromJsonError.TheVariants.{OutOfMemory}
 

@@ -1,4 +1,4 @@
-pub mod Apart
+pub mod DistinctNames
 pub mod Days
 pub mod Identifiers
 pub mod Laws
@@ -6,4 +6,4 @@ pub mod Leaves
 pub mod Normal
 pub mod Puts
 pub mod Shown
-pub mod Told
+pub mod FromJson

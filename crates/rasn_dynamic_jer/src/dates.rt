@@ -9,7 +9,7 @@ ghost use Rattle.rasn_jer.specs.Strings.{day_text};
 ghost use Rattle.rasn_dynamic_jer.specs.Days.{date_json, date_told, day_shown, digit_of, four_shown, is_minus};
 ghost use Rattle.rasn_dynamic_jer.specs.Days.{month_shown, ShowsDay, two_shown, year_shown};
 ghost use Rattle.rasn_dynamic_jer.specs.Puts.{Puts};
-ghost use Rattle.rasn_dynamic_jer.specs.Told.{TellsValue};
+ghost use Rattle.rasn_dynamic_jer.specs.FromJson.{TellsValue};
 
 use crate::error::ToJsonError;
 use crate::from_json_error::FromJsonError;
@@ -52,7 +52,7 @@ fn date_of(alloc: Global, text: &str) -> Result<Value, FromJsonError>
     Err(FromJsonError::BadTime)
 }
 
-/// The day that the digits of a text show, whatever stands between them.
+/// The day that the digits of a text show, whatever is between them.
 fn date_shown(text: &[u8]) -> Option<Date>
     ensures { MatchOption result
         (is_date (year_shown text.now) (month_shown text.now) (day_shown text.now) ≡ false)
@@ -64,7 +64,7 @@ fn date_shown(text: &[u8]) -> Option<Date>
     }
 }
 
-/// The year, behind a minus sign where it is below zero.
+/// The year, after a minus sign where it is below zero.
 fn year_shown(text: &[u8]) -> i128
     ensures { result ≡ year_shown text.now }
 {
@@ -75,14 +75,14 @@ fn year_shown(text: &[u8]) -> i128
     }
 }
 
-/// The month, behind the year and a hyphen.
+/// The month, after the year and a hyphen.
 fn month_shown(text: &[u8]) -> u8
     ensures { result ≡ month_shown text.now }
 {
     two_shown(text, if is_minus(text) { 6 } else { 5 })
 }
 
-/// The day of the month, behind the month and a hyphen.
+/// The day of the month, after the month and a hyphen.
 fn day_shown(text: &[u8]) -> u8
     ensures { result ≡ day_shown text.now }
 {

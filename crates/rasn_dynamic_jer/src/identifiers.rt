@@ -7,7 +7,7 @@ ghost use Rattle.json.specs.Value.{value_view};
 ghost use Rattle.rasn_dynamic_jer.specs.Identifiers.{identifier_json, identifier_told, numbers_in, object_with};
 ghost use Rattle.rasn_dynamic_jer.specs.Identifiers.{read_on};
 ghost use Rattle.rasn_dynamic_jer.specs.Puts.{Puts};
-ghost use Rattle.rasn_dynamic_jer.specs.Told.{IsUntold, TellsValue};
+ghost use Rattle.rasn_dynamic_jer.specs.FromJson.{IsUntold, TellsValue};
 
 use crate::error::ToJsonError;
 use crate::from_json_error::FromJsonError;

@@ -3,7 +3,7 @@
 ghost use Rattle.std.specs.Prelude.{◌≡◌, option_map};
 ghost use Rattle.json.specs.Find.{as_array, as_object};
 ghost use Rattle.json.specs.Value.{items_view, members_view, value_view};
-ghost use Rattle.rasn_dynamic_jer.specs.Told.{member_count};
+ghost use Rattle.rasn_dynamic_jer.specs.FromJson.{member_count};
 
 use json::Value as Json;
 

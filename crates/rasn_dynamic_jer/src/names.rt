@@ -6,8 +6,8 @@ ghost use Rattle.std.specs.Str.{bytes_eq};
 ghost use Rattle.json.specs.Strict.{keys};
 ghost use Rattle.json.specs.Value.{members_view, value_view};
 ghost use Rattle.rasn_dynamic_jer.specs.Shown.{group_in};
-ghost use Rattle.rasn_dynamic_jer.specs.Told.{alternative_place, has_member, is_addition, is_component, is_member};
-ghost use Rattle.rasn_dynamic_jer.specs.Told.{row_place};
+ghost use Rattle.rasn_dynamic_jer.specs.FromJson.{alternative_place, has_member, is_addition, is_component, is_member};
+ghost use Rattle.rasn_dynamic_jer.specs.FromJson.{row_place};
 
 use crate::table::group_in;
 use json::Value as Json;

@@ -10,12 +10,13 @@ ghost use Rattle.rasn_traits.specs.Counted.{index_in, side_of};
 ghost use Rattle.rasn_schema.specs.Structures.{list_value};
 ghost use Rattle.rasn_dynamic.specs.Values.{slot_of, value_of};
 ghost use Rattle.rasn_dynamic_jer.specs.Shown.{group_in};
-ghost use Rattle.rasn_dynamic_jer.specs.Told.{absent_told, addition_told, additions_told, alternative_place};
-ghost use Rattle.rasn_dynamic_jer.specs.Told.{component_told, components_told, group_told, IsNoText, IsTextOf};
-ghost use Rattle.rasn_dynamic_jer.specs.Told.{IsUntold, told_alone, TellsSlot, TellsSlots, TellsValue, TellsValues};
-ghost use Rattle.rasn_dynamic_jer.specs.Told.{told_at, told_by, alternative_told, choice_told, members_told, one_told};
-ghost use Rattle.rasn_dynamic_jer.specs.Told.{Parses, one_row_told, open_told, record_told, row_place, row_told};
-ghost use Rattle.rasn_dynamic_jer.specs.Told.{told_in, values_told};
+ghost use Rattle.rasn_dynamic_jer.specs.FromJson.{absent_told, addition_told, additions_told, alternative_place};
+ghost use Rattle.rasn_dynamic_jer.specs.FromJson.{component_told, components_told, group_told, IsNoText, IsTextOf};
+ghost use Rattle.rasn_dynamic_jer.specs.FromJson.{IsUntold, told_alone, TellsSlot, TellsSlots, TellsValue, TellsValues};
+ghost use Rattle.rasn_dynamic_jer.specs.FromJson.{told_at, told_by, alternative_told, choice_told, members_told};
+ghost use Rattle.rasn_dynamic_jer.specs.FromJson.{one_told};
+ghost use Rattle.rasn_dynamic_jer.specs.FromJson.{Parses, one_row_told, open_told, record_told, row_place, row_told};
+ghost use Rattle.rasn_dynamic_jer.specs.FromJson.{told_in, values_told};
 
 use crate::dates::read_date;
 use crate::from_json_error::FromJsonError;
@@ -432,7 +433,7 @@ fn read_alternative(
     }
 }
 
-/// Reads the value of an alternative of a type that stands at a place.
+/// Reads the value of an alternative of a type that is at a place.
 #[cycle(reading)]
 fn read_chosen(
     alloc: Global,

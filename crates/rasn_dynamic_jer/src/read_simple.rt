@@ -11,10 +11,11 @@ ghost use Rattle.rasn_traits.specs.Counted.{item_at};
 ghost use Rattle.rasn_dynamic.specs.Values.{slot_of};
 ghost use Rattle.hex.specs.declared.error.FromHexError.TheVariants as HexErrors;
 ghost use Rattle.rasn_dynamic_jer.specs.Leaves.{fixed_by};
-ghost use Rattle.rasn_dynamic_jer.specs.Told.{bits_in, bits_told, characters_told, count_told, counted_told};
-ghost use Rattle.rasn_dynamic_jer.specs.Told.{digits_member, fixed_told, item_place, IsUntold, latin_told};
-ghost use Rattle.rasn_dynamic_jer.specs.Told.{length_member, null_told, octets_in, simple_told, TellsValue, time_told};
-ghost use Rattle.rasn_dynamic_jer.specs.Told.{whole_told};
+ghost use Rattle.rasn_dynamic_jer.specs.FromJson.{bits_in, bits_told, characters_told, count_told, counted_told};
+ghost use Rattle.rasn_dynamic_jer.specs.FromJson.{digits_member, fixed_told, item_place, IsUntold, latin_told};
+ghost use Rattle.rasn_dynamic_jer.specs.FromJson.{length_member, null_told, octets_in, simple_told, TellsValue};
+ghost use Rattle.rasn_dynamic_jer.specs.FromJson.{time_told};
+ghost use Rattle.rasn_dynamic_jer.specs.FromJson.{whole_told};
 ghost use Rattle.rasn_dynamic_jer.specs.declared.from_json_error.FromJsonError.TheVariants.{OutOfMemory};
 
 use crate::from_json_error::FromJsonError;

@@ -8,25 +8,25 @@ use Rattle.rasn_traits.specs.Scopes.{PresentsPart, presents_required, presents_t
 use Rattle.json.specs.Json.{Json, object, Members, no_members, member}
 use Rattle.rasn_jer.proofs.Refusing.{addition_inside, Inside, part_inside}
 use Rattle.rasn_jer.specs.Names.{next_name}
-use Rattle.rasn_jer.specs.Places.{behind, behind_all, named_place, past_added, past_root, Place, State, Takes, unfailed_at, with_value}
+use Rattle.rasn_jer.specs.Frames.{behind, after_all, named_frame, past_added, past_root, Frame, JsonState, Takes, unfailed_at, with_value}
 use Rattle.rasn_jer.specs.Rules.{jer_rules, Marks, Presents}
 use Rattle.rasn_jer.specs.Shown.{addition_left_out, addition_spread, addition_there, additions_end, is_present, is_required, IsThere, part_left_out, part_there, parts_end, Shows, shows_record, ShowsAdditions, ShowsParts}
 use Rattle.rasn_jer.specs.Texts.{comma, is_none, join, member_text, members_text, text_of}
-use Rattle.rasn_jer.specs.declared.place.Due.{Due}
-use Rattle.rasn_jer.specs.declared.place.Kind.{Kind}
-use Rattle.rasn_jer.specs.declared.place.Kind.TheVariants as Kinds
+use Rattle.rasn_jer.specs.declared.frame.Due.{Due}
+use Rattle.rasn_jer.specs.declared.frame.Kind.{Kind}
+use Rattle.rasn_jer.specs.declared.frame.Kind.TheVariants as Kinds
 
--- the text of a place behind which members follow
-abbrev pub with_members : Place → Members → List ℕ
+-- the text of a place after which members follow
+abbrev pub with_members : Frame → Members → List ℕ
 with_members p ms = p.text ++ members_text p.is_empty ms
 
--- three texts behind one
+-- three texts after one
 assoc3 : (a b c d : List ℕ) → a ++ (b ++ (c ++ d)) ≡ (a ++ (b ++ c)) ++ d
 assoc3 a b c d = ap (λ (l : List ℕ). a ++ l) (sym (append_assoc b c d)) ∙ sym (append_assoc a (b ++ c) d)
 
 -- one more member
-one_more : (p q : Place) (name : List ℕ) (j : Json) (ms : Members) → q ≡ behind p (member_text name (text_of j)) → with_members p (member name j ms) ≡ with_members q ms
-one_more p q name j ms e = assoc3 p.text (comma p.is_empty) (member_text name (text_of j)) (members_text false ms) ∙ ap (λ (r : Place). with_members r ms) (sym e)
+one_more : (p q : Frame) (name : List ℕ) (j : Json) (ms : Members) → q ≡ behind p (member_text name (text_of j)) → with_members p (member name j ms) ≡ with_members q ms
+one_more p q name j ms e = assoc3 p.text (comma p.is_empty) (member_text name (text_of j)) (members_text false ms) ∙ ap (λ (r : Frame). with_members r ms) (sym e)
 
 join_text : (first : Bool) (gs ms : Members) → members_text first (join gs ms) ≡ members_text first gs ++ members_text (first && is_none gs) ms
 join_text true no_members ms = refl
@@ -35,11 +35,11 @@ join_text true (member name j gs) ms = ap (λ (l : List ℕ). member_text name (
 join_text false (member name j gs) ms = ap (λ (l : List ℕ). 44 ∷ (member_text name (text_of j) ++ l)) (join_text false gs ms) ∙ ap (λ (l : List ℕ). 44 ∷ l) (sym (append_assoc (member_text name (text_of j)) (members_text false gs) _))
 
 -- the members of a group
-all_more : (p q : Place) (gs ms : Members) → q ≡ behind_all p gs → with_members p (join gs ms) ≡ with_members q ms
-all_more p q gs ms e = ap (λ (l : List ℕ). p.text ++ l) (join_text p.is_empty gs ms) ∙ sym (append_assoc p.text (members_text p.is_empty gs) _) ∙ ap (λ (r : Place). with_members r ms) (sym e)
+all_more : (p q : Frame) (gs ms : Members) → q ≡ after_all p gs → with_members p (join gs ms) ≡ with_members q ms
+all_more p q gs ms e = ap (λ (l : List ℕ). p.text ++ l) (join_text p.is_empty gs ms) ∙ sym (append_assoc p.text (members_text p.is_empty gs) _) ∙ ap (λ (r : Frame). with_members r ms) (sym e)
 
--- a value that is presented inside a record stands behind the next name
-named : (p : Place) (text : List ℕ) (q : Place) → p.kind ≡ Kinds.Members → Takes p text q → q ≡ behind (past_root p) (member_text (next_name p.root) text)
+-- a value that is presented inside a record is after the next name
+named : (p : Frame) (text : List ℕ) (q : Frame) → p.kind ≡ Kinds.Members → Takes p text q → q ≡ behind (past_root p) (member_text (next_name p.root) text)
 named p text q m h = subst (λ (k : Kind). q ≡ with_value k p text) m h.written
 
 -- a list of so many has a first
@@ -52,18 +52,18 @@ none_left [] e = refl
 none_left (name ∷ names) e = absurd (omega (arith, e))
 
 -- what a component writes shows it by the next name, in front of what shows the others
-record PartShown (x y : State) (t : TagTree) (p : Presence) (s : Schema) (r : Option Value) : Type 0 where
+record PartShown (x y : JsonState) (t : TagTree) (p : Presence) (s : Schema) (r : Option Value) : Type 0 where
   moved : y.place.root ≡ drop 1 x.place.root
   kept : y.place.added ≡ x.place.added
   shown : (names : List (List ℕ)) (ps : Parts) (rs : List (Option Value)) (ns ms : Members) → ShowsParts names ps rs ns ms
       → (all : Members) × ShowsParts (next_name x.place.root ∷ names) (part t p s ps) (r ∷ rs) ns all × (with_members x.place all ≡ with_members y.place ms)
 
-valued : (x y : State) (t : TagTree) (p : Presence) (s : Schema) (v : Value) → x.place.kind ≡ Kinds.Members → IsThere p v → Presents x s v y → PartShown x y t p s (Some v)
+valued : (x y : JsonState) (t : TagTree) (p : Presence) (s : Schema) (v : Value) → x.place.kind ≡ Kinds.Members → IsThere p v → Presents x s v y → PartShown x y t p s (Some v)
 valued x y t p s v m there w =
     let n = named x.place (text_of w.json) y.place m w.taken in
     record {
-      moved = ap (λ (q : Place). q.root) n;
-      kept = ap (λ (q : Place). q.added) n;
+      moved = ap (λ (q : Frame). q.root) n;
+      kept = ap (λ (q : Frame). q.added) n;
       shown = λ names ps rs ns ms k. (
         member (next_name x.place.root) w.json ms,
         part_there there w.shows k,
@@ -71,20 +71,20 @@ valued x y t p s v m there w =
       );
     }
 
-part_shown : {p : Presence} {s : Schema} {x y : State} {r : Option Value} (t : TagTree) → Inside x → PresentsPart jer_rules p s x r y → PartShown x y t p s r
+part_shown : {p : Presence} {s : Schema} {x y : JsonState} {r : Option Value} (t : TagTree) → Inside x → PresentsPart jer_rules p s x r y → PartShown x y t p s r
 part_shown {x = x} {y = y} t h (presents_required w) = valued x y t _ _ _ h.members is_required w
 part_shown {p = p} {s = s} {x = x} {y = y} t h (presents_there {m = m} {v = v} b k w) =
-    let one = subst (λ (z : State). PartShown z y t p s (Some v)) k.moved (valued m y t p s v (ap (λ (z : State). z.place.kind) k.moved ∙ h.members) (is_present b) w) in
+    let one = subst (λ (z : JsonState). PartShown z y t p s (Some v)) k.moved (valued m y t p s v (ap (λ (z : JsonState). z.place.kind) k.moved ∙ h.members) (is_present b) w) in
     record { moved = one.moved; kept = one.kept; shown = one.shown }
 part_shown {x = x} {y = y} t h (presents_left_out b k) =
     record {
-      moved = ap (λ (z : State). z.place.root) k.moved;
-      kept = ap (λ (z : State). z.place.added) k.moved;
-      shown = λ names ps rs ns ms q. (ms, part_left_out b q, ap (λ (z : State). with_members z.place ms) (sym k.moved));
+      moved = ap (λ (z : JsonState). z.place.root) k.moved;
+      kept = ap (λ (z : JsonState). z.place.added) k.moved;
+      shown = λ names ps rs ns ms q. (ms, part_left_out b q, ap (λ (z : JsonState). with_members z.place ms) (sym k.moved));
     }
 
 -- components in turn
-record PartsShown (x y : State) (ps : Parts) (rs : List (Option Value)) : Type 0 where
+record PartsShown (x y : JsonState) (ps : Parts) (rs : List (Option Value)) : Type 0 where
   within : Inside y
   kept : y.place.added ≡ x.place.added
   shown : (ns : Members) → (ms : Members) × ShowsParts x.place.root ps rs ns ms × (with_members x.place ms ≡ with_members y.place ns)
@@ -92,7 +92,7 @@ record PartsShown (x y : State) (ps : Parts) (rs : List (Option Value)) : Type 0
 by_names : {before after : List (List ℕ)} {ps : Parts} {rs : List (Option Value)} {ns ms : Members} → before ≡ after → ShowsParts before ps rs ns ms → ShowsParts after ps rs ns ms
 by_names {ps = ps} {rs = rs} {ns = ns} {ms = ms} e k = subst (λ (names : List (List ℕ)). ShowsParts names ps rs ns ms) e k
 
-parts_shown : {ps : Parts} {x y : State} {rs : List (Option Value)} → Inside x → length x.place.root ≡ count ps → PresentsParts jer_rules ps x rs y → PartsShown x y ps rs
+parts_shown : {ps : Parts} {x y : JsonState} {rs : List (Option Value)} → Inside x → length x.place.root ≡ count ps → PresentsParts jer_rules ps x rs y → PartsShown x y ps rs
 parts_shown {x = x} h c presents_end = record { within = h; kept = refl; shown = λ ns. (ns, by_names (none_left x.place.root c) parts_end, refl) }
 parts_shown {x = x} h c (presents_next {t = t} {ps = ps} {m = m} {rs = rs} p q) =
     let one = part_shown t h p in
@@ -106,23 +106,23 @@ parts_shown {x = x} h c (presents_next {t = t} {ps = ps} {m = m} {rs = rs} p q) 
     }
 
 -- additions in turn
-record AdditionsShown (x y : State) (qs : Parts) (xs : List (Option Value)) : Type 0 where
+record AdditionsShown (x y : JsonState) (qs : Parts) (xs : List (Option Value)) : Type 0 where
   within : Inside y
   members : Members
   shown : ShowsAdditions x.place.added qs xs members
   written : with_members x.place members ≡ with_members y.place no_members
 
 -- one addition, whatever gives it, takes the next name
-named_further : (x m : State) {qs : Parts} {xs : List (Option Value)} {ms : Members} (k : ℕ) → length x.place.added ≡ 1 + k → m.place.added ≡ drop 1 x.place.added
+named_further : (x m : JsonState) {qs : Parts} {xs : List (Option Value)} {ms : Members} (k : ℕ) → length x.place.added ≡ 1 + k → m.place.added ≡ drop 1 x.place.added
     → ShowsAdditions (next_name x.place.added ∷ m.place.added) qs xs ms → ShowsAdditions x.place.added qs xs ms
 named_further x m {qs = qs} {xs = xs} {ms = ms} k c e h = subst (λ (names : List (List ℕ)). ShowsAdditions names qs xs ms)
     (ap (λ (l : List (List ℕ)). next_name x.place.added ∷ l) e ∙ (split x.place.added k c).0) h
 
-addition_moved : {p : Presence} {s : Schema} {x y : State} {r : Option Value} → PresentsAddition jer_rules p s x r y → y.place.added ≡ drop 1 x.place.added
-addition_moved (presents_added b w) = elim w.added [ inl n ↦ ap (λ (q : Place). q.added) n | inr n ↦ ap (λ (q : Place). q.added) n.2 ]
-addition_moved (presents_skipped b q) = ap (λ (z : State). z.place.added) q.moved
+addition_moved : {p : Presence} {s : Schema} {x y : JsonState} {r : Option Value} → PresentsAddition jer_rules p s x r y → y.place.added ≡ drop 1 x.place.added
+addition_moved (presents_added b w) = elim w.added [ inl n ↦ ap (λ (q : Frame). q.added) n | inr n ↦ ap (λ (q : Frame). q.added) n.2 ]
+addition_moved (presents_skipped b q) = ap (λ (z : JsonState). z.place.added) q.moved
 
-one_addition : {p : Presence} {s : Schema} {x y z : State} {r : Option Value} {ps : Parts} {xs : List (Option Value)} (t : TagTree) → length x.place.added ≡ 1 + count ps
+one_addition : {p : Presence} {s : Schema} {x y z : JsonState} {r : Option Value} {ps : Parts} {xs : List (Option Value)} (t : TagTree) → length x.place.added ≡ 1 + count ps
     → y.place.added ≡ drop 1 x.place.added → PresentsAddition jer_rules p s x r y → AdditionsShown y z ps xs → AdditionsShown x z (part t p s ps) (r ∷ xs)
 one_addition {s = s} {x = x} {y = y} {ps = ps} t c e (presents_added {v = v} b w) k = elim w.added [
   | inl n ↦ record {
@@ -142,10 +142,10 @@ one_addition {x = x} {y = y} {ps = ps} t c e (presents_skipped b q) k = record {
   within = k.within;
   members = k.members;
   shown = named_further x y (count ps) c e (addition_left_out b k.shown);
-  written = ap (λ (z : State). with_members z.place k.members) (sym q.moved) ∙ k.written;
+  written = ap (λ (z : JsonState). with_members z.place k.members) (sym q.moved) ∙ k.written;
 }
 
-additions_shown : {qs : Parts} {x y : State} {xs : List (Option Value)} → Inside x → length x.place.added ≡ count qs → PresentsAdditions jer_rules qs x xs y → AdditionsShown x y qs xs
+additions_shown : {qs : Parts} {x y : JsonState} {xs : List (Option Value)} → Inside x → length x.place.added ≡ count qs → PresentsAdditions jer_rules qs x xs y → AdditionsShown x y qs xs
 additions_shown {x = x} h c presents_no_more = record {
   within = h;
   members = no_members;
@@ -156,23 +156,23 @@ additions_shown {x = x} h c (presents_further {t = t} {ps = ps} p q) =
     let e = addition_moved p in
     one_addition t c e p (additions_shown (addition_inside h p) (ap (λ (l : List (List ℕ)). length l) e ∙ (split x.place.added (count ps) c).1) q)
 
--- what stands in the scope of a record shows it
-pub record RecordShown (order : Order) (ps : Parts) (marker : Bool) (qs : Parts) (rs xs : List (Option Value)) (j : State) : Type 0 where
+-- what is in the scope of a record shows it
+pub record RecordShown (order : Order) (ps : Parts) (marker : Bool) (qs : Parts) (rs xs : List (Option Value)) (j : JsonState) : Type 0 where
   pub within : Inside j
   pub members : Members
   pub shown : Shows (Schema.sequence order ps marker qs) (record_value rs xs) (object members)
   pub written : j.place.text ≡ members_text true members
 
-pub record_shown : (order : Order) (marker : Bool) {ps qs : Parts} {rs xs : List (Option Value)} {i j : State} {root added : List (List ℕ)} {due : Due} → length root ≡ count ps → length added ≡ count qs
-    → i ≡ unfailed_at (named_place Kinds.Members root added due) → PresentsFields jer_rules ps qs i rs xs j → RecordShown order ps marker qs rs xs j
+pub record_shown : (order : Order) (marker : Bool) {ps qs : Parts} {rs xs : List (Option Value)} {i j : JsonState} {root added : List (List ℕ)} {due : Due} → length root ≡ count ps → length added ≡ count qs
+    → i ≡ unfailed_at (named_frame Kinds.Members root added due) → PresentsFields jer_rules ps qs i rs xs j → RecordShown order ps marker qs rs xs j
 record_shown order marker {i = i} {j = j} c d e (presents_fields p q) =
-    let h : Inside i = record { unfailed = ap (λ (z : State). z.failed) e; members = ap (λ (z : State). z.place.kind) e } in
-    let root = parts_shown h (ap (λ (z : State). length z.place.root) e ∙ c) p in
-    let behind_it = additions_shown root.within (ap (λ (l : List (List ℕ)). length l) root.kept ∙ ap (λ (z : State). length z.place.added) e ∙ d) q in
-    let all = root.shown behind_it.members in
+    let h : Inside i = record { unfailed = ap (λ (z : JsonState). z.failed) e; members = ap (λ (z : JsonState). z.place.kind) e } in
+    let root = parts_shown h (ap (λ (z : JsonState). length z.place.root) e ∙ c) p in
+    let after_it = additions_shown root.within (ap (λ (l : List (List ℕ)). length l) root.kept ∙ ap (λ (z : JsonState). length z.place.added) e ∙ d) q in
+    let all = root.shown after_it.members in
     record {
-      within = behind_it.within;
+      within = after_it.within;
       members = all.0;
-      shown = shows_record _ _ all.1 behind_it.shown;
-      written = sym (ap (λ (z : State). with_members z.place all.0) (sym e) ∙ all.2 ∙ behind_it.written ∙ append-nil j.place.text);
+      shown = shows_record _ _ all.1 after_it.shown;
+      written = sym (ap (λ (z : JsonState). with_members z.place all.0) (sym e) ∙ all.2 ∙ after_it.written ∙ append-nil j.place.text);
     }

@@ -53,9 +53,9 @@ mutual
       ∙ ap (λ (l : List ℕ). (quoted k ++ 58 ∷ []) ++ l) (printed false j (members_tokens ms ++ rest) ∙ ap (λ (l : List ℕ). text_of j ++ l) (printed_members false ms rest))
       ∙ named_text (quoted k) (text_of j) (members_text false ms) (125 ∷ print_from true rest))
 
-nothing_behind : (t : List ℕ) → t ++ print_from true [] ≡ t
+nothing_after : (t : List ℕ) → t ++ print_from true [] ≡ t
 unfolding print_from
-nothing_behind t = append-nil t
+nothing_after t = append-nil t
 
 -- a string, and a name with its colon
 pub string_printed : (s : List ℕ) → print (Token.string s ∷ []) ≡ quoted s
@@ -69,7 +69,7 @@ key_printed s = append-nil (quoted s ++ 58 ∷ [])
 -- the text is what is printed of the value's tokens
 pub is_printed : (j : Json) → text_of j ≡ print (json_tokens j)
 is_printed j =
-    sym (ap (print_from false) (sym (append-nil (json_tokens j))) ∙ printed false j [] ∙ nothing_behind (text_of j))
+    sym (ap (print_from false) (sym (append-nil (json_tokens j))) ∙ printed false j [] ∙ nothing_after (text_of j))
 
 -- and is read back as it, to 128 levels
 pub is_read : (j : Json) → HasNumbers j → depth j ≤ max_depth → document (text_of j) ≡ Some j

@@ -23,7 +23,7 @@ pub record IsTextOf (s : Schema) (v : Value) (text : List ℕ) : Type 0 where
 abbrev pub AreText : (ℕ → Schema) → ℕ → Value → List ℕ → Type 0
 AreText schema levels v text = AtDepths schema levels (λ s. IsTextOf s (normal s v) text)
 
--- a value is refused: memory ran out, or the fault that an error names stands in it
+-- a value is refused: memory ran out, or the fault that an error names is in it
 abbrev pub IsRefusedBy : (ℕ → Schema) → ℕ → Value → EncodeError → Type 0
 IsRefusedBy schema levels v e = AtDepths schema levels
     (λ s. (e ≡ OutOfMemory) ⊎ StandsIn (fault_of e) s (normal s v))

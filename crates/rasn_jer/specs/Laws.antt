@@ -1,2 +1,2 @@
 pub mod Relations
-pub mod Vacant
+pub mod EmptyGroups

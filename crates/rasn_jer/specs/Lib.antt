@@ -2,7 +2,7 @@ pub mod Calls
 pub mod Digits
 pub mod Laws
 pub mod Names
-pub mod Places
+pub mod Frames
 pub mod Rules
 pub mod Shown
 pub mod Strings

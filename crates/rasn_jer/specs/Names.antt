@@ -1,10 +1,10 @@
 -- The names of errors; those of components; and the identifiers of items and alternatives, in the order of a type's
--- lists (ITU-T X.697): those before an extension marker, and behind them those after it.
+-- lists (ITU-T X.697): those before an extension marker, and after them those after it.
 use Rattle.std.specs.Prelude.{ℕ, ◌≡◌, ◌+◌, List, [], length, get_or, map, slice_get, Option, Some, None, codes, decimal}
 use Rattle.rasn_types.specs.Values.{Value, item, root, added}
 use Rattle.rasn_strings.specs.declared.time_error.TimeError.{TimeError}
 use Rattle.rasn_strings.specs.declared.time_error.TimeError.TheVariants.{Unrepresentable}
-use Rattle.rasn_schema.specs.Choices.{place_of, VariantShape, variants_behind}
+use Rattle.rasn_schema.specs.Choices.{place_of, VariantShape, variants_after}
 use Rattle.rasn_schema.specs.Fields.{Shape, shape_of}
 use Rattle.rasn_schema.specs.Schemas
 use Rattle.rasn_schema.specs.declared.fields.Field.{Field}
@@ -28,7 +28,7 @@ abbrev pub error_of_time : TimeError → EncodeError
 error_of_time Unrepresentable = NoJson
 error_of_time _ = OutOfMemory
 
--- the next of the names that are left, which is empty behind the last
+-- the next of the names that are left, which is empty after the last
 abbrev pub next_name : List (List ℕ) → List ℕ
 next_name names = get_or names 0 []
 
@@ -50,7 +50,7 @@ named_or None n = number (decimal n)
 abbrev pub item_by : List (List ℕ) → ℕ → Json
 item_by names n = named_or (slice_get names n) n
 
--- X.680 20: the number of an item: those before the extension marker count from 0, and those behind it go on
+-- X.680 20: the number of an item: those before the extension marker count from 0, and those after it go on
 abbrev pub number_of_item : ℕ → Value → ℕ
 number_of_item roots (item root k) = k
 number_of_item roots (item added k) = roots + k
@@ -60,7 +60,7 @@ number_of_item roots _ = 0
 pub record IdentifierOf (names : List (List ℕ)) (t : Schemas.Tag) (vs : List VariantShape)
     (xs : Option (List VariantShape)) (name : Option (List ℕ)) : Type 0 where
   pub of_root : (k : ℕ) → place_of t vs ≡ Some k → name ≡ slice_get names k
-  pub of_added : (k : ℕ) → place_of t (variants_behind xs) ≡ Some k → name ≡ slice_get names (length vs + k)
+  pub of_added : (k : ℕ) → place_of t (variants_after xs) ≡ Some k → name ≡ slice_get names (length vs + k)
 
 -- a name is an identifier, where there is one
 abbrev pub IsNameBy : Option (List ℕ) → List ℕ → Type 0
@@ -74,7 +74,7 @@ pub record NamesAlternative (names : List (List ℕ)) (t : Schemas.Tag) (vs : Li
   pub named : IsNameBy found name
 
 -- X.680 29.1: the number of the alternative at a place: those before the extension marker count from 0, and those
--- behind it go on
+-- after it go on
 abbrev pub number_of_place : ℕ → Place → ℕ
 number_of_place roots (Root k) = k
 number_of_place roots (Added k) = roots + k

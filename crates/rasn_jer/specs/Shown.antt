@@ -163,13 +163,13 @@ pub record ShowsText (s : Schema) (v : Value) (text : List ℕ) : Type 0 where
 pub data HasPart (s : Schema) (v : Value) : Parts → List (Option Value) → Type 0 where
   part_here : {t : TagTree} {p : Presence} {ps : Parts} {rs : List (Option Value)}
       → addition_bit p (Some v) ≡ Some true → HasPart s v (part t p s ps) (Some v ∷ rs)
-  part_behind : {t : TagTree} {p : Presence} {c : Schema} {r : Option Value} {ps : Parts} {rs : List (Option Value)}
+  part_after : {t : TagTree} {p : Presence} {c : Schema} {r : Option Value} {ps : Parts} {rs : List (Option Value)}
       → HasPart s v ps rs → HasPart s v (part t p c ps) (r ∷ rs)
 
 -- an element of a list, or a member of a bag
 pub data HasElement (v : Value) : List Value → Type 0 where
   element_here : {vs : List Value} → HasElement v (v ∷ vs)
-  element_behind : {w : Value} {vs : List Value} → HasElement v vs → HasElement v (w ∷ vs)
+  element_after : {w : Value} {vs : List Value} → HasElement v vs → HasElement v (w ∷ vs)
 
 -- A value has no JSON: a REAL, which isn't supported; a value that is absent where one is asked for (X.680 25.6); a
 -- time that no text of its type holds; or characters that aren't all scalar values of Unicode.
@@ -185,7 +185,7 @@ pub data HasNoJson : Schema → Value → Type 0 where
 pub data IsNull : Schema → Value → Type 0 where
   is_null : {v : Value} → IsNull Schema.null v
 
--- a fault stands in a value: at once, in a component, an addition, an element or a member of it, or in its alternative
+-- a fault is in a value: at once, in a component, an addition, an element or a member of it, or in its alternative
 pub data StandsIn (fault : Schema → Value → Type 0) : Schema → Value → Type 0 where
   at_once : {s : Schema} {v : Value} → fault s v → StandsIn fault s v
   in_part : {s : Schema} {v : Value} {o : Order} {ps qs : Parts} {marker : Bool} {rs : List (Option Value)}

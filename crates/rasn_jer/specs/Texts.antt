@@ -6,7 +6,7 @@ use Rattle.json.specs.Json.{Members, no_members, member}
 use Rattle.json.specs.Print.{quoted, token_text}
 use Rattle.json.specs.Token as Token
 
--- RFC 8259 4, 5: a comma stands in front of every item and member but the first
+-- RFC 8259 4, 5: a comma is in front of every item and member but the first
 abbrev pub comma : Bool → List ℕ
 comma true = []
 comma false = 44 ∷ []
@@ -44,7 +44,7 @@ abbrev pub is_none : Members → Bool
 is_none no_members = true
 is_none (member name j ms) = false
 
--- members behind members
+-- members after members
 abbrev pub join : Members → Members → Members
 join no_members ns = ns
 join (member name j ms) ns = member name j (join ms ns)

@@ -1,23 +1,14 @@
 //! The encoder of JSON, behind the trait of encoders.
 
-ghost use Rattle.std.specs.Prelude.{◌≡◌, ◌⊎◌, List, None, true, false, IfOk, OnErr};
-ghost use Rattle.std.specs.Option.{unwrap_or};
-ghost use Rattle.std.specs.Prelude.{count_by};
-ghost use Rattle.rasn_types.specs.Values.{Value};
-ghost use Rattle.rasn_schema.specs.Choices.{place_of, variants_behind};
-ghost use Rattle.rasn_schema.specs.Extensions.{fields_behind};
-ghost use Rattle.rasn_schema.specs.Fields.{in_tag_order, may_be_absent};
-ghost use Rattle.rasn_schema.specs.Structures.{tag_of};
-ghost use Rattle.rasn_schema.specs.Forms.{is_size_marked, size_of};
-ghost use Rattle.rasn_jer.specs.Names.{AreNamesOf};
-ghost use Rattle.rasn_jer.specs.Places.{inside, is_full, IsNamedBy};
+ghost use Rattle.std.specs.Prelude.{◌≡◌, ◌⊎◌, true, false, IfOk, OnErr};
+ghost use Rattle.rasn_jer.specs.Frames.{inside, is_full};
 ghost use Rattle.rasn_jer.specs.Rules.{jer_rules};
-ghost use Rattle.rasn_jer.specs.Shown.{fixed_count};
 ghost use Rattle.rasn_jer.specs.declared.error.EncodeError.TheVariants.{AlreadyFailed};
-ghost use Rattle.rasn_jer.specs.declared.place.Kind.TheVariants.{One};
+ghost use Rattle.rasn_jer.specs.declared.frame.Kind.TheVariants.{One};
 
 use crate::error::EncodeError;
-use crate::place::{Kind, Names, Place};
+use crate::frame::{Frame, Kind};
+use crate::schemas::{count_of, has_alternative, least_count, members_of, ordered_members_of};
 use crate::texts::{
     AlternativeName, bits, chosen_member, day, generalized_time, identifier, item,
     name_of_alternative, named_bits, named_member, nothing, quoted, scalars, truth, utc_time,
@@ -34,21 +25,21 @@ use rasn_traits::encoder;
 use rasn_types::bit_string::BitString;
 use rasn_types::octet_strings::{Any, GeneralString, GraphicString, TeletexString};
 use rasn_types::types::{Codec, Identifier, Tag};
-use std::alloc::{AllocError, Allocator};
+use std::alloc::Allocator;
 use std::marker::Model;
 
 /// Writes a value as JSON.
 #[derive(Drop)]
 pub struct Encoder<A: Allocator + Copy> {
     pub(crate) alloc: A,
-    pub(crate) place: Place<A>,
+    pub(crate) place: Frame<A>,
     pub(crate) failed: bool,
 }
 
 impl<A: Allocator + Copy> Model for Encoder<A> {
-    ghost use Rattle.rasn_jer.specs.Places.{State};
+    ghost use Rattle.rasn_jer.specs.Frames.{JsonState};
 
-    ghost Value = { State };
+    ghost Value = { JsonState };
 
     ghost view = { λ a. record { place = a.place; failed = a.failed } };
 }
@@ -60,7 +51,7 @@ impl<A: Allocator + Copy> Encoder<A> {
     {
         Encoder {
             alloc,
-            place: Place::new(alloc, Kind::One),
+            place: Frame::new(alloc, Kind::One),
             failed: false,
         }
     }
@@ -85,21 +76,21 @@ impl<A: Allocator + Copy> encoder::Encoder for Encoder<A> {
     ghost use Rattle.rasn_jer.specs.Rules.{AwaitsValues, IsOpenList, Opens, OpensAddition, OpensContents};
     ghost use Rattle.rasn_jer.specs.Rules.{OpensRecord};
     ghost use Rattle.rasn_jer.specs.Laws.Relations.{presents_well, sets_written};
-    ghost use Rattle.rasn_jer.specs.declared.place.Kind.TheVariants as Kinds;
+    ghost use Rattle.rasn_jer.specs.declared.frame.Kind.TheVariants as Kinds;
 
     type Error = EncodeError;
 
-    type Scope = Place<A>;
+    type Scope = Frame<A>;
 
-    type Addition = Place<A>;
+    type Addition = Frame<A>;
 
-    type Alternative = (Place<A>, AlternativeName);
+    type Alternative = (Frame<A>, AlternativeName);
 
-    type Contents = Place<A>;
+    type Contents = Frame<A>;
 
-    type List = (Place<A>, usize);
+    type List = (Frame<A>, usize);
 
-    type Bag = (Place<A>, usize);
+    type Bag = (Frame<A>, usize);
 
     ghost rules = { jer_rules };
 
@@ -318,12 +309,12 @@ impl<A: Allocator + Copy> encoder::Encoder for Encoder<A> {
         &mut self,
         _tag: Tag,
         _identifier: Identifier,
-    ) -> Result<Place<A>, EncodeError> {
+    ) -> Result<Frame<A>, EncodeError> {
         let place = members_of::<C, A>(self.alloc);
         self.enter(place)
     }
 
-    fn close_sequence<C: Constructed>(&mut self, scope: Place<A>) -> Result<(), EncodeError> {
+    fn close_sequence<C: Constructed>(&mut self, scope: Frame<A>) -> Result<(), EncodeError> {
         self.close(scope, Kind::Members, b'{', b'}')
     }
 
@@ -331,12 +322,12 @@ impl<A: Allocator + Copy> encoder::Encoder for Encoder<A> {
         &mut self,
         _tag: Tag,
         _identifier: Identifier,
-    ) -> Result<Place<A>, EncodeError> {
+    ) -> Result<Frame<A>, EncodeError> {
         let fields = members_of::<C, A>(self.alloc);
         self.enter(fields)
     }
 
-    fn close_fields<C: Constructed>(&mut self, fields: Place<A>) -> Result<(), EncodeError> {
+    fn close_fields<C: Constructed>(&mut self, fields: Frame<A>) -> Result<(), EncodeError> {
         self.close(fields, Kind::Members, b'{', b'}')
     }
 
@@ -344,12 +335,12 @@ impl<A: Allocator + Copy> encoder::Encoder for Encoder<A> {
         &mut self,
         _tag: Tag,
         _identifier: Identifier,
-    ) -> Result<Place<A>, EncodeError> {
+    ) -> Result<Frame<A>, EncodeError> {
         let place = members_of::<C, A>(self.alloc);
         self.enter(place)
     }
 
-    fn close_components<C: Constructed>(&mut self, scope: Place<A>) -> Result<(), EncodeError> {
+    fn close_components<C: Constructed>(&mut self, scope: Frame<A>) -> Result<(), EncodeError> {
         self.close(scope, Kind::Members, b'{', b'}')
     }
 
@@ -357,12 +348,12 @@ impl<A: Allocator + Copy> encoder::Encoder for Encoder<A> {
         &mut self,
         _tag: Tag,
         _identifier: Identifier,
-    ) -> Result<Place<A>, EncodeError> {
+    ) -> Result<Frame<A>, EncodeError> {
         let place = ordered_members_of::<C, A>(self.alloc);
         self.enter(place)
     }
 
-    fn close_set<C: Constructed>(&mut self, scope: Place<A>) -> Result<(), EncodeError> {
+    fn close_set<C: Constructed>(&mut self, scope: Frame<A>) -> Result<(), EncodeError> {
         self.close(scope, Kind::Members, b'{', b'}')
     }
 
@@ -370,7 +361,7 @@ impl<A: Allocator + Copy> encoder::Encoder for Encoder<A> {
         &mut self,
         tag: Tag,
         _identifier: Identifier,
-    ) -> Result<(Place<A>, AlternativeName), EncodeError> {
+    ) -> Result<(Frame<A>, AlternativeName), EncodeError> {
         self.enter_choice(AlternativeName {
             identifier: None,
             tag,
@@ -379,7 +370,7 @@ impl<A: Allocator + Copy> encoder::Encoder for Encoder<A> {
 
     fn close_choice<C: Choice>(
         &mut self,
-        outside: (Place<A>, AlternativeName),
+        outside: (Frame<A>, AlternativeName),
         chosen: Tag,
     ) -> Result<(), EncodeError> {
         let is_known = has_alternative::<C>(chosen);
@@ -401,13 +392,13 @@ impl<A: Allocator + Copy> encoder::Encoder for Encoder<A> {
         _tag: Tag,
         place: items::Place,
         _identifier: Identifier,
-    ) -> Result<(Place<A>, AlternativeName), EncodeError> {
+    ) -> Result<(Frame<A>, AlternativeName), EncodeError> {
         self.enter_choice(name_of_alternative::<C>(C::IDENTIFIERS, place))
     }
 
     fn close_alternative(
         &mut self,
-        outside: (Place<A>, AlternativeName),
+        outside: (Frame<A>, AlternativeName),
     ) -> Result<(), EncodeError> {
         let (outer, name) = outside;
         match self.leave(outer, Kind::One) {
@@ -431,13 +422,13 @@ impl<A: Allocator + Copy> encoder::Encoder for Encoder<A> {
         &mut self,
         _tag: Tag,
         _identifier: Identifier,
-    ) -> Result<Place<A>, EncodeError> {
-        let place = Place::new(self.alloc, Kind::One);
+    ) -> Result<Frame<A>, EncodeError> {
+        let place = Frame::new(self.alloc, Kind::One);
         self.enter(Ok(place))
     }
 
     /// Octets that contain a value are shown as it.
-    fn close_contents(&mut self, contents: Place<A>) -> Result<(), EncodeError> {
+    fn close_contents(&mut self, contents: Frame<A>) -> Result<(), EncodeError> {
         match self.leave(contents, Kind::One) {
             Ok(inner) => {
                 let text = inner.into_text();
@@ -452,24 +443,24 @@ impl<A: Allocator + Copy> encoder::Encoder for Encoder<A> {
         self.check_members()
     }
 
-    fn open_addition(&mut self) -> Result<Place<A>, EncodeError> {
+    fn open_addition(&mut self) -> Result<Frame<A>, EncodeError> {
         match self.check_members() {
             Ok(()) => {
-                let place = Place::new(self.alloc, Kind::One);
+                let place = Frame::new(self.alloc, Kind::One);
                 self.enter(Ok(place))
             }
             Err(error) => Err(error),
         }
     }
 
-    fn close_addition(&mut self, addition: Place<A>) -> Result<(), EncodeError> {
+    fn close_addition(&mut self, addition: Frame<A>) -> Result<(), EncodeError> {
         match self.leave(addition, Kind::One) {
             Ok(inner) => self.add(inner.text()),
             Err(error) => Err(error),
         }
     }
 
-    fn close_group<C: AdditionGroup>(&mut self, addition: Place<A>) -> Result<(), EncodeError> {
+    fn close_group<C: AdditionGroup>(&mut self, addition: Frame<A>) -> Result<(), EncodeError> {
         match self.leave(addition, Kind::One) {
             Ok(inner) => self.add_all(inner.text()),
             Err(error) => Err(error),
@@ -482,17 +473,17 @@ impl<A: Allocator + Copy> encoder::Encoder for Encoder<A> {
         _constraints: &Constraints,
         count: usize,
         _identifier: Identifier,
-    ) -> Result<(Place<A>, usize), EncodeError> {
-        let place = Place::new(self.alloc, Kind::Items);
+    ) -> Result<(Frame<A>, usize), EncodeError> {
+        let place = Frame::new(self.alloc, Kind::Items);
         let outside = self.enter(Ok(place))?;
         Ok((outside, count))
     }
 
-    fn next_element(&mut self, list: &mut (Place<A>, usize)) -> Result<(), EncodeError> {
+    fn next_element(&mut self, list: &mut (Frame<A>, usize)) -> Result<(), EncodeError> {
         self.next_item(&mut list.1)
     }
 
-    fn close_list(&mut self, list: (Place<A>, usize)) -> Result<(), EncodeError> {
+    fn close_list(&mut self, list: (Frame<A>, usize)) -> Result<(), EncodeError> {
         self.close_items(list)
     }
 
@@ -502,15 +493,15 @@ impl<A: Allocator + Copy> encoder::Encoder for Encoder<A> {
         constraints: &Constraints,
         count: usize,
         identifier: Identifier,
-    ) -> Result<(Place<A>, usize), EncodeError> {
+    ) -> Result<(Frame<A>, usize), EncodeError> {
         encoder::Encoder::open_list(self, tag, constraints, count, identifier)
     }
 
-    fn next_element_in_turn(&mut self, list: &mut (Place<A>, usize)) -> Result<(), EncodeError> {
+    fn next_element_in_turn(&mut self, list: &mut (Frame<A>, usize)) -> Result<(), EncodeError> {
         encoder::Encoder::next_element(self, list)
     }
 
-    fn close_elements(&mut self, list: (Place<A>, usize)) -> Result<(), EncodeError> {
+    fn close_elements(&mut self, list: (Frame<A>, usize)) -> Result<(), EncodeError> {
         encoder::Encoder::close_list(self, list)
     }
 
@@ -520,17 +511,17 @@ impl<A: Allocator + Copy> encoder::Encoder for Encoder<A> {
         _constraints: &Constraints,
         count: usize,
         _identifier: Identifier,
-    ) -> Result<(Place<A>, usize), EncodeError> {
-        let place = Place::new(self.alloc, Kind::Items);
+    ) -> Result<(Frame<A>, usize), EncodeError> {
+        let place = Frame::new(self.alloc, Kind::Items);
         let outside = self.enter(Ok(place))?;
         Ok((outside, count))
     }
 
-    fn next_member(&mut self, bag: &mut (Place<A>, usize)) -> Result<(), EncodeError> {
+    fn next_member(&mut self, bag: &mut (Frame<A>, usize)) -> Result<(), EncodeError> {
         self.next_item(&mut bag.1)
     }
 
-    fn close_set_of(&mut self, bag: (Place<A>, usize)) -> Result<(), EncodeError> {
+    fn close_set_of(&mut self, bag: (Frame<A>, usize)) -> Result<(), EncodeError> {
         self.close_items(bag)
     }
 
@@ -540,15 +531,15 @@ impl<A: Allocator + Copy> encoder::Encoder for Encoder<A> {
         constraints: &Constraints,
         count: usize,
         identifier: Identifier,
-    ) -> Result<(Place<A>, usize), EncodeError> {
+    ) -> Result<(Frame<A>, usize), EncodeError> {
         encoder::Encoder::open_set_of(self, tag, constraints, count, identifier)
     }
 
-    fn next_member_in_turn(&mut self, bag: &mut (Place<A>, usize)) -> Result<(), EncodeError> {
+    fn next_member_in_turn(&mut self, bag: &mut (Frame<A>, usize)) -> Result<(), EncodeError> {
         encoder::Encoder::next_member(self, bag)
     }
 
-    fn close_members(&mut self, bag: (Place<A>, usize)) -> Result<(), EncodeError> {
+    fn close_members(&mut self, bag: (Frame<A>, usize)) -> Result<(), EncodeError> {
         encoder::Encoder::close_set_of(self, bag)
     }
 
@@ -559,71 +550,4 @@ impl<A: Allocator + Copy> encoder::Encoder for Encoder<A> {
     ghost lawful = { presents_well };
 
     ghost sets = { sets_written };
-}
-
-/// The place of a record's members, by the names of its fields as they are listed.
-fn members_of<C: Constructed, A: Allocator + Copy>(alloc: A) -> Result<Place<A>, AllocError>
-    ensures { IfOk result (IsNamedBy C.FIELDS (fields_behind C.EXTENDED_FIELDS) (count_by may_be_absent C.FIELDS)) }
-{
-    let fields = C::FIELDS;
-    let bits = fields.number_of_optional_and_default_fields();
-    let root = Names::of_fields(alloc, fields.list)?;
-    let added = added_names::<C, A>(alloc)?;
-    Ok(Place::of_members(alloc, root, bits, added))
-}
-
-/// The place of a SET's members, by the names of its fields in ascending order of their smallest tags.
-fn ordered_members_of<C: Constructed, A: Allocator + Copy>(alloc: A) -> Result<Place<A>, AllocError>
-    ensures { IfOk result (IsNamedBy (in_tag_order C.FIELDS) (fields_behind C.EXTENDED_FIELDS)
-        (count_by may_be_absent C.FIELDS)) }
-{
-    let fields = C::FIELDS.canonised(alloc)?;
-    let root = Names::of_fields(alloc, fields.as_slice())?;
-    let added = added_names::<C, A>(alloc)?;
-    let bits = C::FIELDS.number_of_optional_and_default_fields();
-    Ok(Place::of_members(alloc, root, bits, added))
-}
-
-/// The names of a record's additions.
-fn added_names<C: Constructed, A: Allocator + Copy>(alloc: A) -> Result<Names<A>, AllocError>
-    ensures { IfOk result (AreNamesOf (fields_behind C.EXTENDED_FIELDS)) }
-{
-    match C::EXTENDED_FIELDS {
-        Some(fields) => Names::of_fields(alloc, fields.list),
-        None => Ok(Names::none(alloc)),
-    }
-}
-
-/// Whether an alternative of a choice goes by a tag.
-fn has_alternative<C: Choice>(tag: Tag) -> bool
-    ensures none { result ≡ false → (place_of (tag_of tag) C.VARIANTS ≡ None)
-        × (place_of (tag_of tag) (variants_behind C.EXTENDED_VARIANTS) ≡ None) }
-    ensures some { result ≡ true → place_of (tag_of tag) C.VARIANTS ≡ None
-        → place_of (tag_of tag) (variants_behind C.EXTENDED_VARIANTS) ≡ None → ⊥ }
-{
-    let variants = C::VARIANTS;
-    let added = C::EXTENDED_VARIANTS;
-    let place = variants.place_of(&added, tag);
-    place.is_some()
-}
-
-/// The least count that constraints leave, 0 where they don't say one.
-fn least_count(constraints: &Constraints) -> usize
-    ensures { result ≡ unwrap_or (size_of constraints.now).least 0 }
-{
-    match constraints.size() {
-        Some(size) => size.constraint.start_and_end().0.unwrap_or(0),
-        None => 0,
-    }
-}
-
-/// How many items there are, where constraints fix it: by a size of one number, without an extension marker.
-fn count_of(constraints: &Constraints) -> Option<usize>
-    ensures { result ≡ fixed_count (size_of constraints.now) (is_size_marked constraints.now) }
-{
-    let size = constraints.size()?;
-    match size.constraint.start_and_end() {
-        (Some(least), Some(most)) if !size.extensible && least == most => Some(least),
-        _ => None,
-    }
 }

@@ -25,7 +25,7 @@
 //!   a minus sign in front of four digits where the year is below zero.
 //!
 //! Where a type's list of identifiers is too short, an item is its number (those before the extension marker count from
-//! 0, and those behind it go on), and an alternative goes by its tag, as `[2]` or `[UNIVERSAL 1]`.
+//! 0, and those after it go on), and an alternative goes by its tag, as `[2]` or `[UNIVERSAL 1]`.
 //!
 //! **Only tested**: that lists of names are the type's, as a schema has none: those of `FIELDS` and `EXTENDED_FIELDS`,
 //! and `IDENTIFIERS` (that a component, there or not, has its own name of a list, and an item the one at its number,
@@ -35,9 +35,10 @@
 
 pub mod encoder;
 pub mod error;
+pub mod frame;
 mod large;
 mod opened;
-pub mod place;
+mod schemas;
 pub mod texts;
 
 ghost use Rattle.std.specs.Prelude.{IfOk, IfErr};

@@ -7,9 +7,9 @@ ghost use Rattle.json.specs.Json.{Members, object as the_object, string};
 ghost use Rattle.rasn_types.specs.Values.{Value};
 ghost use Rattle.rasn_schema.specs.Schemas.{Schema};
 ghost use Rattle.rasn_traits.specs.Calls.{Writes};
-ghost use Rattle.rasn_jer.specs.Places.{with_addition, with_group};
-ghost use Rattle.rasn_jer.specs.Rules.{AddedSo, BehavesSo, ClosesItems, ClosesPlace, CountsItem, EntersPlace};
-ghost use Rattle.rasn_jer.specs.Rules.{EntersChoice, LeavesPlace, NeedsRecord};
+ghost use Rattle.rasn_jer.specs.Frames.{with_addition, with_group};
+ghost use Rattle.rasn_jer.specs.Rules.{AddedSo, BehavesSo, ClosesItems, ClosesFrame, CountsItem, EntersFrame};
+ghost use Rattle.rasn_jer.specs.Rules.{EntersChoice, LeavesFrame, NeedsRecord};
 ghost use Rattle.rasn_jer.specs.Rules.{IsUnmade, WritesJson, WritesText, jer_rules};
 ghost use Rattle.rasn_jer.specs.Shown.{ShowsText};
 ghost use Rattle.rasn_jer.specs.Texts.{enclosed as enclosed_text, text_of};
@@ -17,7 +17,7 @@ ghost use Rattle.rasn_jer.specs.declared.error.EncodeError.TheVariants.{AlreadyF
 
 use crate::encoder::Encoder;
 use crate::error::EncodeError;
-use crate::place::{Kind, Place};
+use crate::frame::{Frame, Kind};
 use crate::texts::{AlternativeName, enclosed, hexadecimal, latin};
 use std::alloc::{AllocError, Allocator};
 use std::mem;
@@ -95,9 +95,9 @@ impl<A: Allocator + Copy> Encoder<A> {
     /// Opens a place, and answers what was open.
     pub(crate) fn enter(
         &mut self,
-        place: Result<Place<A>, AllocError>,
-    ) -> Result<Place<A>, EncodeError>
-        ensures { EntersPlace place self.old result self.new }
+        place: Result<Frame<A>, AllocError>,
+    ) -> Result<Frame<A>, EncodeError>
+        ensures { EntersFrame place self.old result self.new }
     {
         if self.failed {
             return Err(EncodeError::AlreadyFailed);
@@ -112,17 +112,17 @@ impl<A: Allocator + Copy> Encoder<A> {
     pub(crate) fn enter_choice(
         &mut self,
         name: AlternativeName,
-    ) -> Result<(Place<A>, AlternativeName), EncodeError>
+    ) -> Result<(Frame<A>, AlternativeName), EncodeError>
         ensures { EntersChoice self.old result self.new }
     {
-        let place = Place::new(self.alloc, Kind::One);
+        let place = Frame::new(self.alloc, Kind::One);
         let outer = self.enter(Ok(place))?;
         Ok((outer, name))
     }
 
     /// Takes out what is inside a place of a kind, and opens what waited outside again.
-    pub(crate) fn leave(&mut self, outer: Place<A>, kind: Kind) -> Result<Place<A>, EncodeError>
-        ensures { LeavesPlace kind outer self.old result self.new }
+    pub(crate) fn leave(&mut self, outer: Frame<A>, kind: Kind) -> Result<Frame<A>, EncodeError>
+        ensures { LeavesFrame kind outer self.old result self.new }
     {
         if self.failed {
             return Err(EncodeError::AlreadyFailed);
@@ -136,12 +136,12 @@ impl<A: Allocator + Copy> Encoder<A> {
     /// Closes a place of a kind: what was written in it is written outside, between two characters.
     pub(crate) fn close(
         &mut self,
-        outer: Place<A>,
+        outer: Frame<A>,
         kind: Kind,
         opening: u8,
         closing: u8,
     ) -> Result<(), EncodeError>
-        ensures { ClosesPlace kind opening closing outer self.old result self.new }
+        ensures { ClosesFrame kind opening closing outer self.old result self.new }
     {
         match self.leave(outer, kind) {
             Ok(inner) => {
@@ -175,7 +175,7 @@ impl<A: Allocator + Copy> Encoder<A> {
 
     /// Closes an array of which no item is left. Where one is it refuses, and where the last one wasn't written, or
     /// more was.
-    pub(crate) fn close_items(&mut self, items: (Place<A>, usize)) -> Result<(), EncodeError>
+    pub(crate) fn close_items(&mut self, items: (Frame<A>, usize)) -> Result<(), EncodeError>
         ensures { ClosesItems items self.old result self.new }
     {
         let (outside, left) = items;

@@ -15,7 +15,7 @@ ghost use Rattle.json.specs.Print.{IsNumber};
 ghost use Rattle.rasn_jer.specs.Names.{IdentifierOf, IsNameBy, NamesAlternative, item_by, number_of_item};
 ghost use Rattle.rasn_jer.specs.Names.{number_of_place};
 ghost use Rattle.rasn_jer.specs.Shown.{HasNoScalar, IsWhole, ShowsBits, ShowsJson};
-ghost use Rattle.rasn_jer.specs.Strings.{behind_dot, day_text, dotted, year_text, zero_padded};
+ghost use Rattle.rasn_jer.specs.Strings.{after_dot, day_text, dotted, year_text, zero_padded};
 ghost use Rattle.rasn_jer.specs.Texts.{enclosed as enclosed_text, member_text, text_of};
 ghost use Rattle.rasn_jer.specs.declared.error.EncodeError.TheVariants.{NoJson, OutOfMemory};
 
@@ -110,7 +110,7 @@ pub fn decimal<A: Allocator>(alloc: A, number: i128) -> Result<Vec<u8, A>, Alloc
 }
 
 /// An item of an ENUMERATED by its identifier among those of its type (X.697, ENUMERATED). Where the type gives none,
-/// by its number: the items before the extension marker count from 0, and those behind it go on.
+/// by its number: the items before the extension marker count from 0, and those after it go on.
 pub fn item<A: Allocator, E: Enumerated>(
     alloc: A,
     identifiers: &[&str],
@@ -127,7 +127,7 @@ pub fn item<A: Allocator, E: Enumerated>(
     }
 }
 
-/// An item by the identifiers of its type: how many items stand before its list, and its place there.
+/// An item by the identifiers of its type: how many items are before its list, and its place there.
 fn item_text<A: Allocator>(
     alloc: A,
     identifiers: &[&str],
@@ -142,7 +142,7 @@ fn item_text<A: Allocator>(
     }
 }
 
-/// The identifier of what stands at a place of a list, where so many stand before the list.
+/// The identifier of what is at a place of a list, where so many are before the list.
 fn identifier_at<'a>(identifiers: &[&'a str], before: usize, place: usize) -> Option<&'a str>
     ensures { option_map (λ s. s.now) result ≡ slice_get (map (λ s. s.now) identifiers.now) (before + place) }
 {
@@ -310,9 +310,9 @@ fn push_arc<A: Allocator>(text: &mut String<A>, arc: u32) -> Result<(), AllocErr
     text.push_str(buffer.format(arc))
 }
 
-/// Appends arcs, each behind a full stop.
+/// Appends arcs, each after a full stop.
 fn push_others<A: Allocator>(text: &mut String<A>, arcs: &[u32]) -> Result<(), AllocError>
-    ensures { OnOk result (string_bytes text.new ≡ string_bytes text.old ++ flat_map behind_dot arcs.now) }
+    ensures { OnOk result (string_bytes text.new ≡ string_bytes text.old ++ flat_map after_dot arcs.now) }
 {
     for arc in arcs {
         push_other(text, *arc)?;
@@ -320,9 +320,9 @@ fn push_others<A: Allocator>(text: &mut String<A>, arcs: &[u32]) -> Result<(), A
     Ok(())
 }
 
-/// Appends an arc behind a full stop.
+/// Appends an arc after a full stop.
 fn push_other<A: Allocator>(text: &mut String<A>, arc: u32) -> Result<(), AllocError>
-    ensures { OnOk result (string_bytes text.new ≡ string_bytes text.old ++ behind_dot arc) }
+    ensures { OnOk result (string_bytes text.new ≡ string_bytes text.old ++ after_dot arc) }
 {
     text.push('.')?;
     push_arc(text, arc)
@@ -360,7 +360,7 @@ pub fn day_of<A: Allocator>(
     Ok(text)
 }
 
-/// Appends a year in four digits, behind a minus sign where it is below zero.
+/// Appends a year in four digits, after a minus sign where it is below zero.
 fn push_year<A: Allocator>(text: &mut String<A>, year: i16) -> Result<(), AllocError>
     ensures { OnOk result (string_bytes text.new ≡ string_bytes text.old ++ year_text year) }
 {
@@ -372,7 +372,7 @@ fn push_year<A: Allocator>(text: &mut String<A>, year: i16) -> Result<(), AllocE
     push_padded(text, size, 4)
 }
 
-/// Appends the decimal digits of a number, behind zeros up to a width.
+/// Appends the decimal digits of a number, after zeros up to a width.
 fn push_padded<A: Allocator>(
     text: &mut String<A>,
     number: u16,

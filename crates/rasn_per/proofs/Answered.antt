@@ -19,7 +19,7 @@ use Rattle.rasn_per.proofs.Decoded.{fresh, Ended, decoded, refused, unended, dec
 use Rattle.rasn_per.proofs.Named.{named, named_surplus, named_front, named_none}
 
 module _ {T : Type 0} (a : Codec) (strict : Bool) (schema : ℕ → Schema) (value : T → Value) (octets : List ℕ) (s : State) (begun : s ≡ fresh a strict octets) where
-  -- a value was read, and the octets end behind it
+  -- a value was read, and the octets end after it
   pub read : (x : T) (t : State) (b : Bits) → AreOctets octets → decoder_rules.spells (schema s.levels) s (value x) t → Ended a strict schema octets (Ends strict) t b → DecodedBy strict a schema value octets (Ok x)
   read x t b o h d = record {
     ok = decoded a strict schema octets (value x) s t b begun o h d;
@@ -42,7 +42,7 @@ module _ {T : Type 0} (a : Codec) (strict : Bool) (schema : ℕ → Schema) (val
     variant = rw g (of_codec f h ∙ ap (λ (z : State). z.codec) begun);
   }
 
-  -- a value was read, and the octets don't end behind it
+  -- a value was read, and the octets don't end after it
   pub surplus : (why : Surplus) (f : DecodeError) (e : Codec) (x : T) (t : State) (b : Bits) → f ≡ record { kind = kind_of why; codec = e } → e ≡ t.codec → decoder_rules.spells (schema s.levels) s (value x) t
       → Ended a strict schema octets (λ l n. Ends strict l n → ⊥) t b → Ended a strict schema octets (λ l n. IsWhy strict l n why) t b → DecodedBy strict a schema value octets (Err f)
   surplus why f e x t b i c h d w = rw i (record {
@@ -53,7 +53,7 @@ module _ {T : Type 0} (a : Codec) (strict : Bool) (schema : ℕ → Schema) (val
   })
 
 module _ {T : Type 0} (a : Codec) (schema : ℕ → Schema) (value : T → Value) (octets : List ℕ) (s : State) (begun : s ≡ fresh a false octets) where
-  -- a value was read, and octets are behind it
+  -- a value was read, and octets are after it
   pub read_front : (x : T) (rest : Bor (List ℕ)) (t : State) (left : ℕ) → left ≡ length t.bits → decoder_rules.spells (schema s.levels) s (value x) t → IsRemainder left octets rest.now → DecodedFront a schema value octets (Ok (x, rest))
   read_front x rest t left l h d = record {
     ok = decoded_front a schema octets (value x) s t rest.now begun h (subst (λ n. IsRemainder n octets rest.now) l d);
@@ -72,10 +72,10 @@ module _ {T : Type 0} (a : Codec) (schema : ℕ → Schema) (value : T → Value
     variant = rw g (of_codec a false schema value octets s begun f h ∙ ap (λ (z : State). z.codec) begun);
   }
 
-  -- a value was read, and no octets are behind it
-  pub none_behind : (why : Surplus) (f : DecodeError) (e : Codec) (x : T) (t : State) (left : ℕ) → left ≡ length t.bits → f ≡ record { kind = kind_of why; codec = e } → e ≡ t.codec
+  -- a value was read, and no octets are after it
+  pub none_after : (why : Surplus) (f : DecodeError) (e : Codec) (x : T) (t : State) (left : ℕ) → left ≡ length t.bits → f ≡ record { kind = kind_of why; codec = e } → e ≡ t.codec
       → decoder_rules.spells (schema s.levels) s (value x) t → ((rest : List ℕ) → IsRemainder left octets rest → ⊥) → IsWhyNone left octets why → DecodedFront a schema value octets (Err f)
-  none_behind why f e x t left l i c h none w = rw i (record {
+  none_after why f e x t left l i c h none w = rw i (record {
     ok = tt;
     err = λ n. unended_front a schema octets (value x) s t begun h (subst (λ n. (rest : List ℕ) → IsRemainder n octets rest → ⊥) l none);
     kind = named_none a false schema octets why left (value x) s t begun h l none w;

@@ -11,10 +11,10 @@ use Rattle.rasn_traits.specs.Calls.{Refuses}
 use Rattle.per_core.specs.Basic.{fills, front}
 use Rattle.per_core.specs.Ends.{Ends}
 use Rattle.per_core.proofs.Readings.{one_reading}
-use Rattle.per_core.proofs.Took.{took_agree}
+use Rattle.per_core.proofs.TakenInTurn.{took_agree}
 use Rattle.per_core.proofs.Laws.{one_value, one_front}
 use Rattle.per_core.proofs.Filling.{fills_read, fills_back}
-use Rattle.per_decoding.specs.Laws.Spelled.{spelled}
+use Rattle.per_decoding.proofs.Scoping.Spelled.{spelled}
 use Rattle.per_decoding.specs.Rules.{decoder_rules}
 use Rattle.per_decoding.specs.State.{State, Options, from_octet, with_bits, fresh as from_input}
 use Rattle.per_decoding.specs.Faults.{refusal}
@@ -101,14 +101,14 @@ module _ (a : Codec) (schema : ℕ → Schema) (octets : List ℕ) where
       → ((f ≡ refusal OutOfMemory s) ⊎ Refuses (decoder_rules.spells (schema s.levels)) (decoder_rules.fault (schema s.levels)) f s) → IfErr result (λ e. e.kind ≢ OutOfMemory → BeginWithNone (variant_of a) schema octets)
   refused_front = refused_so a false schema octets (BeginWithNone (variant_of a) schema octets) none_begun
 
-  -- what was read, and the octets behind it
+  -- what was read, and the octets after it
   pub decoded_front : (v : Value) (s t : State) (rest : List ℕ) → s ≡ fresh a false octets → decoder_rules.spells (schema s.levels) s v t → IsRemainder (length t.bits) octets rest → BeginWith (variant_of a) schema v octets rest
   decoded_front v s t rest e h d = record { are_read = r; only = λ w after x. one_front (basically (variant_of a)) (schema 128) w v octets after rest x r }
     where
       r : front (basically (variant_of a)) (schema 128) v octets rest
       r = front_read (variant_of a) (schema 128) v octets rest t.bits (subst (λ z. decoder_rules.spells (schema z.levels) z v t) e h).took d
 
-  -- they begin with nothing where no octets are behind what was read
+  -- they begin with nothing where no octets are after what was read
   pub unended_front : (v : Value) (s t : State) → s ≡ fresh a false octets → decoder_rules.spells (schema s.levels) s v t → ((rest : List ℕ) → IsRemainder (length t.bits) octets rest → ⊥) → BeginWithNone (variant_of a) schema octets
   unended_front v s t e h none w rest x =
       let k = front_back (variant_of a) (schema 128) w octets rest x in

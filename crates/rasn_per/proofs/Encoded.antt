@@ -12,7 +12,7 @@ use Rattle.per_core.specs.Writers.{join}
 use Rattle.per_core.specs.Canon.{canon, bytes, completed}
 use Rattle.per_enc.specs.Rules.{fresh, Presents}
 use Rattle.per_write.specs.Components.{Encoding}
-use Rattle.per_write.specs.State.{Scope, State, view}
+use Rattle.per_write.specs.WriterState.{Frame, WriterState, view}
 use Rattle.per_write.specs.Faults.{IsMemory, RefusesOutput, RefusesValue, Stands, output_fault}
 use Rattle.per_core.specs.WritingFaults.{IsInValue}
 use Rattle.per_core.specs.declared.encode_error.EncodeError.{EncodeError}
@@ -34,12 +34,12 @@ presented a x s v y octets e h k =
 unfailed : true ≡ false → ⊥
 unfailed e = absurd (cc)
 
--- the fault of an encoder that hadn't failed stands in the value
-in_value : (k : EncodeErrorKind) (x : State) (s : Schema) (v : Value) → x.failed ≡ false → Stands k x s v → IsInValue k s v
+-- the fault of an encoder that hadn't failed is in the value
+in_value : (k : EncodeErrorKind) (x : WriterState) (s : Schema) (v : Value) → x.failed ≡ false → Stands k x s v → IsInValue k s v
 in_value AlreadyFailed x s v f h = absurd (unfailed (sym h ∙ f))
 in_value _ x s v f h = h
 
--- what was put out behind a value
+-- what was put out after a value
 pub written : {Z : Type 0} (a : Codec) (x : Encoding) (schema : ℕ → Schema) (levels : ℕ) (v : Value) (y : Encoding) (result : Result (Vec ℕ Z) EncodeError) → x ≡ fresh a
     → AtDepths schema levels (λ s. Presents x s (normal s v) y) → IfOk result (λ o. completed (view y.writer 0) ≡ Some o.items) → IfErr result (λ e. RefusesOutput e y.writer)
     → Encoded a schema levels v result
@@ -51,7 +51,7 @@ written a x schema levels v y (Ok o) e h k r = record {
 }
 written a x schema levels v y (Err f) e h k m =
     let w : Presents (fresh a) (schema levels) (normal (schema levels) v) y = subst (λ (u : Encoding). Presents u (schema levels) (normal (schema levels) v) y) e (h.at levels (le_refl levels)) in
-    let closed : y.writer.scope.is_open ≡ false = ap (λ (s : Scope). s.is_open) w.written.beside in
+    let closed : y.writer.scope.is_open ≡ false = ap (λ (s : Frame). s.is_open) w.written.beside in
     let memory : f.kind ≡ OutOfMemory = m.kind_is ∙ ap₂ output_fault w.written.left closed in
     record {
       ok = tt;

@@ -8,8 +8,8 @@ use Rattle.rasn_types.specs.Variants.{Variant}
 use Rattle.rasn_types.proofs.Bits.{length-unpack, unpack-append}
 use Rattle.rasn_schema.specs.Schemas.{Schema}
 use Rattle.per_core.specs.Basic.{basic, front}
-use Rattle.per_core.specs.Spellings.{place, Took}
-use Rattle.per_core.proofs.Filling.{place-unpack}
+use Rattle.per_core.specs.Spellings.{bit_offset, Took}
+use Rattle.per_core.proofs.Filling.{bit_offset-unpack}
 use Rattle.rasn_per.specs.Calls.{basically}
 use Rattle.rasn_per.specs.Kinds.{IsRemainder}
 
@@ -24,7 +24,7 @@ prefix (b ∷ f) t (x ∷ xs) ys e l =
     (r.0, ap (λ z. x ∷ z) r.1 ∙ ap (λ z. z ∷ (f ++ r.0)) (sym h))
 
 module _ (a : Variant) (s : Schema) (v : Value) (octets rest : List ℕ) where
-  -- what is read, and the octets behind it
+  -- what is read, and the octets after it
   pub front_read : (t : Bits) → Took (basic (basically a) s v) (unpack octets) t → IsRemainder (length t) octets rest → front (basically a) s v octets rest
   front_read t k (inl x) = (
     these,
@@ -32,7 +32,7 @@ module _ (a : Variant) (s : Schema) (v : Value) (octets rest : List ℕ) where
     inl (record {
       front = k.front;
       spare = r.0;
-      spelled = subst (λ p. basic (basically a) s v p k.front) (place-unpack octets) k.spelled;
+      spelled = subst (λ p. basic (basically a) s v p k.front) (bit_offset-unpack octets) k.spelled;
       all = r.1;
       some = omega (arith, total);
       short = omega (arith, total, wide, ap length r.1, length-append k.front r.0);
@@ -59,8 +59,8 @@ module _ (a : Variant) (s : Schema) (v : Value) (octets rest : List ℕ) where
       r = prefix k.front t (unpack these) (unpack (drop n octets)) parts (omega (arith, total, wide, x.0))
   front_read t k (inr x) = go k.front k.joins k.spelled
     where
-      go : (f : Bits) → unpack octets ≡ f ++ t → basic (basically a) s v (place (unpack octets)) f → front (basically a) s v octets rest
-      go [] e h = (0 ∷ [], x.1, inr (subst (λ p. basic (basically a) s v p []) (place-unpack octets) h, refl))
+      go : (f : Bits) → unpack octets ≡ f ++ t → basic (basically a) s v (bit_offset (unpack octets)) f → front (basically a) s v octets rest
+      go [] e h = (0 ∷ [], x.1, inr (subst (λ p. basic (basically a) s v p []) (bit_offset-unpack octets) h, refl))
       go (b ∷ f) e h = absurd (omega (arith, ap length e, length-append f t, length-unpack octets, x.0))
 
   -- and back
@@ -70,7 +70,7 @@ module _ (a : Variant) (s : Schema) (v : Value) (octets rest : List ℕ) where
     record {
       front = x.front;
       joins = ap unpack e ∙ unpack-append these rest ∙ ap (λ z. z ++ unpack rest) x.all ∙ append_assoc x.front x.spare (unpack rest);
-      spelled = subst (λ p. basic (basically a) s v p x.front) (sym (place-unpack octets)) x.spelled;
+      spelled = subst (λ p. basic (basically a) s v p x.front) (sym (bit_offset-unpack octets)) x.spelled;
     },
     inl (omega (arith, left, all, front_length, x.some), sym (ap (λ z. drop z octets) n ∙ ap (λ z. drop (length these) z) e ∙ drop-append_seam these rest)),
   )
@@ -88,6 +88,6 @@ module _ (a : Variant) (s : Schema) (v : Value) (octets rest : List ℕ) where
       n = omega (arith, left, all, x.short)
   front_back (these, e, inr x) = (
     unpack octets,
-    record { front = []; joins = refl; spelled = subst (λ p. basic (basically a) s v p []) (sym (place-unpack octets)) x.0 },
+    record { front = []; joins = refl; spelled = subst (λ p. basic (basically a) s v p []) (sym (bit_offset-unpack octets)) x.0 },
     inr (length-unpack octets, e ∙ ap (λ z. z ++ rest) x.1),
   )

@@ -1,6 +1,6 @@
 pub mod Answered
 pub mod Decoded
 pub mod Encoded
-pub mod Few
+pub mod ItemCounts
 pub mod Fronts
 pub mod Named

@@ -62,7 +62,7 @@ module _ (a : Codec) (strict : Bool) (schema : ℕ → Schema) (octets : List �
       → ((f ≡ refusal OutOfMemory s) ⊎ Refuses (decoder_rules.spells (schema s.levels)) (decoder_rules.fault (schema s.levels)) f s) → IfErr result (λ e. IsInFront (reading strict (variant_of a)) schema octets e.kind)
   named_front = named_so (λ k. IsInFront (reading strict (variant_of a)) schema octets k) of_fresh_front tt
 
-  -- the kind where no octets are behind what was read
+  -- the kind where no octets are after what was read
   without : (why : Surplus) (left : ℕ) (v : Value) (s t : State) → s ≡ fresh a strict octets → decoder_rules.spells (schema s.levels) s v t → left ≡ length t.bits
       → ((rest : List ℕ) → IsRemainder left octets rest → ⊥) → IsWhyNone left octets why → IsWithoutRemainder (reading strict (variant_of a)) schema octets why
   without why left v s t e h l none w = record {

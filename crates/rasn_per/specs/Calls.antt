@@ -1,6 +1,6 @@
 -- What the calls answer in either variant: the main theorem.
 use Rattle.std.specs.Prelude.{◌≡◌, ℕ, Bool, false, List, Some, None, ◌≢◌, true, [], Vec, Result, OnOk, OnErr, IfOk}
-use Rattle.std.specs.Prelude.{IfErr, ◌≤◌, ◌*◌, ◌-◌, length}
+use Rattle.std.specs.Prelude.{IfErr, ◌≤◌, ◌*◌, ◌-◌, ◌++◌, length}
 use Rattle.std.specs.Borrow.{Bor}
 use Rattle.rasn_types.specs.Variants.{Variant, variant_of}
 use Rattle.rasn_types.specs.Values.{Value}
@@ -11,7 +11,7 @@ use Rattle.per_core.specs.Spellings.{Settings}
 use Rattle.per_core.specs.Canon.{bytes}
 use Rattle.per_core.specs.Basic.{front, read}
 use Rattle.per_core.specs.WritingFaults.{IsInValue}
-use Rattle.per_core.specs.FewItems.{item_count, most_items, HasAtMost}
+use Rattle.per_core.specs.ItemCounts.{item_count, most_items, HasAtMost}
 use Rattle.per_core.specs.declared.encode_error.EncodeError.{EncodeError}
 use Rattle.per_core.specs.declared.encode_error.EncodeErrorKind.TheVariants.{OutOfMemory as no_room_to_write}
 use Rattle.per_core.specs.declared.decode_error.DecodeError.{DecodeError}
@@ -83,6 +83,24 @@ pub record EncodedInto (codec : Codec) (schema : ℕ → Schema) (levels : ℕ) 
       (λ s. IsInValue e.kind s (normal s v)))
   pub variant : IfErr result (λ e. e.codec ≡ codec)
 
+-- a buffer holds what it held, and behind it the canonical bytes of a value
+pub record HoldsBehind (a : Variant) (schema : ℕ → Schema) (levels : ℕ) (v : Value) (before after : List ℕ)
+    : Type 0 where
+  pub octets : List ℕ
+  pub canonical : AreBytes a schema levels v octets
+  pub behind : after ≡ before ++ octets
+
+-- A value is written by the schema of its type behind what a buffer holds: its canonical bytes, or, memory aside, a
+-- refusal only where it has none, whose kind names a fault of the value. After a refusal the buffer is as it was.
+pub record EncodedOnto (codec : Codec) (schema : ℕ → Schema) (levels : ℕ) (v : Value) (before : List ℕ)
+    (result : Result (Unit {0}) EncodeError) (after : List ℕ) : Type 0 where
+  pub ok : OnOk result (HoldsBehind (variant_of codec) schema levels v before after)
+  pub same : OnErr result (after ≡ before)
+  pub err : IfErr result (λ e. e.kind ≢ no_room_to_write → HasNoBytes (variant_of codec) schema levels v)
+  pub kind : IfErr result (λ e. e.kind ≢ no_room_to_write → AtDepths schema levels
+      (λ s. IsInValue e.kind s (normal s v)))
+  pub variant : IfErr result (λ e. e.codec ≡ codec)
+
 -- Octets are read by the schema of a type, padding being zero where it must: the value that they spell and no other,
 -- or, memory aside, a refusal only where they spell none, whose kind names a fault of the octets.
 pub record DecodedBy {T : Type 0} (strict : Bool) (codec : Codec) (schema : ℕ → Schema) (value : T → Value)
@@ -101,7 +119,7 @@ abbrev pub DecodedZeroPadded : {T : Type 0} → Codec → (ℕ → Schema) → (
     → Type 0
 DecodedZeroPadded = DecodedBy true
 
--- Octets that may go on behind a value are read, with padding of any value: as the value that they begin with, and the
+-- Octets that may go on after a value are read, with padding of any value: as the value that they begin with, and the
 -- rest, and no other; or, memory aside, they are refused only where they begin with none.
 pub record DecodedFront {T : Type 0} (codec : Codec) (schema : ℕ → Schema) (value : T → Value) (octets : List ℕ)
     (result : Result (T × Bor (List ℕ)) DecodeError) : Type 0 where
@@ -117,7 +135,7 @@ pub record AnswersFew {T E : Type 0} (schema : ℕ → Schema) (value : T → Va
   pub own : IfOk result (λ x. item_count (value x) ≤ most_items (8 * length octets))
   pub within : IfOk result (λ x. HasAtMost (most_items (8 * length octets)) (schema 128) (value x))
 
--- X.691 11.9, 19.5: a value that is answered with the octets behind it has at most 65535 items, and 8192 for each bit
+-- X.691 11.9, 19.5: a value that is answered with the octets after it has at most 65535 items, and 8192 for each bit
 -- of the octets in front of those; and so has each value within it, but for a default that stands for an absent part.
 pub record AnswersFewInFront {T E : Type 0} (schema : ℕ → Schema) (value : T → Value) (octets : List ℕ)
     (result : Result (T × Bor (List ℕ)) E) : Type 0 where

@@ -1,4 +1,4 @@
--- The fault that a refused reading names, where it stands in the octets.
+-- The fault that a refused reading names, where it is in the octets.
 use Rattle.std.specs.Prelude.{◌≡◌, ◌-◌, ◌*◌, ◌/◌, ◌<◌, ◌⊎◌, ◌∷◌, ℕ, List, [], length, drop}
 use Rattle.rasn_types.specs.Bits.{unpack, Bits}
 use Rattle.rasn_types.specs.Values.{Value}
@@ -14,7 +14,7 @@ use Rattle.per_core.specs.declared.decode_error.DecodeErrorKind.{DecodeErrorKind
 use Rattle.per_core.specs.declared.decode_error.DecodeErrorKind.TheVariants.{Incomplete, ParserFail}
 use Rattle.per_core.specs.declared.decode_error.DecodeErrorKind.TheVariants.{UnexpectedExtraData, OutOfMemory}
 
--- X.691 11.1: they are the whole octets of the bits that are left; behind a value of no bits all but one octet, which
+-- X.691 11.1: they are the whole octets of the bits that are left; after a value of no bits all but one octet, which
 -- is zero
 abbrev pub IsRemainder : ℕ → List ℕ → List ℕ → Type 0
 IsRemainder left octets rest =
@@ -27,7 +27,7 @@ IsWhyNone left octets (Missing bits) = (octets ≡ []) × (bits ≡ 8)
 IsWhyNone left octets NonzeroOctet = (left ≡ 8 * length octets) × (0 < length octets)
 IsWhyNone left octets _ = ⊥
 
--- X.691 11.1: behind what spells a value, and spare bits as they have to be, whole octets are left over
+-- X.691 11.1: after what spells a value, and spare bits as they have to be, whole octets are left over
 pub record LeaveOver (a : Settings) (schema : ℕ → Schema) (octets : List ℕ) (over : ℕ) : Type 0 where
   pub value : Value
   pub left : Bits
@@ -35,14 +35,14 @@ pub record LeaveOver (a : Settings) (schema : ℕ → Schema) (octets : List ℕ
   pub are_over : AreOver left (length (unpack octets)) over
   pub zeros : ZeroIf a.strict (spare left)
 
--- X.691 11.1: behind what spells a value bits are left that don't end a complete encoding, for this reason
+-- X.691 11.1: after what spells a value bits are left that don't end a complete encoding, for this reason
 pub record IsUnended (a : Settings) (schema : ℕ → Schema) (octets : List ℕ) (why : Surplus) : Type 0 where
   pub value : Value
   pub left : Bits
   pub read : Took (basic a (schema 128) value) (unpack octets) left
   pub is_why : IsWhy a.strict left (length (unpack octets)) why
 
--- X.691 11.1: behind what spells a value no octets may follow, for this reason
+-- X.691 11.1: after what spells a value no octets may follow, for this reason
 pub record IsWithoutRemainder (a : Settings) (schema : ℕ → Schema) (octets : List ℕ) (why : Surplus) : Type 0 where
   pub value : Value
   pub left : Bits
@@ -66,8 +66,8 @@ IsInFront a schema octets OutOfMemory = Unit {0}
 IsInFront a schema octets k = IsInBits a k (schema 128) (unpack octets)
 
 -- What a kind says of the octets, as a type's schema reads them within 128 levels, where all of them have to be read:
--- octets are left over behind the value, or behind one whose octets an open type or an OCTET STRING contains; the
--- bits behind the value don't end an encoding; or a fault stands in the value.
+-- octets are left over after the value, or after one whose octets an open type or an OCTET STRING contains; the
+-- bits after the value don't end an encoding; or a fault is in the value.
 abbrev pub IsInOctetsBy : Settings → (ℕ → Schema) → List ℕ → DecodeErrorKind → Type 0
 IsInOctetsBy a schema octets (UnexpectedExtraData over) = LeaveOver a schema octets (number_of over)
     ⊎ IsInBits a (UnexpectedExtraData over) (schema 128) (unpack octets)

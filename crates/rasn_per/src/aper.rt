@@ -1,11 +1,11 @@
 //! The ALIGNED variant: values to octets and back.
 
 ghost use Rattle.rasn_types.specs.declared.types.Codec.TheVariants.{Aper};
-ghost use Rattle.rasn_per.specs.Calls.{Encoded, EncodedInto, Decoded, DecodedFront, DecodedZeroPadded, AnswersFew};
-ghost use Rattle.rasn_per.specs.Calls.{AnswersFewInFront};
+ghost use Rattle.rasn_per.specs.Calls.{Encoded, EncodedInto, EncodedOnto, Decoded, DecodedFront, DecodedZeroPadded};
+ghost use Rattle.rasn_per.specs.Calls.{AnswersFew, AnswersFewInFront};
 
 pub use crate::complete::lawful;
-use crate::complete::{decode_front, decode_in, encode_in, encode_into};
+use crate::complete::{decode_front, decode_in, encode_behind, encode_in, encode_into};
 pub use crate::per;
 pub use crate::per::de::Decoder;
 pub use crate::per::enc::Encoder;
@@ -42,6 +42,19 @@ pub fn encode_buf<T: Encode, A: Allocator + Clone>(
     encode_into(Codec::Aper, &T::CONSTRAINTS, value, buffer)
 }
 
+/// The canonical octets of a value, as `encode` gives them, behind what the buffer holds: one message after another.
+///
+/// Refuses as `encode` does; the buffer is as it was then.
+pub fn encode_onto<T: Encode, A: Allocator + Clone>(
+    value: &T,
+    buffer: &mut Vec<u8, A>,
+) -> Result<(), EncodeError>
+    ensures { EncodedOnto Aper (T.schema T.CONSTRAINTS) (T.levels value.now) (T.value value.now)
+        buffer.old.items result buffer.new.items }
+{
+    encode_behind(Codec::Aper, &T::CONSTRAINTS, value, buffer)
+}
+
 /// The canonical octets of a value under constraints, in place of its type's own. They should be `lawful`.
 ///
 /// Refuses as `encode` does.
@@ -65,7 +78,7 @@ pub fn decode<T: Decode>(alloc: Global, octets: &[u8]) -> Result<T, DecodeError>
     decode_in(alloc, DecoderOptions::aligned(), &T::CONSTRAINTS, octets)
 }
 
-/// The value whose complete encoding (as `decode` takes it) the octets begin with, and the octets behind that.
+/// The value whose complete encoding (as `decode` takes it) the octets begin with, and the octets after that.
 ///
 /// Refuses with `OutOfMemory` where memory ran out, and else only octets that begin with no value of the type.
 pub fn decode_with_remainder<T: Decode>(

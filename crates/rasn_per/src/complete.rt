@@ -3,7 +3,8 @@
 ghost use Rattle.std.specs.Prelude.{◌≡◌, ◌≤◌, ◌*◌, ℕ, false, List, length, OnErr, IfOk, IfErr};
 ghost use Rattle.rasn_constraints.specs.LawfulConstraints.{are_lawful};
 ghost use Rattle.per_core.specs.declared.encode_error.EncodeErrorKind.TheVariants.{OutOfMemory};
-ghost use Rattle.rasn_per.specs.Calls.{Encoded, EncodedInto, DecodedBy, DecodedFront, AnswersFew, AnswersFewInFront};
+ghost use Rattle.rasn_per.specs.Calls.{Encoded, EncodedInto, EncodedOnto, DecodedBy, DecodedFront};
+ghost use Rattle.rasn_per.specs.Calls.{AnswersFew, AnswersFewInFront};
 ghost use Rattle.per_core.specs.Ends.{kind_of};
 ghost use Rattle.rasn_per.specs.Kinds.{IsRemainder, IsWhyNone};
 
@@ -50,6 +51,28 @@ pub fn encode_into<T, S: EncodeAs<T>, A: Allocator + Clone>(
     let memory = mem::replace(buffer, Vec::new(alloc));
     *buffer = encode_over(BitList::from_memory(memory), codec, schema, value)?;
     Ok(())
+}
+
+/// The canonical octets of a value of a type, as `encode_in` gives them, behind what the buffer holds. After an error
+/// it is as it was.
+pub fn encode_behind<T, S: EncodeAs<T>, A: Allocator + Clone>(
+    codec: Codec,
+    schema: &S,
+    value: &T,
+    buffer: &mut Vec<u8, A>,
+) -> Result<(), EncodeError>
+    ensures { EncodedOnto codec (S.schema schema.now) (S.levels_of value.now) (S.value_of value.now)
+        buffer.old.items result buffer.new.items }
+{
+    let alloc = allocator_of(buffer, codec)?;
+    let octets = encode_in(alloc, codec, schema, value)?;
+    match buffer.extend_from_slice(&octets) {
+        Ok(()) => Ok(()),
+        Err(_) => Err(EncodeError {
+            kind: EncodeErrorKind::OutOfMemory,
+            codec,
+        }),
+    }
 }
 
 /// The canonical octets of a value, in the memory of a list of bits, which are cleared.
@@ -111,13 +134,14 @@ pub fn decode_in<T: Drop, S: DecodeAs<T>>(
         return decoded;
     }
     match ended(&decoder.input(), total, options.needs_zero_padding()) {
-        Ok(()) => decoded,
-        Err(surplus) => Err(refusal(surplus, decoder.codec())),
+        Ok(()) => {}
+        Err(surplus) => return Err(refusal(surplus, decoder.codec())),
     }
+    decoded
 }
 
 /// The value of a type whose complete encoding (as `decode_in` takes it) the octets begin with, in the variant of the
-/// options, whose depth is 128 levels, and the octets behind it. Padding isn't looked at.
+/// options, whose depth is 128 levels, and the octets after it. Padding isn't looked at.
 ///
 /// Refuses with `OutOfMemory` where memory ran out, and else only octets that begin with no value of the type.
 pub fn decode_front<'octets, T: Drop, S: DecodeAs<T>>(
@@ -139,7 +163,7 @@ pub fn decode_front<'octets, T: Drop, S: DecodeAs<T>>(
     }
 }
 
-/// The octets behind a complete encoding (X.691 11.1), where so many bits are left behind its value: those that it has
+/// The octets after a complete encoding (X.691 11.1), where so many bits are left after its value: those that it has
 /// no bit of. A value of no bits takes one octet, which is zero.
 fn remainder(left: u128, octets: &[u8]) -> Result<&[u8], Surplus>
     requires { left ≤ 8 * length octets.now }

@@ -1,11 +1,11 @@
--- Root components of a record, and the additions behind them, over any decoder.
+-- Root components of a record, and the additions after them, over any decoder.
 use Rattle.std.proofs.Common.{◌≡◌, ℕ, ◌⊎◌, subst, Result, Ok, Err, List, [], Option}
 use Rattle.rasn_types.specs.Values.{Value}
 use Rattle.rasn_schema.specs.Schemas.{Parts, no_parts}
 use Rattle.rasn_traits.specs.AdditionsRead.{FaultyAdditions, ReadsAdditions}
 use Rattle.rasn_traits.specs.Calls.{DecoderRules, DecodesWell, Refuses}
 use Rattle.rasn_traits.specs.Scopes.{ReadsFields, AnswersParts, AnswersRecord, AreRead, ReadsNoFields, ReadsParts, TakesFields, TakesParts, reads_fields}
-use Rattle.rasn_traits.proofs.Reading.{fails_behind_root, fails_root, parts_level, plainly_read}
+use Rattle.rasn_traits.proofs.Reading.{fails_after_root, fails_root, parts_level, plainly_read}
 
 module _ {E S : Type 0} {rules : DecoderRules E S} (L : DecodesWell rules) (parts additions : ℕ → Parts) {s m : S} (rs : List (Option Value))
     (a : ReadsParts rules (parts (rules.levels s)) s rs m) where
@@ -17,7 +17,7 @@ module _ {E S : Type 0} {rules : DecoderRules E S} (L : DecodesWell rules) (part
   -- an addition isn't read
   pub addition_unread : {e : E} → rules.memory e m ⊎ Refuses (ReadsAdditions rules (additions (rules.levels m))) (λ e. FaultyAdditions rules e (additions (rules.levels m))) e m
       → rules.memory e s ⊎ ReadsNoFields rules (parts (rules.levels s)) (additions (rules.levels s)) e s
-  addition_unread {e} r = fails_behind_root L rs m a
+  addition_unread {e} r = fails_after_root L rs m a
       (subst (λ n. rules.memory e m ⊎ Refuses (ReadsAdditions rules (additions n)) (λ e. FaultyAdditions rules e (additions n)) e m) (parts_level L (parts (rules.levels s)) s rs m a) r)
 
 -- the same components and additions

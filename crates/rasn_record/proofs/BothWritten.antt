@@ -1,4 +1,4 @@
--- Root components of a record, and the additions behind them, over any encoder.
+-- Root components of a record, and the additions after them, over any encoder.
 use Rattle.std.proofs.Common.{◌≡◌, ◌≤◌, le_trans, ℕ, Result, List, Option}
 use Rattle.rasn_types.specs.Values.{Value}
 use Rattle.rasn_schema.specs.Schemas.{Parts}

@@ -1,5 +1,5 @@
-pub mod Behind
+pub mod RestOfLists
 pub mod Slots
 pub mod BothRead
 pub mod BothWritten
-pub mod Within
+pub mod LevelsWithin

@@ -1,26 +1,26 @@
--- One component in front of those behind it.
+-- One component in front of those after it.
 use Rattle.std.proofs.Common.{◌≡◌, arith, refl, inl, inr, ℕ, max, true, false, Result, Ok, Err, List, ◌∷◌, Option, Some, None}
 use Rattle.rasn_types.specs.Values.{Value}
 use Rattle.rasn_schema.specs.Schemas.{TagTree, Presence, required, optional, group, default, Schema, Parts, part}
 use Rattle.rasn_schema.specs.Normal.{normal, normals, settle, AtDepths}
 use Rattle.rasn_schema.specs.Records.{AtParts}
 use Rattle.rasn_traits.specs.Calls.{EncoderRules, Written, PresentsWell, DecoderRules, Answers}
-use Rattle.rasn_traits.specs.Scopes.{PresentsPart, presents_required, presents_there, presents_left_out, presents_next, refuses_here, refuses_behind, refuses_required, WrittenPart, WrittenParts, FaultyPart, faulty_required, ReadsPart, reads_required, reads_there, reads_left_out}
+use Rattle.rasn_traits.specs.Scopes.{PresentsPart, presents_required, presents_there, presents_left_out, presents_next, refuses_here, refuses_after, refuses_required, WrittenPart, WrittenParts, FaultyPart, faulty_required, ReadsPart, reads_required, reads_there, reads_left_out}
 use Rattle.rasn_record.specs.Slots.{IsComponent, normal_slot}
 
 module _ {E X : Type 0} (rules : EncoderRules E X) where
-  -- want of memory behind a component is want of memory of the whole
+  -- want of memory after a component is want of memory of the whole
   part_room : PresentsWell rules → {p : Presence} {s : Schema} {x y : X} {r : Option Value} (e : E) → PresentsPart rules p s x r y → rules.memory e y → rules.memory e x
   part_room L {x = x} {y = y} e (presents_required {s = s} {v = v} h) m = L.room x s v y e h m
   part_room L {x = x} {y = y} e (presents_there {s = s} {m = n} {v = v} i k h) m = L.mark_room x true n e k (L.room n s v y e h m)
   part_room L {x = x} {y = y} e (presents_left_out i k) m = L.mark_room x false y e k m
 
-  -- a component that is presented, and what comes of those behind it
+  -- a component that is presented, and what comes of those after it
   part_written : PresentsWell rules → (t : TagTree) (p : Presence) (s : Schema) (ps : Parts) (x m : X) (r : Option Value) (rs : List (Option Value)) → PresentsPart rules p s x r m
       → (result : Result (Unit {0}) E) (y : X) → WrittenParts rules ps rs m result y → WrittenParts rules (part t p s ps) (r ∷ rs) x result y
   part_written L t p s ps x m r rs a (Ok u) y w = presents_next a w
   part_written L t p s ps x m r rs a (Err e) y (inl h) = inl (part_room L e a h)
-  part_written L t p s ps x m r rs a (Err e) y (inr h) = inr (refuses_behind a h)
+  part_written L t p s ps x m r rs a (Err e) y (inr h) = inr (refuses_after a h)
 
   -- a component that is refused
   part_refused : (t : TagTree) (p : Presence) (s : Schema) (ps : Parts) (x y : X) (r : Option Value) (rs : List (Option Value)) (e : E)
@@ -39,7 +39,7 @@ part_normal t group s ps r rs h = absurd h
 part_normal t (default d) s ps None rs h = refl
 part_normal t (default d) s ps (Some v) rs h = refl
 
--- a component that is presented, and what is written behind it, by their normal forms at each depth
+-- a component that is presented, and what is written after it, by their normal forms at each depth
 pub next_written : {E X : Type 0} {rules : EncoderRules E X} → PresentsWell rules → (t : TagTree) (p : Presence) (schema : ℕ → Schema) (parts : ℕ → Parts) (k j : ℕ) (x m : X) (r : Option Value) (rs : List (Option Value)) → IsComponent p
     → AtDepths schema k (λ s. PresentsPart rules p s x (normal_slot s r) m) → (result : Result (Unit {0}) E) (y : X) → AtParts parts j (λ ps. WrittenParts rules ps (normals ps rs) m result y)
     → AtParts (λ n. part t p (schema n) (parts n)) (max k j) (λ ps. WrittenParts rules ps (normals ps (r ∷ rs)) x result y)

@@ -1,5 +1,5 @@
-pub mod Few
+pub mod StatedComponents
 pub mod Lists
-pub mod Places
-pub mod Sixteens
+pub mod ConstraintsAt
+pub mod RequiredComponents
 pub mod Slots

@@ -8,7 +8,7 @@ use Rattle.rasn_schema.specs.Components.{TypeLists, added_parts, root_parts}
 use Rattle.rasn_schema.specs.Schemas.{Parts, Tag, TagTree, no_parts}
 use Rattle.rasn_schema.specs.Fields.{Shape}
 
--- those behind the first
+-- those after the first
 abbrev pub behind : {A : Type 0} → List A → List A
 behind [] = []
 behind (x ∷ xs) = xs
@@ -28,7 +28,7 @@ abbrev pub first_tree : TagTree → List Shape → TagTree
 first_tree own [] = own
 first_tree own (f ∷ fs) = tree_or own f.tree
 
--- constraints that stand in the place of a type's own: those of a list, where it has some
+-- constraints that are in the place of a type's own: those of a list, where it has some
 abbrev pub given : List Constraint → Option Effective
 given [] = None
 given (c ∷ cs) = Some (effective (c ∷ cs))

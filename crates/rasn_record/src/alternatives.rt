@@ -2,7 +2,7 @@
 
 ghost use Rattle.std.specs.Prelude.{◌≡◌, ◌≤◌, ℕ, Some};
 ghost use Rattle.rasn_schema.specs.Structures.{alternative_at, tag_of};
-ghost use Rattle.rasn_schema.specs.Choices.{choices_of, place_of, variants_behind};
+ghost use Rattle.rasn_schema.specs.Choices.{choices_of, place_of, variants_after};
 ghost use Rattle.rasn_schema.specs.Components.{added_parts, chosen, chosen_behind, root_parts};
 ghost use Rattle.rasn_schema.specs.Records.{own_or};
 ghost use Rattle.rasn_traits.specs.Calls.{Reads};
@@ -40,9 +40,9 @@ pub fn write<T: Alternatives, H: Encode, E: Encoder>(
     value.encode_with_tag_and_constraints(encoder, tag, &in_use, H::IDENTIFIER)
 }
 
-/// Writes the value of the alternative at a place behind the extension marker, which goes by a tag. Its constraints are
+/// Writes the value of the alternative at a place after the extension marker, which goes by a tag. Its constraints are
 /// its type's own where none are given.
-pub fn write_behind<T: Alternatives, H: Encode, E: Encoder>(
+pub fn write_after<T: Alternatives, H: Encode, E: Encoder>(
     of: &T,
     place: usize,
     tag: Tag,
@@ -50,7 +50,7 @@ pub fn write_behind<T: Alternatives, H: Encode, E: Encoder>(
     value: &H,
     encoder: &mut E,
 ) -> Result<(), E::Error>
-    requires tag { place_of (tag_of tag) (variants_behind T.ALTERNATIVES.behind) ≡ Some place }
+    requires tag { place_of (tag_of tag) (variants_after T.ALTERNATIVES.behind) ≡ Some place }
     requires schema { (n : ℕ) → alternative_at (added_parts T.alternatives.0 n) place
         ≡ Some (H.schema (own_or H.CONSTRAINTS (given constraints.now)) n) }
     requires value { T.chosen of.now ≡ chosen_behind place (H.value value.now) }

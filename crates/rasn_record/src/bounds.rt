@@ -11,7 +11,7 @@ pub struct BoundLists {
     pub added: &'static [&'static [Constraint<'static>]],
 }
 
-/// The constraints of a record's components, behind one reference: a body that names a constant of them has one value
+/// The constraints of a record's components, after one reference: a body that names a constant of them has one value
 /// of it, of a short type.
 #[derive(Clone, Copy)]
 pub struct Bounds {

@@ -1,15 +1,15 @@
-//! One alternative of a CHOICE, as a list states it, whose constraints stand at its place in another.
+//! One alternative of a CHOICE, as a list states it, whose constraints are at its place in another.
 
 ghost use Rattle.std.specs.Prelude.{◌≡◌, ◌<◌, ◌≤◌, ℕ, [], Some, length};
 ghost use Rattle.rasn_schema.specs.Structures.{alternative_at, tag_of};
-ghost use Rattle.rasn_schema.specs.Choices.{choices_of, place_of, variants_behind};
+ghost use Rattle.rasn_schema.specs.Choices.{choices_of, place_of, variants_after};
 ghost use Rattle.rasn_schema.specs.declared.items.Place.TheVariants.{Root};
 ghost use Rattle.rasn_schema.specs.Components.{added_parts, chosen, chosen_behind, root_parts};
 ghost use Rattle.rasn_schema.specs.Records.{own_or};
 ghost use Rattle.rasn_traits.specs.Calls.{Reads};
 ghost use Rattle.rasn_traits.specs.Choices.{IsPlaceOf, WritesChosen};
 ghost use Rattle.rasn_record.specs.Lists.{given};
-ghost use Rattle.rasn_record.specs.Places.{given_at};
+ghost use Rattle.rasn_record.specs.ConstraintsAt.{given_at};
 
 use crate::alternatives;
 use crate::bounds::Bounds;
@@ -33,7 +33,7 @@ fn limits_at(
 }
 
 /// Writes the value of the alternative at a place before the extension marker, which goes by a tag. Its constraints
-/// stand at its place in a list, or are its type's own where none are given.
+/// are at its place in a list, or are its type's own where none are given.
 #[inline(always)]
 pub fn write<T: Alternatives, H: Encode, E: Encoder>(
     of: &T,
@@ -56,10 +56,10 @@ pub fn write<T: Alternatives, H: Encode, E: Encoder>(
     alternatives::write(of, place, tag, limits, value, encoder)
 }
 
-/// Writes the value of the alternative at a place behind the extension marker, which goes by a tag. Its constraints
-/// stand at its place in a list, or are its type's own where none are given.
+/// Writes the value of the alternative at a place after the extension marker, which goes by a tag. Its constraints
+/// are at its place in a list, or are its type's own where none are given.
 #[inline(always)]
-pub fn write_behind<T: Alternatives, H: Encode, E: Encoder>(
+pub fn write_after<T: Alternatives, H: Encode, E: Encoder>(
     of: &T,
     place: usize,
     tag: Tag,
@@ -67,7 +67,7 @@ pub fn write_behind<T: Alternatives, H: Encode, E: Encoder>(
     value: &H,
     encoder: &mut E,
 ) -> Result<(), E::Error>
-    requires tag { place_of (tag_of tag) (variants_behind T.ALTERNATIVES.behind) ≡ Some place }
+    requires tag { place_of (tag_of tag) (variants_after T.ALTERNATIVES.behind) ≡ Some place }
     requires schema { (n : ℕ) → alternative_at (added_parts T.alternatives.0 n) place
         ≡ Some (H.schema (own_or H.CONSTRAINTS (given_at bounds.lists.now.added.now place)) n) }
     requires value { T.chosen of.now ≡ chosen_behind place (H.value value.now) }
@@ -77,10 +77,10 @@ pub fn write_behind<T: Alternatives, H: Encode, E: Encoder>(
         (T.chosen of.now) (T.depth of.now) encoder.old result encoder.new }
 {
     let limits = limits_at(bounds.lists.added, place);
-    alternatives::write_behind(of, place, tag, limits, value, encoder)
+    alternatives::write_after(of, place, tag, limits, value, encoder)
 }
 
-/// Reads the alternative at a place before the extension marker under a tag. Its constraints stand at its place in a
+/// Reads the alternative at a place before the extension marker under a tag. Its constraints are at its place in a
 /// list, or are its type's own where none are given.
 #[inline(always)]
 pub fn read<H: Decode, D: Decoder>(
@@ -96,10 +96,10 @@ pub fn read<H: Decode, D: Decoder>(
     alternatives::read::<H, D>(decoder, tag, limits)
 }
 
-/// Reads the alternative at a place behind the extension marker under a tag. Its constraints stand at its place in a
+/// Reads the alternative at a place after the extension marker under a tag. Its constraints are at its place in a
 /// list, or are its type's own where none are given.
 #[inline(always)]
-pub fn read_behind<H: Decode, D: Decoder>(
+pub fn read_after<H: Decode, D: Decoder>(
     decoder: &mut D,
     tag: Tag,
     bounds: Bounds,
@@ -112,10 +112,10 @@ pub fn read_behind<H: Decode, D: Decoder>(
     alternatives::read::<H, D>(decoder, tag, limits)
 }
 
-/// The index of the alternative at a place of a list without one behind an extension marker.
+/// The index of the alternative at a place of a list without one after an extension marker.
 #[inline(always)]
 pub fn index_before<T: Alternatives>(place: Place) -> usize
-    requires none { variants_behind T.ALTERNATIVES.behind ≡ [] }
+    requires none { variants_after T.ALTERNATIVES.behind ≡ [] }
     requires there { IsPlaceOf T.ALTERNATIVES.before T.ALTERNATIVES.behind place }
     ensures stands { place ≡ Root result }
     ensures within { result < length T.ALTERNATIVES.before }

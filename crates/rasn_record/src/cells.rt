@@ -1,4 +1,4 @@
-//! Cells, of which the list of a record's components is made. Their tags and constraints stand in lists beside them.
+//! Cells, of which the list of a record's components is made. Their tags and constraints are in lists beside them.
 
 ghost use Rattle.std.specs.Prelude.{◌≡◌, ◌≤◌, ℕ, List, [], ◌∷◌, Option, map, refl};
 ghost use Rattle.std.proofs.Common.{arith};
@@ -81,7 +81,7 @@ pub trait EncodeEachAddition: EncodeAdditions {
 
 /// Components of a record that are still to be read, of which lists state the tags and the constraints.
 pub trait DecodeCells {
-    /// What they are: a pair of the first and of those behind it, and `()` at the end.
+    /// What they are: a pair of the first and of those after it, and `()` at the end.
     type Values: Drop;
 
     // The components, by what the lists state of them, to a number of levels.
@@ -105,12 +105,12 @@ pub trait DecodeCells {
 #[derive(Clone, Copy)]
 pub struct End {}
 
-/// A component, and those behind it.
+/// A component, and those after it.
 #[derive(Clone, Copy)]
 pub struct Cell<C, N> {
     /// The component.
     pub component: C,
-    /// The components behind it.
+    /// The components after it.
     pub next: N,
 }
 
@@ -198,7 +198,7 @@ pub fn given_or_own(
     }
 }
 
-/// Those behind the first of a list.
+/// Those after the first of a list.
 pub fn behind<T>(list: &[T]) -> &[T]
     ensures { result.now ≡ behind list.now }
 {

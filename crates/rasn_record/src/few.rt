@@ -5,12 +5,13 @@ ghost use Rattle.rasn_schema.specs.Components.{added_parts, root_parts};
 ghost use Rattle.rasn_schema.specs.Schemas.{no_parts};
 ghost use Rattle.rasn_traits.specs.Scopes.{TakesFields, WritesFields};
 ghost use Rattle.rasn_record.specs.Lists.{AreWithin};
-ghost use Rattle.rasn_record.specs.Few.{kept, kept_parts};
+ghost use Rattle.rasn_record.specs.StatedComponents.{kept, kept_parts};
 
 use crate::bounds::Bounds;
-use crate::cells::{Cell, End, OfRecord};
+use crate::cells::{Cell, End, OfRecord, behind, read_first};
 use crate::components::{DecodeComponent, EncodeComponent};
-use crate::{read, write};
+use crate::fields::root;
+use crate::write;
 use rasn_codec::codec::{Decoder, Encoder};
 use rasn_schema::components::Components;
 use std::marker::PhantomData;
@@ -58,12 +59,10 @@ where
     ensures { TakesFields X.rules (root_parts T.components.0) (added_parts T.components.0)
         (λ xs. A.slot xs ∷ []) (λ _. []) decoder.old result decoder.new }
 {
-    let cells = Cell {
-        component: a,
-        next: End {},
-    };
-    let (a, ()) = read::plain::<T, _, _>(cells, bounds, decoder)?;
-    Ok(a)
+    let fields = root::<T>();
+    let limits = bounds.lists.root;
+    let first = read_first(&a, fields, limits, decoder)?;
+    Ok(first)
 }
 
 /// Writes all components of a record: two. Their tags are those of the record's own fields.
@@ -121,15 +120,13 @@ where
     ensures { TakesFields X.rules (root_parts T.components.0) (added_parts T.components.0)
         (λ xs. A.slot xs.0 ∷ B.slot xs.1 ∷ []) (λ _. []) decoder.old result decoder.new }
 {
-    let cells = Cell {
-        component: a,
-        next: Cell {
-            component: b,
-            next: End {},
-        },
-    };
-    let (a, (b, ())) = read::plain::<T, _, _>(cells, bounds, decoder)?;
-    Ok((a, b))
+    let fields = root::<T>();
+    let limits = bounds.lists.root;
+    let first = read_first(&a, fields, limits, decoder)?;
+    let fields_2 = behind(fields);
+    let limits_2 = behind(limits);
+    let second = read_first(&b, fields_2, limits_2, decoder)?;
+    Ok((first, second))
 }
 
 /// Writes all components of a record: three. Their tags are those of the record's own fields.
@@ -195,18 +192,16 @@ where
     ensures { TakesFields X.rules (root_parts T.components.0) (added_parts T.components.0)
         (λ xs. A.slot xs.0 ∷ B.slot xs.1 ∷ C.slot xs.2 ∷ []) (λ _. []) decoder.old result decoder.new }
 {
-    let cells = Cell {
-        component: a,
-        next: Cell {
-            component: b,
-            next: Cell {
-                component: c,
-                next: End {},
-            },
-        },
-    };
-    let (a, (b, (c, ()))) = read::plain::<T, _, _>(cells, bounds, decoder)?;
-    Ok((a, b, c))
+    let fields = root::<T>();
+    let limits = bounds.lists.root;
+    let first = read_first(&a, fields, limits, decoder)?;
+    let fields_2 = behind(fields);
+    let limits_2 = behind(limits);
+    let second = read_first(&b, fields_2, limits_2, decoder)?;
+    let fields_3 = behind(fields_2);
+    let limits_3 = behind(limits_2);
+    let third = read_first(&c, fields_3, limits_3, decoder)?;
+    Ok((first, second, third))
 }
 
 /// Writes all components of a record: four. Their tags are those of the record's own fields.
@@ -280,19 +275,17 @@ where
     ensures { TakesFields X.rules (root_parts T.components.0) (added_parts T.components.0)
         (λ xs. A.slot xs.0 ∷ B.slot xs.1 ∷ C.slot xs.2 ∷ D.slot xs.3 ∷ []) (λ _. []) decoder.old result decoder.new }
 {
-    let cells = Cell {
-        component: a,
-        next: Cell {
-            component: b,
-            next: Cell {
-                component: c,
-                next: Cell {
-                    component: d,
-                    next: End {},
-                },
-            },
-        },
-    };
-    let (a, (b, (c, (d, ())))) = read::plain::<T, _, _>(cells, bounds, decoder)?;
-    Ok((a, b, c, d))
+    let fields = root::<T>();
+    let limits = bounds.lists.root;
+    let first = read_first(&a, fields, limits, decoder)?;
+    let fields_2 = behind(fields);
+    let limits_2 = behind(limits);
+    let second = read_first(&b, fields_2, limits_2, decoder)?;
+    let fields_3 = behind(fields_2);
+    let limits_3 = behind(limits_2);
+    let third = read_first(&c, fields_3, limits_3, decoder)?;
+    let fields_4 = behind(fields_3);
+    let limits_4 = behind(limits_3);
+    let fourth = read_first(&d, fields_4, limits_4, decoder)?;
+    Ok((first, second, third, fourth))
 }

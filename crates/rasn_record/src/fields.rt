@@ -1,7 +1,7 @@
 //! The fields of a record, as it states them.
 
 ghost use Rattle.std.specs.Prelude.{◌≡◌, map};
-ghost use Rattle.rasn_schema.specs.Extensions.{fields_behind};
+ghost use Rattle.rasn_schema.specs.Extensions.{fields_after};
 ghost use Rattle.rasn_schema.specs.Fields.{shape_of};
 
 use rasn_schema::components::Components;
@@ -16,7 +16,7 @@ pub fn root<T: Components>() -> &'static [Field]
 
 /// The fields of its additions, of which there are none without an extension marker.
 pub fn added<T: Components>() -> &'static [Field]
-    ensures { map shape_of result.now ≡ fields_behind T.COMPONENTS.behind }
+    ensures { map shape_of result.now ≡ fields_after T.COMPONENTS.behind }
 {
     match T::COMPONENTS.added {
         Some(list) => list,

@@ -16,7 +16,7 @@ use rasn_codec::codec::{Decoder, Encoder};
 use rasn_schema::constraints::Constraint;
 use rasn_schema::fields::Field;
 
-/// Four components, and those behind them.
+/// Four components, and those after them.
 #[derive(Clone, Copy)]
 pub struct FourCells<A, B, C, D, N> {
     /// The first component.
@@ -27,7 +27,7 @@ pub struct FourCells<A, B, C, D, N> {
     pub third: C,
     /// The fourth one.
     pub fourth: D,
-    /// The components behind them.
+    /// The components after them.
     pub next: N,
 }
 

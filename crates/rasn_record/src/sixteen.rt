@@ -6,7 +6,7 @@ ghost use Rattle.rasn_schema.specs.Components.{added_parts, root_parts};
 ghost use Rattle.rasn_schema.specs.Schemas.{no_parts};
 ghost use Rattle.rasn_traits.specs.Scopes.{TakesFields, WritesFields};
 ghost use Rattle.rasn_record.specs.Lists.{AreWithin};
-ghost use Rattle.rasn_record.specs.Sixteens.{typed, typed_parts};
+ghost use Rattle.rasn_record.specs.RequiredComponents.{typed, typed_parts};
 
 use crate::bounds::Bounds;
 use crate::cells::{DecodeCells, EncodeCells, GivesBounds, OfRecord};

@@ -24,7 +24,7 @@ module _ {A : Type 0} (less : A → A → Bool) (asym : (x y : A) → less x y �
   here : (x z : A) (l : List A) → less z x ≡ false → put less x (z ∷ l) ≡ x ∷ z ∷ l
   here x z l e = ap (λ c. cond c (z ∷ put less x l) (x ∷ z ∷ l)) e
 
-  -- before a list where both stand in front
+  -- before a list where both are in front
   two : (x y : A) (l : List A) (a b : Bool) → less y x ≡ a → less x y ≡ b → cond a (y ∷ x ∷ l) (x ∷ y ∷ l) ≡ cond b (x ∷ y ∷ l) (y ∷ x ∷ l)
   two x y l true true e f = let h : less x y ≡ false = asym y x e in absurd (cc)
   two x y l true false e f = refl

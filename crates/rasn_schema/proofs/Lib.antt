@@ -1,7 +1,7 @@
 pub mod Bags
 pub mod Canonised
 pub mod Places
-pub mod Both
+pub mod DistinctAlternatives
 pub mod Sorting
 pub mod TagOrder
 pub mod TreeTags

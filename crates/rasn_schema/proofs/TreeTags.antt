@@ -33,14 +33,14 @@ there_both_ways None (Some t) = refl
 there_both_ways (Some s) None = refl
 there_both_ways (Some s) (Some t) = ap Some (lesser_both_ways s t)
 
--- of tags behind others
-pub least_behind : (ts us : List Tag) → least (ts ++ us) ≡ lesser_there (least ts) (least us)
-least_behind [] us = refl
-least_behind (t ∷ ts) us = ap (lesser_there (Some t)) (least_behind ts us) ∙ sym (there_through (Some t) (least ts) (least us))
+-- of tags after others
+pub least_after : (ts us : List Tag) → least (ts ++ us) ≡ lesser_there (least ts) (least us)
+least_after [] us = refl
+least_after (t ∷ ts) us = ap (lesser_there (Some t)) (least_after ts us) ∙ sym (there_through (Some t) (least ts) (least us))
 
-pub has_behind : (t : Tag) (us vs : List Tag) → has_tag t (us ++ vs) ≡ (has_tag t us || has_tag t vs)
-has_behind t [] vs = refl
-has_behind t (u ∷ us) vs = go (same_tag t u) (has_behind t us vs)
+pub has_after : (t : Tag) (us vs : List Tag) → has_tag t (us ++ vs) ≡ (has_tag t us || has_tag t vs)
+has_after t [] vs = refl
+has_after t (u ∷ us) vs = go (same_tag t u) (has_after t us vs)
   where
     go : (b : Bool) → has_tag t (us ++ vs) ≡ (has_tag t us || has_tag t vs) → (b || has_tag t (us ++ vs)) ≡ ((b || has_tag t us) || has_tag t vs)
     go true h = refl
@@ -51,13 +51,13 @@ pub has_from : (t : Tag) (xs : List TagTree) (i : ℕ) (x : TagTree) → i < len
     → has_tag t (one_after_another (map leaves_in (drop i xs))) ≡ (has_tag t (leaves_in x) || has_tag t (one_after_another (map leaves_in (drop (i + 1) xs))))
 has_from t xs i x l e =
     ap (λ ys. has_tag t (one_after_another (map leaves_in ys))) (drop_more xs i x l ∙ ap (λ y. y ∷ drop (i + 1) xs) (sym e))
-    ∙ has_behind t (leaves_in x) (one_after_another (map leaves_in (drop (i + 1) xs)))
+    ∙ has_after t (leaves_in x) (one_after_another (map leaves_in (drop (i + 1) xs)))
 
 pub least_from : (xs : List TagTree) (i : ℕ) (x : TagTree) → i < length xs → x ≡ get_or xs i x
     → least (one_after_another (map leaves_in (drop i xs))) ≡ lesser_there (least (leaves_in x)) (least (one_after_another (map leaves_in (drop (i + 1) xs))))
 least_from xs i x l e =
     ap (λ ys. least (one_after_another (map leaves_in ys))) (drop_more xs i x l ∙ ap (λ y. y ∷ drop (i + 1) xs) (sym e))
-    ∙ least_behind (leaves_in x) (one_after_another (map leaves_in (drop (i + 1) xs)))
+    ∙ least_after (leaves_in x) (one_after_another (map leaves_in (drop (i + 1) xs)))
 
 -- the smallest tag of a tag tree is the least of its leaves
 mutual
@@ -65,12 +65,12 @@ mutual
 
   pub smallest_is_least : (t : Schemas.TagTree) → least (leaves t) ≡ Some (smallest t)
   smallest_is_least (leaf t) = refl
-  smallest_is_least (one_of t ts) = least_behind (leaves t) (leaves_of ts) ∙ ap (λ o. lesser_there o (least (leaves_of ts))) (smallest_is_least t) ∙ least_of_is_least (smallest t) ts
+  smallest_is_least (one_of t ts) = least_after (leaves t) (leaves_of ts) ∙ ap (λ o. lesser_there o (least (leaves_of ts))) (smallest_is_least t) ∙ least_of_is_least (smallest t) ts
 
   pub least_of_is_least : (t : Tag) (ts : TagTrees) → lesser_there (Some t) (least (leaves_of ts)) ≡ Some (least_of t ts)
   least_of_is_least t no_trees = refl
   least_of_is_least t (tree u us) =
-      ap (lesser_there (Some t)) (least_behind (leaves u) (leaves_of us))
+      ap (lesser_there (Some t)) (least_after (leaves u) (leaves_of us))
       ∙ there_both_ways (Some t) (lesser_there (least (leaves u)) (least (leaves_of us)))
       ∙ there_through (least (leaves u)) (least (leaves_of us)) (Some t)
       ∙ ap (lesser_there (least (leaves u))) (there_both_ways (least (leaves_of us)) (Some t) ∙ least_of_is_least t us)
@@ -79,11 +79,11 @@ mutual
 -- a tree without further ones
 leaves_alone : (t : Schemas.TagTree) → leaves_of (tree t no_trees) ≡ leaves t
 unfolding leaves
-leaves_alone t = behind_none (leaves t)
+leaves_alone t = after_none (leaves t)
   where
-    behind_none : (ts : List Tag) → (ts ++ []) ≡ ts
-    behind_none [] = refl
-    behind_none (t ∷ ts) = ap (λ us. t ∷ us) (behind_none ts)
+    after_none : (ts : List Tag) → (ts ++ []) ≡ ts
+    after_none [] = refl
+    after_none (t ∷ ts) = ap (λ us. t ∷ us) (after_none ts)
 
 -- the leaves of a constant's tree are those of the tag tree that it states
 abbrev HasLeaves : TagTree → Type 0

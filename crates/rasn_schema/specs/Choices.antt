@@ -1,7 +1,7 @@
--- Choices (X.680 29): their alternatives, each by its list, before the extension marker or behind it, and its place
+-- Choices (X.680 29): their alternatives, each by its list, before the extension marker or after it, and its place
 -- there; and their schemas to a number of levels.
 use Rattle.std.specs.Prelude.{ℕ, zero, suc, ◌≡◌, Bool, true, false, nat_le, List, [], ◌∷◌, ◌++◌, length, map, Option}
-use Rattle.std.specs.Prelude.{Some, None}
+use Rattle.std.specs.Prelude.{Some, None, ◌^◌}
 use Rattle.std.specs.List.{position_from}
 use Rattle.rasn_types.specs.declared.types.TheConstants.Tag.{EOC}
 use Rattle.rasn_types.specs.Values.{Side, root, added}
@@ -22,7 +22,7 @@ pub record VariantShape : Type 0 where
   pub tag : Schemas.Tag
   pub tree : Option Schemas.TagTree
 
--- the variants of a choice as its type lists them (X.680 29.1): those before its extension marker, and those behind it,
+-- the variants of a choice as its type lists them (X.680 29.1): those before its extension marker, and those after it,
 -- where it has one
 pub record VariantShapes : Type 0 where
   pub before : List VariantShape
@@ -54,12 +54,12 @@ trees_in (part t p s ps) = tree t (trees_in ps)
 abbrev pub tree_with : List VariantShape → Option Schemas.TagTree
 tree_with vs = choice_tree (trees_of (map (λ v. v.tree) vs))
 
--- the variants behind an extension marker, where there is one
-abbrev pub variants_behind : Option (List VariantShape) → List VariantShape
-variants_behind None = []
-variants_behind (Some vs) = vs
+-- the variants after an extension marker, where there is one
+abbrev pub variants_after : Option (List VariantShape) → List VariantShape
+variants_after None = []
+variants_after (Some vs) = vs
 
--- X.680 29.1: a choice has an extension marker exactly where it states a list of variants behind one (this project's
+-- X.680 29.1: a choice has an extension marker exactly where it states a list of variants after one (this project's
 -- profile)
 abbrev pub is_extensible : Option (List VariantShape) → Bool
 is_extensible None = false
@@ -68,7 +68,7 @@ is_extensible (Some vs) = true
 -- the variants of one of the two lists
 abbrev pub variants_on : Side → List VariantShape → Option (List VariantShape) → List VariantShape
 variants_on root vs xs = vs
-variants_on added vs xs = variants_behind xs
+variants_on added vs xs = variants_after xs
 
 -- the place in a list of the alternative that goes by a tag
 abbrev pub place_of : Schemas.Tag → List VariantShape → Option ℕ
@@ -76,11 +76,11 @@ place_of t vs = position_from (same_tag t) 0 (go_by vs)
 
 -- Where the alternative stands that goes by a tag, if one does. No other goes by it.
 abbrev pub StandsAt : Schemas.Tag → List VariantShape → Option (List VariantShape) → Option Place → Type 0
-StandsAt t vs xs None = (place_of t vs ≡ None) × (place_of t (variants_behind xs) ≡ None)
-StandsAt t vs xs (Some (Root i)) = (place_of t vs ≡ Some i) × (place_of t (variants_behind xs) ≡ None)
-StandsAt t vs xs (Some (Added i)) = (place_of t vs ≡ None) × (place_of t (variants_behind xs) ≡ Some i)
+StandsAt t vs xs None = (place_of t vs ≡ None) × (place_of t (variants_after xs) ≡ None)
+StandsAt t vs xs (Some (Root i)) = (place_of t vs ≡ Some i) × (place_of t (variants_after xs) ≡ None)
+StandsAt t vs xs (Some (Added i)) = (place_of t vs ≡ None) × (place_of t (variants_after xs) ≡ Some i)
 
--- a choice with these variants behind an extension marker, where there is one, to a number of levels of its
+-- a choice with these variants after an extension marker, where there is one, to a number of levels of its
 -- alternatives
 abbrev pub choices_of : (ℕ → Parts) → Option (List VariantShape) → (ℕ → Parts) → ℕ → Schema
 choices_of alternatives xs behind n = choice_schema (alternatives n) (is_extensible xs) (behind n)
@@ -94,11 +94,11 @@ one_level_in trees (suc n) = trees n
 abbrev pub choice_at : (ℕ → Parts) → Option (List VariantShape) → (ℕ → Parts) → ℕ → Schema
 choice_at alternatives xs behind = one_level_in (choices_of alternatives xs behind)
 
--- X.680 29.3: alternatives that are told apart by their tags, those of both lists, and at most 65536 of them before the
--- marker (this project's limit)
+-- X.680 29.3: alternatives that are told apart by their tags, those of both lists; before the marker there are no more
+-- than a slice holds
 pub record AreVariants (vs : List VariantShape) (xs : Option (List VariantShape)) : Type 0 where
-  pub distinct : are_distinct (go_by vs ++ go_by (variants_behind xs)) ≡ true
-  pub few : nat_le (length vs) 65536 ≡ true
+  pub distinct : are_distinct (go_by vs ++ go_by (variants_after xs)) ≡ true
+  pub few : nat_le (length vs) (2 ^ 64) ≡ true
 
 -- a choice leaves one level less for its alternatives
 pub choice_levelled : (xs : Option (List VariantShape)) {alternatives behind : ℕ → Parts} → LevelledParts alternatives

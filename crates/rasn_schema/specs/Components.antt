@@ -14,7 +14,7 @@ use Rattle.rasn_schema.specs.Schemas
 use Rattle.rasn_schema.specs.Schemas.{Schema, TagTree, TagTrees, leaf, one_of, no_trees, tree, Presence, Parts}
 use Rattle.rasn_schema.specs.Schemas.{no_parts, part, listed}
 use Rattle.rasn_schema.specs.Choices.{VariantShape, VariantShapes, choice_at, choice_levelled, trees_in}
-use Rattle.rasn_schema.specs.Choices.{variants_behind, variants_of}
+use Rattle.rasn_schema.specs.Choices.{variants_after, variants_of}
 use Rattle.rasn_schema.specs.Fields.{Shape, Shapes, presence_of, shapes_from}
 use Rattle.rasn_schema.specs.Structures.{field_tag, record_value}
 use Rattle.rasn_schema.specs.Forms.{number_schema, octet_schema, bit_schema, named_bit_schema, character_schema}
@@ -40,15 +40,15 @@ parts_of [] n = no_parts
 parts_of (c ∷ cs) n = part c.tags c.presence (c.schema n) (parts_of cs n)
 
 -- X.680 25.1, 29.1: the components of a record, or the alternatives of a choice, as a type lists them: those before its
--- extension marker, and those behind it, where it has one
+-- extension marker, and those after it, where it has one
 pub record TypeLists : Type 0 where
   pub before : List Component
   pub behind : Option (List Component)
 
--- the components behind an extension marker, where there is one
-abbrev pub components_behind : Option (List Component) → List Component
-components_behind None = []
-components_behind (Some cs) = cs
+-- the components after an extension marker, where there is one
+abbrev pub components_after : Option (List Component) → List Component
+components_after None = []
+components_after (Some cs) = cs
 
 -- whether there is a marker
 abbrev pub has_marker : Option (List Component) → Bool
@@ -61,7 +61,7 @@ root_parts cs = parts_of cs.before
 
 -- the additions, to a number of levels
 abbrev pub added_parts : TypeLists → ℕ → Parts
-added_parts cs = parts_of (components_behind cs.behind)
+added_parts cs = parts_of (components_after cs.behind)
 
 -- a SEQUENCE of these components, to a number of levels
 abbrev pub sequence_at : TypeLists → ℕ → Schema
@@ -77,7 +77,7 @@ components_levelled (c ∷ cs) = part_levelled c.levelled (components_levelled c
 
 pub sequence_levelled : (cs : TypeLists) → Levelled (sequence_at cs)
 sequence_levelled cs = record_levelled (components_levelled cs.before)
-    (components_levelled (components_behind cs.behind))
+    (components_levelled (components_after cs.behind))
 
 -- the fields of components, in order, counted from a number
 abbrev pub fields_from : ℕ → List Component → List Shape
@@ -94,7 +94,7 @@ fields_from i (c ∷ cs) = record {
 abbrev pub fields_in : List Component → List Shape
 fields_in cs = fields_from 0 cs
 
--- the fields behind an extension marker, where there is one
+-- the fields after an extension marker, where there is one
 abbrev pub added_fields : Option (List Component) → Option (List Shape)
 added_fields None = None
 added_fields (Some cs) = Some (fields_in cs)
@@ -113,7 +113,7 @@ fields_from_parts i (c ∷ cs) n =
 pub fields_described : (cs : List Component) (n : ℕ) → fields_in cs ≡ shapes_from 0 (parts_of cs n)
 fields_described cs n = fields_from_parts 0 cs n
 
--- What stands at a place, from 0.
+-- What is at a place, from 0.
 abbrev pub tags_at : List Component → ℕ → Option TagTree
 tags_at [] i = None
 tags_at (c ∷ cs) zero = Some c.tags
@@ -144,7 +144,7 @@ pub variants_described : (cs : List Component) (n : ℕ) → variants_in cs ≡ 
 variants_described [] n = refl
 variants_described (c ∷ cs) n = λ i. record { tag = field_tag c.tags; tree = Some c.tags } ∷ variants_described cs n i
 
--- the variants of alternatives behind an extension marker, where there is one
+-- the variants of alternatives after an extension marker, where there is one
 abbrev pub added_variants : Option (List Component) → Option (List VariantShape)
 added_variants None = None
 added_variants (Some cs) = Some (variants_in cs)
@@ -153,24 +153,24 @@ added_variants (Some cs) = Some (variants_in cs)
 abbrev pub variants_listed : TypeLists → VariantShapes
 variants_listed cs = record { before = variants_in cs.before; behind = added_variants cs.behind }
 
--- those behind the marker are those of the alternatives at each number of levels
-pub added_described : (xs : Option (List Component)) (n : ℕ) → variants_behind (added_variants xs)
-    ≡ variants_of (parts_of (components_behind xs) n)
+-- those after the marker are those of the alternatives at each number of levels
+pub added_described : (xs : Option (List Component)) (n : ℕ) → variants_after (added_variants xs)
+    ≡ variants_of (parts_of (components_after xs) n)
 added_described None n = refl
 added_described (Some cs) n = variants_described cs n
 
--- a choice of alternatives, and of those behind an extension marker, of which these are the variants, to a number of
+-- a choice of alternatives, and of those after an extension marker, of which these are the variants, to a number of
 -- levels
 abbrev pub alternatives_of : List Component → List Component → Option (List VariantShape) → ℕ → Schema
 alternatives_of cs behind xs = choice_at (parts_of cs) xs (parts_of behind)
 
--- a choice of alternatives, and of those behind an extension marker, where there is one, to a number of levels
+-- a choice of alternatives, and of those after an extension marker, where there is one, to a number of levels
 abbrev pub alternatives_at : List Component → Option (List Component) → ℕ → Schema
-alternatives_at cs xs = alternatives_of cs (components_behind xs) (added_variants xs)
+alternatives_at cs xs = alternatives_of cs (components_after xs) (added_variants xs)
 
 pub alternatives_levelled : (cs : List Component) (xs : Option (List Component)) → Levelled (alternatives_at cs xs)
 alternatives_levelled cs xs = choice_levelled (added_variants xs) (components_levelled cs)
-    (components_levelled (components_behind xs))
+    (components_levelled (components_after xs))
 
 -- X.680 29: the alternative that a choice's value is, by its list and its place there, and its own value
 pub record Chosen : Type 0 where
@@ -182,7 +182,7 @@ pub record Chosen : Type 0 where
 abbrev pub chosen : ℕ → Value → Chosen
 chosen i v = record { side = root; place = i; value = v }
 
--- the alternative at a place behind the extension marker
+-- the alternative at a place after the extension marker
 abbrev pub chosen_behind : ℕ → Value → Chosen
 chosen_behind i v = record { side = added; place = i; value = v }
 
@@ -440,7 +440,7 @@ optional c = record {
   fits = c.fits;
 }
 
--- a component for which a value stands where it is absent (X.680 25.6)
+-- a component for which a value is where it is absent (X.680 25.6)
 abbrev pub default : Value → Component → Component
 default d c = record {
   tags = c.tags;
@@ -474,11 +474,11 @@ abbrev pub automatic_from : ℕ → List Component → List Component
 automatic_from i [] = []
 automatic_from i (c ∷ cs) = under (at i) c ∷ automatic_from (suc i) cs
 
--- components, or alternatives, that stand under the tags that they are written with
+-- components, or alternatives, that are under the tags that they are written with
 abbrev pub own_tags : List Component → TypeLists
 own_tags cs = record { before = cs; behind = None }
 
--- those before an extension marker, and those behind it
+-- those before an extension marker, and those after it
 abbrev pub extensible_own_tags : List Component → List Component → TypeLists
 extensible_own_tags cs xs = record { before = cs; behind = Some xs }
 
@@ -486,6 +486,6 @@ extensible_own_tags cs xs = record { before = cs; behind = Some xs }
 abbrev pub automatic : List Component → TypeLists
 automatic cs = own_tags (automatic_from 0 cs)
 
--- those before an extension marker, and those behind it, which are counted on
+-- those before an extension marker, and those after it, which are counted on
 abbrev pub extensible_automatic : List Component → List Component → TypeLists
 extensible_automatic cs xs = extensible_own_tags (automatic_from 0 cs) (automatic_from (length cs) xs)

@@ -7,12 +7,12 @@ use Rattle.rasn_schema.specs.declared.items.ItemCounts.{ItemCounts}
 use Rattle.rasn_schema.specs.declared.items.Place.{Place}
 use Rattle.rasn_schema.specs.declared.items.Place.TheVariants.{Root, Added}
 
--- whether a value is an item that stands after the extension marker
+-- whether a value is an item that is after the extension marker
 abbrev pub is_added : Value → Bool
 is_added (item added i) = true
 is_added _ = false
 
--- a value is the item at an index of its list, where so many items stand before the extension marker and after it
+-- a value is the item at an index of its list, where so many items are before the extension marker and after it
 abbrev pub IsItemAt : (roots addeds : ℕ) → Value → ℕ → Type 0
 IsItemAt roots addeds (item root j) i = (i ≡ j) × (i < roots)
 IsItemAt roots addeds (item added j) i = (i ≡ j) × (i < addeds)
@@ -23,7 +23,7 @@ abbrev pub Finds : {T : Type 0} → (T → Value) → (count : ℕ) → Side →
 Finds value count side i None = count ≤ i
 Finds value count side i (Some x) = (i < count) × (value x ≡ item side i) × ((y : _) → value y ≡ item side i → y ≡ x)
 
--- how many items stand after an extension marker; without one there are none
+-- how many items are after an extension marker; without one there are none
 abbrev pub addeds_of : Option ℕ → ℕ
 addeds_of None = 0
 addeds_of (Some n) = n
@@ -53,7 +53,7 @@ abbrev pub IsPlaced : ItemCounts → Value → Place → Type 0
 IsPlaced c v (Root i) = (v ≡ item root i) × (i < c.roots)
 IsPlaced c v (Added i) = (v ≡ item added i) × (i < addeds_of c.addeds)
 
--- what stands at a place, if anything does
+-- what is at a place, if anything does
 abbrev pub FindsPlaced : {T : Type 0} → (T → Value) → ItemCounts → Place → Option T → Type 0
 FindsPlaced value c (Root i) x = Finds value c.roots root i x
 FindsPlaced value c (Added i) x = Finds value (addeds_of c.addeds) added i x

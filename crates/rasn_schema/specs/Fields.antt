@@ -58,7 +58,7 @@ pub record Shape : Type 0 where
 abbrev pub shape_of : Field → Shape
 shape_of f = record { index = f.index; tag = tag_of f.tag; tree = tree_of f.tag_tree; presence = f.presence }
 
--- the fields of a record as its type lists them (X.680 25.1): those of its root, and those behind its extension marker,
+-- the fields of a record as its type lists them (X.680 25.1): those of its root, and those after its extension marker,
 -- where it has one
 pub record Shapes : Type 0 where
   pub before : List Shape

@@ -23,7 +23,7 @@ TakesNone Schema.date = ⊥
 TakesNone Schema.cut = ⊥
 TakesNone _ = Unit {0}
 
--- The first tree is the second to n levels: a list, a bag, a record and a choice leave one less for what stands in
+-- The first tree is the second to n levels: a list, a bag, a record and a choice leave one less for what is in
 -- them; where none is left they are Cut, and a date where fewer than two are. (The second may be cut off there too.)
 mutual
   pub data ToLevels : ℕ → Schema → Schema → Type 0 where

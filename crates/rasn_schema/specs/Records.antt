@@ -16,7 +16,7 @@ no_additions n = no_parts
 pub record AtParts (parts : ℕ → Parts) (k : ℕ) (P : Parts → Type 0) : Type 0 where
   pub at : (n : ℕ) → k ≤ n → P (parts n)
 
--- a type's own constraints, unless others stand in their place
+-- a type's own constraints, unless others are in their place
 abbrev pub own_or : {A : Type 0} → A → Option A → A
 own_or c None = c
 own_or c (Some d) = d

@@ -66,7 +66,7 @@ mutual
     time : TimeKind → Schema
     -- X.691 13: INTEGER; `range` is that of the number type which holds it
     number : (bounds : Bounds) → (marked : Bool) → (range : Bounds) → Schema
-    -- X.691 14: ENUMERATED, by how many items stand before the extension marker and after it
+    -- X.691 14: ENUMERATED, by how many items are before the extension marker and after it
     items : (roots addeds : ℕ) → (extensible : Bool) → Schema
     -- X.691 17: OCTET STRING
     octet_string : Size → (marked : Bool) → Schema

@@ -46,7 +46,7 @@ alternative_in (Schema.choice ps qs marker) root i = alternative_at ps i
 alternative_in (Schema.choice ps qs marker) added i = alternative_at qs i
 alternative_in _ d i = None
 
--- X.680 29: a choice of the alternatives before an extension marker and those behind it
+-- X.680 29: a choice of the alternatives before an extension marker and those after it
 abbrev pub choice_schema : Parts → Bool → Parts → Schema
 choice_schema ps marker qs = Schema.choice ps qs marker
 
@@ -75,7 +75,7 @@ list_value vs = elements (as_values vs)
 abbrev pub no_value : Value
 no_value = day (pos 0) 0 0
 
--- a record of these root components, with or without an extension marker, and these additions behind it
+-- a record of these root components, with or without an extension marker, and these additions after it
 abbrev pub extended : Parts → Bool → Parts → Schema
 extended ps marker qs = Schema.sequence listed ps marker qs
 

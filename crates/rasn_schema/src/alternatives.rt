@@ -3,9 +3,9 @@
 ghost use Rattle.std.specs.Prelude.{◌≡◌, ℕ, suc, true};
 ghost use Rattle.std.proofs.Common.{◌∙◌, ap, sym};
 ghost use Rattle.rasn_types.specs.declared.types.TheConstants.Tag.{EOC};
-ghost use Rattle.rasn_schema.specs.Choices.{AreVariants, VariantShapes, tree_with, variants_behind};
+ghost use Rattle.rasn_schema.specs.Choices.{AreVariants, VariantShapes, tree_with, variants_after};
 ghost use Rattle.rasn_schema.specs.Components.{TypeLists, Chosen, chosen_value, added_parts, root_parts};
-ghost use Rattle.rasn_schema.specs.Components.{components_behind};
+ghost use Rattle.rasn_schema.specs.Components.{components_after};
 ghost use Rattle.rasn_schema.specs.Components.{alternatives_at, alternatives_levelled, alternatives_of};
 ghost use Rattle.rasn_schema.specs.Components.{added_variants, added_described, variants_listed, variants_described};
 ghost use Rattle.rasn_schema.specs.Tags.{choice_tag, choice_stated};
@@ -90,12 +90,12 @@ impl<T: Alternatives + OfKind<Kind = ChoiceKind>> Choice for T {
     ghost described = { λ n. ap (λ (s : VariantShapes). s.before) T.Alternatives.alternatives.1
         ∙ variants_described T.Alternatives.alternatives.0.before n };
 
-    ghost extends = { λ n. ap (λ (s : VariantShapes). variants_behind s.behind) T.Alternatives.alternatives.1
+    ghost extends = { λ n. ap (λ (s : VariantShapes). variants_after s.behind) T.Alternatives.alternatives.1
         ∙ added_described T.Alternatives.alternatives.0.behind n };
 
     ghost are_variants = { T.Alternatives.are_variants };
 
     ghost is_choice = { λ _. let cs = T.Alternatives.alternatives.0 in
-        ap (λ (s : VariantShapes). alternatives_of cs.before (components_behind cs.behind) s.behind)
+        ap (λ (s : VariantShapes). alternatives_of cs.before (components_after cs.behind) s.behind)
         (sym T.Alternatives.alternatives.1) };
 }

@@ -4,7 +4,7 @@ ghost use Rattle.std.specs.Prelude.{◌≡◌, ◌<◌, ℕ, Some, length, map, 
 ghost use Rattle.std.specs.List.{position_from};
 ghost use Rattle.rasn_schema.specs.Choices.{AreVariants, StandsAt, VariantShape, choice_at, go_by, place_of};
 ghost use Rattle.rasn_schema.specs.Choices.{stated_tag};
-ghost use Rattle.rasn_schema.specs.Choices.{variant_shape, variants_behind, variants_of};
+ghost use Rattle.rasn_schema.specs.Choices.{variant_shape, variants_after, variants_of};
 ghost use Rattle.rasn_schema.specs.Structures.{tag_of};
 ghost use Rattle.rasn_schema.specs.Lawful.{same_tag};
 ghost use Rattle.rasn_schema.specs.Schemas.{Parts};
@@ -15,7 +15,7 @@ use crate::schema::AsnType;
 use rasn_types::types::Tag;
 use std::marker::Model;
 
-/// The alternatives of a CHOICE that stand in one list, in their order. A nested untagged choice is one alternative.
+/// The alternatives of a CHOICE that are in one list, in their order. A nested untagged choice is one alternative.
 #[derive(Drop)]
 pub struct Variants {
     /// The tags of each alternative, at its index.
@@ -40,10 +40,10 @@ impl Model for Variants {
 pub struct VariantLists {
     /// The tags of each root alternative, at its index.
     pub root: &'static [TagTree],
-    /// The tags of each alternative behind the extension marker, at its index. There is a marker exactly where this is
+    /// The tags of each alternative after the extension marker, at its index. There is a marker exactly where this is
     /// `Some`.
     pub added: Option<&'static [TagTree]>,
-    /// The identifier of each alternative, in the order of the lists: the root's, and then those behind the marker.
+    /// The identifier of each alternative, in the order of the lists: the root's, and then those after the marker.
     pub identifiers: &'static [&'static str],
 }
 
@@ -86,7 +86,7 @@ impl Variants {
         index_in(self.list, tag)
     }
 
-    /// Where the alternative stands that goes by a tag: in this list, or in `added`, those behind the extension marker.
+    /// Where the alternative stands that goes by a tag: in this list, or in `added`, those after the extension marker.
     /// `None` where none goes by it.
     pub fn place_of(&self, added: &Option<Variants>, tag: Tag) -> Option<Place>
         requires { AreVariants self.now added.now }
@@ -150,27 +150,27 @@ pub trait Choice: AsnType {
 
     ghost VARIANTS: { List VariantShape };
 
-    /// The alternatives behind the extension marker, in the order of their indexes (X.691 23.5, 23.8). The choice has a
+    /// The alternatives after the extension marker, in the order of their indexes (X.691 23.5, 23.8). The choice has a
     /// marker exactly where this is `Some`, of none or of more alternatives.
     const EXTENDED_VARIANTS: Option<Variants>;
 
     ghost EXTENDED_VARIANTS: { Option (List VariantShape) };
 
-    /// The identifier of each alternative (X.680 29.1): the root's, and behind them those behind the marker; none,
+    /// The identifier of each alternative (X.680 29.1): the root's, and after them those after the marker; none,
     /// where the type names none. No clause ties them to the alternatives.
     const IDENTIFIERS: &'static [&'static str] = &[];
 
     // The root alternatives, to a number of levels.
     ghost alternatives: { ℕ → Parts };
 
-    // The alternatives behind the marker, to a number of levels.
+    // The alternatives after the marker, to a number of levels.
     ghost added: { ℕ → Parts } = { no_additions };
 
     // The variants are those of the root alternatives.
     ghost described: { (n : ℕ) → VARIANTS ≡ variants_of (alternatives n) };
 
-    // The variants behind the marker are those of the alternatives there.
-    ghost extends: { (n : ℕ) → variants_behind EXTENDED_VARIANTS ≡ variants_of (added n) };
+    // The variants after the marker are those of the alternatives there.
+    ghost extends: { (n : ℕ) → variants_after EXTENDED_VARIANTS ≡ variants_of (added n) };
 
     // No two alternatives go by one tag, and there aren't too many.
     ghost are_variants: { AreVariants VARIANTS EXTENDED_VARIANTS };

@@ -17,21 +17,21 @@ pub trait Enumerated: AsnType + Sized + Drop {
 
     ghost EXTENSIBLE: { Bool };
 
-    /// The identifier of each item (X.680 20.1): those before the extension marker, and behind them those after it;
+    /// The identifier of each item (X.680 20.1): those before the extension marker, and after them those after it;
     /// none, where the type names none. No clause ties them to the items.
     const IDENTIFIERS: &'static [&'static str] = &[];
 
-    // How many items stand before the extension marker.
+    // How many items are before the extension marker.
     ghost roots: { ℕ };
 
-    // How many items stand after the extension marker.
+    // How many items are after the extension marker.
     ghost addeds: { ℕ };
 
-    /// How many items stand before the extension marker.
+    /// How many items are before the extension marker.
     fn variance() -> usize
         ensures { result ≡ roots };
 
-    /// How many items stand after the extension marker.
+    /// How many items are after the extension marker.
     fn extended_variance() -> usize
         ensures { result ≡ addeds };
 
@@ -39,7 +39,7 @@ pub trait Enumerated: AsnType + Sized + Drop {
     fn enumeration_index(&self) -> usize
         ensures { IsItemAt roots addeds (Self.value self.now) result };
 
-    /// Whether the item stands after the extension marker.
+    /// Whether the item is after the extension marker.
     fn is_extended_variant(&self) -> bool
         ensures { result ≡ is_added (Self.value self.now) };
 

@@ -88,7 +88,7 @@ impl Model for Fields {
 pub struct FieldLists {
     /// The root components, each at its index.
     pub root: &'static [Field],
-    /// The additions behind the extension marker, each at its index. There is a marker exactly where this is `Some`.
+    /// The additions after the extension marker, each at its index. There is a marker exactly where this is `Some`.
     pub added: Option<&'static [Field]>,
 }
 
@@ -120,6 +120,7 @@ impl Fields {
     }
 
     /// How many of the components may be absent: each has a presence bit (X.691 19.2).
+    #[inline(always)]
     pub fn number_of_optional_and_default_fields(&self) -> usize
         ensures { result ≡ count_by may_be_absent self.now }
     {
@@ -155,7 +156,7 @@ pub trait Constructed: AsnType {
 
     ghost FIELDS: { List Shape };
 
-    /// The additions behind the extension marker, in the order of the type: an addition group is one of them.
+    /// The additions after the extension marker, in the order of the type: an addition group is one of them.
     const EXTENDED_FIELDS: Option<Fields>;
 
     ghost EXTENDED_FIELDS: { Option (List Shape) };
@@ -183,7 +184,7 @@ pub trait Constructed: AsnType {
     // The fields are those of the components.
     ghost described: { (n : ℕ) → FIELDS ≡ shapes_from 0 (parts n) };
 
-    // The fields behind the marker are those of the additions, which stand behind a marker alone.
+    // The fields after the marker are those of the additions, which are after a marker alone.
     ghost extends: { Extends IS_EXTENSIBLE EXTENDED_FIELDS additions };
 
     // The schema is the record of the components.

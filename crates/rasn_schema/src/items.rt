@@ -18,9 +18,9 @@ use std::marker::Model;
 /// How many items an ENUMERATED has (X.680 20).
 #[derive(Clone, Copy, Debug, PartialEq, Eq)]
 pub struct ItemCounts {
-    /// How many stand before the extension marker.
+    /// How many are before the extension marker.
     pub roots: usize,
-    /// How many stand after it, where there is one.
+    /// How many are after it, where there is one.
     pub addeds: Option<usize>,
 }
 
@@ -29,7 +29,7 @@ pub struct ItemCounts {
 pub struct ItemLists {
     /// How many they are.
     pub counts: ItemCounts,
-    /// The identifier of each item, in the order of the lists: those before the extension marker, and behind them those
+    /// The identifier of each item, in the order of the lists: those before the extension marker, and after them those
     /// after it.
     pub identifiers: &'static [&'static str],
 }

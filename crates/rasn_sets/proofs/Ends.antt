@@ -1,4 +1,4 @@
--- How the decoder stands behind items that a function gave.
+-- How the decoder is after items that a function gave.
 use Rattle.std.proofs.Common.{◌≡◌, refl, sym, subst, ℕ, ◌+◌, Bool, true, false, List, [], map, Result, Ok, Err}
 use Rattle.std.specs.Prelude.{IfOk}
 use Rattle.rasn_types.specs.declared.types.Tag.{Tag}
@@ -6,7 +6,7 @@ use Rattle.rasn_schema.specs.Fields.{Shape, shape_of}
 use Rattle.rasn_schema.specs.declared.fields.Field.{Field}
 use Rattle.rasn_traits.specs.Calls.{DecoderRules, DecodesWell}
 use Rattle.rasn_sets.specs.Components.{EndsUnfailed, last_given, none_given, MadeUnfailed}
-use Rattle.rasn_sets.specs.Turns.{Keeps, keeps, ReadsField, field_left_out, field_required, field_there, behind_kept, ReadsRoot, root_end, root_next, ReadsBehind, behind_end, behind_next}
+use Rattle.rasn_sets.specs.Turns.{Keeps, keeps, ReadsField, field_left_out, field_required, field_there, after_kept, ReadsRoot, root_end, root_next, ReadsAfter, after_end, after_next}
 
 -- what isn't failed
 pub unfailed : (b : Bool) → (b ≡ true → ⊥) → b ≡ false
@@ -31,19 +31,19 @@ module _ {E S I : Type 0} {rules : DecoderRules E S} (L : DecodesWell rules) {gi
   root_ends fs s xs t ys (root_next {f = f} {fs = gs} {m = m} {ws = ws} a b) before h =
       root_ends gs m ws t ys b (field_ends f s xs m ws a before) h
 
-  pub behind_ends : (first : ℕ) (fs : List Field) (s : S) (xs : List I) (t : S) (ys : List I) → ReadsBehind gives first fs s xs t ys
+  pub after_ends : (first : ℕ) (fs : List Field) (s : S) (xs : List I) (t : S) (ys : List I) → ReadsAfter gives first fs s xs t ys
       → (rules.failed s ≡ false → EndsUnfailed rules.failed gives xs) → rules.failed t ≡ false → EndsUnfailed rules.failed gives ys
-  behind_ends first fs s xs t ys behind_end before h = before h
-  behind_ends first fs s xs t ys (behind_next {f = f} {fs = gs} {m = m} {ws = ws} (behind_kept k) b) before h =
-      behind_ends first gs m ws t ys b (keeps_ends (first + f.index) f.tag s xs m ws k) h
+  after_ends first fs s xs t ys after_end before h = before h
+  after_ends first fs s xs t ys (after_next {f = f} {fs = gs} {m = m} {ws = ws} (after_kept k) b) before h =
+      after_ends first gs m ws t ys b (keeps_ends (first + f.index) f.tag s xs m ws k) h
 
   -- all items of a SET
   pub items_end : (first : ℕ) {shapes behind : List Shape} {s m t : S} {xs ys : List I}
       → (fs : List Field) × (map shape_of fs ≡ shapes) × ReadsRoot rules gives fs s [] m xs
-      → (bs : List Field) × (map shape_of bs ≡ behind) × ReadsBehind gives first bs m xs t ys
+      → (bs : List Field) × (map shape_of bs ≡ behind) × ReadsAfter gives first bs m xs t ys
       → rules.failed t ≡ false → EndsUnfailed rules.failed gives ys
   items_end first {s = s} {m} {t} {xs} {ys} a b =
-      behind_ends first b.0 m xs t ys b.2 (root_ends a.0 s [] m xs a.2 (λ h. none_given))
+      after_ends first b.0 m xs t ys b.2 (root_ends a.0 s [] m xs a.2 (λ h. none_given))
 
   -- the SET that is made of them
   pub made_ends : {T : Type 0} (makes : List I → Result T E → Type 0) (xs : List I) (r : Result T E) (t : S) → makes xs r

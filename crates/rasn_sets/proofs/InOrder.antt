@@ -1,4 +1,4 @@
--- What stands in ascending order of tags does so at each number of levels.
+-- What is in ascending order of tags does so at each number of levels.
 use Rattle.std.proofs.Common.{◌≡◌, refl, sym, ap, ℕ, List, [], ◌∷◌, length, Option, arith}
 use Rattle.rasn_types.specs.Values.{Value}
 use Rattle.rasn_schema.specs.Orders.{canonised, canonised_slots, by_tags}

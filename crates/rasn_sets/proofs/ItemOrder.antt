@@ -4,7 +4,7 @@ use Rattle.rasn_schema.specs.Orders.{canonised, put_part, how_many_less, insert_
 use Rattle.rasn_schema.specs.Fields.{Shape, in_tag_order, presence_of, shapes_from}
 use Rattle.rasn_schema.specs.Structures.{field_tag}
 use Rattle.rasn_schema.specs.Schemas.{TagTree, leaf, one_of, smallest, tags, Presence, Schema, Parts, no_parts, part}
-use Rattle.rasn_sets.specs.Components.{StandsAt, stands_first, stands_behind}
+use Rattle.rasn_sets.specs.Components.{StandsAt, stands_first, stands_after}
 
 -- A field states a component of a record.
 pub record IsFieldOf (ps : Parts) (f : Shape) (k : TagTree) (p : Presence) (c : Schema) : Type 0 where
@@ -18,7 +18,7 @@ pub data AreFieldsOf (ps : Parts) : List Shape → Parts → Type 0 where
   a_field : {f : Shape} {fs : List Shape} {k : TagTree} {p : Presence} {c : Schema} {cs : Parts}
       → IsFieldOf ps f k p c → AreFieldsOf ps fs cs → AreFieldsOf ps (f ∷ fs) (part k p c cs)
 
--- components that stand in a record from a place on
+-- components that are in a record from a place on
 pub record StandsFrom (ps : Parts) (i : ℕ) (cs : Parts) : Type 0 where
   pub at : (j : ℕ) (k : TagTree) (p : Presence) (c : Schema) → StandsAt k p c j cs → StandsAt k p c (i + j) ps
 
@@ -27,7 +27,7 @@ all_stand ps = record { at = λ j k p c h. let e : j ≡ 0 + j = omega arith in 
 
 others_stand : {ps : Parts} {i : ℕ} {k : TagTree} {p : Presence} {c : Schema} {cs : Parts} → StandsFrom ps i (part k p c cs) → StandsFrom ps (suc i) cs
 others_stand {ps} {i} w = record {
-  at = λ j k p c h. let e : i + suc j ≡ suc i + j = omega arith in subst (λ n. StandsAt k p c n ps) e (w.at (suc j) k p c (stands_behind h));
+  at = λ j k p c h. let e : i + suc j ≡ suc i + j = omega arith in subst (λ n. StandsAt k p c n ps) e (w.at (suc j) k p c (stands_after h));
 }
 
 first_is : {ps : Parts} {i : ℕ} {k : TagTree} {p : Presence} {c : Schema} {cs : Parts} → StandsFrom ps i (part k p c cs) → (f : Shape) → f.index ≡ i → f.tag ≡ field_tag k

@@ -1,10 +1,10 @@
 pub mod Members
 pub mod Reading
 pub mod ItemOrder
-pub mod Read
+pub mod SetReadings
 pub mod Loops
-pub mod Made
+pub mod SetsMade
 pub mod Callers
 pub mod Ends
 pub mod InOrder
-pub mod Around
+pub mod SetLaws

@@ -19,7 +19,7 @@ use Rattle.rasn_traits.specs.Presences.{left_out}
 -- The component at a place, from 0.
 pub data StandsAt (k : TagTree) (p : Presence) (c : Schema) : ℕ → Parts → Type 0 where
   stands_first : {ps : Parts} → StandsAt k p c 0 (part k p c ps)
-  stands_behind : {i : ℕ} {j : TagTree} {q : Presence} {d : Schema} {ps : Parts} → StandsAt k p c i ps
+  stands_after : {i : ℕ} {j : TagTree} {q : Presence} {d : Schema} {ps : Parts} → StandsAt k p c i ps
       → StandsAt k p c (suc i) (part j q d ps)
 
 -- A function that is lent a decoder, an index and a tag may give a result, and leave the decoder so.
@@ -90,7 +90,7 @@ IsMade rules codec ps contents added rs xs (Ok v) = (canonised_slots ps (content
 IsMade {S = S} rules codec ps contents added rs xs (Err e) = (s : S) → rules.codec s ≡ codec → rules.memory e s
 
 -- What a function owes that makes a SET of items, which a decoder of a variant answered: of those of the root
--- components that are there, in ascending order of their tags, and behind them of those of all additions, in the order
+-- components that are there, in ascending order of their tags, and after them of those of all additions, in the order
 -- of the type.
 pub record MakesSet {E S I T : Type 0} (rules : DecoderRules E S) (codec : Codec) (fields behind : List Shape)
     (ps : Parts) (contents added : T → List (Option Value)) (place : I → ℕ) (slot : I → Option Value)
@@ -113,7 +113,7 @@ abbrev pub MadeUnfailed : {S I T E : Type 0} → (S → Bool) → (S → ℕ →
     → (List I → Result T E → Type 0) → T → Type 0
 MadeUnfailed {I = I} failed gives makes v = (xs : List I) × makes xs (Ok v) × EndsUnfailed failed gives xs
 
--- A SET as its type states it: the fields of its root and those behind its marker, its components and additions to a
+-- A SET as its type states it: the fields of its root and those after its marker, its components and additions to a
 -- number of levels, and whether it has a marker.
 pub record StatedSet : Type 0 where
   pub fields : List Shape
@@ -122,7 +122,7 @@ pub record StatedSet : Type 0 where
   pub marker : Bool
   pub additions : ℕ → Parts
 
--- A SET by its fields, those behind its marker, its components, its marker and its additions.
+-- A SET by its fields, those after its marker, its components, its marker and its additions.
 abbrev pub stated_set : List Shape → List Shape → (ℕ → Parts) → Bool → (ℕ → Parts) → StatedSet
 stated_set fs behind ps marker adds =
     record { fields = fs; behind = behind; parts = ps; marker = marker; additions = adds }

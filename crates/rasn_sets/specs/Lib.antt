@@ -1,6 +1,6 @@
 pub mod Components
 pub mod Equality
-pub mod Made
+pub mod SetsRead
 pub mod SetRecords
 pub mod Turns
 pub mod Laws

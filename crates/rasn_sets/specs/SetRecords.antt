@@ -4,7 +4,7 @@ use Rattle.std.specs.Prelude.{◌≡◌, ℕ, zero, suc, false, List, [], ◌∷
 use Rattle.rasn_types.specs.Values.{Value}
 use Rattle.rasn_types.specs.declared.types.TheConstants.Tag.{SET}
 use Rattle.rasn_schema.specs.Orders.{canonised_at, canonised_slots, how_many_less}
-use Rattle.rasn_schema.specs.Components.{Component, TypeLists, added_parts, components_behind, components_levelled}
+use Rattle.rasn_schema.specs.Components.{Component, TypeLists, added_parts, components_after, components_levelled}
 use Rattle.rasn_schema.specs.Components.{has_marker, root_parts, universal}
 use Rattle.rasn_schema.specs.Levels.{Levelled, record_levelled}
 use Rattle.rasn_schema.specs.Records.{record_at}
@@ -23,7 +23,7 @@ abbrev pub set_value : List (Option Value) → Value
 set_value rs = record_value rs []
 
 pub set_levelled : (cs : TypeLists) → Levelled (set_at cs)
-set_levelled cs = record_levelled (components_levelled cs.before) (components_levelled (components_behind cs.behind))
+set_levelled cs = record_levelled (components_levelled cs.before) (components_levelled (components_after cs.behind))
 
 -- X.680 8.4: SET is the tag of each SET
 pub set_tag : (cs : TypeLists) → IsTagOf SET (set_at cs)
@@ -58,7 +58,7 @@ parts_in_order cs = canonised_at (root_parts cs)
 abbrev pub slots_in_order : TypeLists → List (Option Value) → List (Option Value)
 slots_in_order cs rs = canonised_slots (root_parts cs 0) rs
 
--- X.680 8.6: tags in ascending order: none is less than one that stands before it
+-- X.680 8.6: tags in ascending order: none is less than one that is before it
 abbrev pub AreAscending : List Tag → Type 0
 AreAscending [] = Unit {0}
 AreAscending (t ∷ ts) = (how_many_less t ts ≡ 0) × AreAscending ts

@@ -1,4 +1,4 @@
--- What stands behind calls that read components in turn and keep their items, one behind another.
+-- What is behind calls that read components in turn and keep their items, one after another.
 use Rattle.std.specs.Prelude.{◌≡◌, ℕ, ◌+◌, true, false, Result, Ok, Err, List, [], ◌∷◌, ◌++◌}
 use Rattle.rasn_types.specs.declared.types.Tag.{Tag}
 use Rattle.rasn_schema.specs.Fields.{is_not_required}
@@ -6,12 +6,12 @@ use Rattle.rasn_schema.specs.declared.fields.Field.{Field}
 use Rattle.rasn_traits.specs.Calls.{DecoderRules, Refuses}
 use Rattle.rasn_sets.specs.Components.{KeepsEach}
 
--- An item is given, and kept behind others.
+-- An item is given, and kept after others.
 pub data Keeps {E S I : Type 0} (gives : S → ℕ → Tag → Result I E → S → Type 0) (i : ℕ) (tag : Tag) (s : S)
     (xs : List I) (t : S) (ys : List I) : Type 0 where
   keeps : (x : I) → gives s i tag (Ok x) t → ys ≡ xs ++ x ∷ [] → Keeps gives i tag s xs t ys
 
--- None is: it is refused, or memory ran out behind it.
+-- None is: it is refused, or memory ran out after it.
 pub data KeepsNone {E S I : Type 0} (rules : DecoderRules E S) (gives : S → ℕ → Tag → Result I E → S → Type 0) (e : E)
     (i : ℕ) (tag : Tag) (s : S) : Type 0 where
   given_none : (t : S) → gives s i tag (Err e) t → KeepsNone rules gives e i tag s
@@ -30,7 +30,7 @@ pub record KeepsItem {E S I : Type 0} (rules : DecoderRules E S) (gives : S → 
   pub kept : KeepsEach rules gives → rules.codec t ≡ rules.codec s
 
 -- The component of a field is read: a required one is kept; one that may be absent has its presence bit, and is kept
--- behind a bit 1.
+-- after a bit 1.
 pub data ReadsField {E S I : Type 0} (rules : DecoderRules E S) (gives : S → ℕ → Tag → Result I E → S → Type 0)
     (f : Field) (s : S) (xs : List I) (t : S) (ys : List I) : Type 0 where
   field_required : is_not_required f.presence ≡ false → Keeps gives f.index f.tag s xs t ys
@@ -69,11 +69,11 @@ pub data ReadsRoot {E S I : Type 0} (rules : DecoderRules E S) (gives : S → �
       → ReadsField rules gives f s xs m ws → ReadsRoot rules gives fs m ws t ys
       → ReadsRoot rules gives (f ∷ fs) s xs t ys
 
--- One of them isn't read, behind those that are read before it.
+-- One of them isn't read, after those that are read before it.
 pub data FailsRoot {E S I : Type 0} (rules : DecoderRules E S) (gives : S → ℕ → Tag → Result I E → S → Type 0)
     (e : E) : List Field → S → Type 0 where
   root_here : {f : Field} {fs : List Field} {s : S} → FailsField rules gives e f s → FailsRoot rules gives e (f ∷ fs) s
-  root_behind : {f : Field} {fs : List Field} {s m : S} {xs ws : List I}
+  root_after : {f : Field} {fs : List Field} {s m : S} {xs ws : List I}
       → ReadsField rules gives f s xs m ws → FailsRoot rules gives e fs m → FailsRoot rules gives e (f ∷ fs) s
 
 -- Ok reads the components of fields, and Err comes only where one isn't read.
@@ -89,54 +89,54 @@ pub record TakesRoot {E S I : Type 0} (rules : DecoderRules E S) (gives : S → 
   pub kept : KeepsEach rules gives → rules.codec t ≡ rules.codec s
 
 -- The addition of a field is read, whose index is counted on from a number: it is kept.
-pub data ReadsFieldBehind {E S I : Type 0} (gives : S → ℕ → Tag → Result I E → S → Type 0) (first : ℕ) (f : Field)
+pub data ReadsFieldAfter {E S I : Type 0} (gives : S → ℕ → Tag → Result I E → S → Type 0) (first : ℕ) (f : Field)
     (s : S) (xs : List I) (t : S) (ys : List I) : Type 0 where
-  behind_kept : Keeps gives (first + f.index) f.tag s xs t ys → ReadsFieldBehind gives first f s xs t ys
+  after_kept : Keeps gives (first + f.index) f.tag s xs t ys → ReadsFieldAfter gives first f s xs t ys
 
 -- It isn't read: nothing is kept of it, or memory ran out.
-pub data FailsFieldBehind {E S I : Type 0} (rules : DecoderRules E S) (gives : S → ℕ → Tag → Result I E → S → Type 0)
+pub data FailsFieldAfter {E S I : Type 0} (rules : DecoderRules E S) (gives : S → ℕ → Tag → Result I E → S → Type 0)
     (e : E) (first : ℕ) (f : Field) (s : S) : Type 0 where
-  behind_none : KeepsNone rules gives e (first + f.index) f.tag s → FailsFieldBehind rules gives e first f s
-  behind_room : rules.memory e s → FailsFieldBehind rules gives e first f s
+  after_none : KeepsNone rules gives e (first + f.index) f.tag s → FailsFieldAfter rules gives e first f s
+  after_room : rules.memory e s → FailsFieldAfter rules gives e first f s
 
 -- Ok reads the addition of a field, and Err comes only where it isn't read.
-abbrev pub FieldBehindRead : {E S I : Type 0} → DecoderRules E S → (S → ℕ → Tag → Result I E → S → Type 0) → ℕ → Field
+abbrev pub FieldAfterRead : {E S I : Type 0} → DecoderRules E S → (S → ℕ → Tag → Result I E → S → Type 0) → ℕ → Field
     → S → List I → Result (Unit {0}) E → S → List I → Type 0
-FieldBehindRead rules gives first f s xs (Ok u) t ys = ReadsFieldBehind gives first f s xs t ys
-FieldBehindRead rules gives first f s xs (Err e) t ys = FailsFieldBehind rules gives e first f s
+FieldAfterRead rules gives first f s xs (Ok u) t ys = ReadsFieldAfter gives first f s xs t ys
+FieldAfterRead rules gives first f s xs (Err e) t ys = FailsFieldAfter rules gives e first f s
 
 -- A call that reads the addition of a field.
-pub record TakesFieldBehind {E S I : Type 0} (rules : DecoderRules E S) (gives : S → ℕ → Tag → Result I E → S → Type 0)
+pub record TakesFieldAfter {E S I : Type 0} (rules : DecoderRules E S) (gives : S → ℕ → Tag → Result I E → S → Type 0)
     (first : ℕ) (f : Field) (s : S) (xs : List I) (result : Result (Unit {0}) E) (t : S) (ys : List I) : Type 0 where
-  pub law : FieldBehindRead rules gives first f s xs result t ys
+  pub law : FieldAfterRead rules gives first f s xs result t ys
   pub kept : KeepsEach rules gives → rules.codec t ≡ rules.codec s
 
 -- The additions of fields are read in turn.
-pub data ReadsBehind {E S I : Type 0} (gives : S → ℕ → Tag → Result I E → S → Type 0) (first : ℕ) : List Field → S
+pub data ReadsAfter {E S I : Type 0} (gives : S → ℕ → Tag → Result I E → S → Type 0) (first : ℕ) : List Field → S
     → List I → S → List I → Type 0 where
-  behind_end : {s : S} {xs : List I} → ReadsBehind gives first [] s xs s xs
-  behind_next : {f : Field} {fs : List Field} {s m t : S} {xs ws ys : List I}
-      → ReadsFieldBehind gives first f s xs m ws → ReadsBehind gives first fs m ws t ys
-      → ReadsBehind gives first (f ∷ fs) s xs t ys
+  after_end : {s : S} {xs : List I} → ReadsAfter gives first [] s xs s xs
+  after_next : {f : Field} {fs : List Field} {s m t : S} {xs ws ys : List I}
+      → ReadsFieldAfter gives first f s xs m ws → ReadsAfter gives first fs m ws t ys
+      → ReadsAfter gives first (f ∷ fs) s xs t ys
 
--- One of them isn't read, behind those that are read before it.
-pub data FailsBehind {E S I : Type 0} (rules : DecoderRules E S) (gives : S → ℕ → Tag → Result I E → S → Type 0)
+-- One of them isn't read, after those that are read before it.
+pub data FailsAfter {E S I : Type 0} (rules : DecoderRules E S) (gives : S → ℕ → Tag → Result I E → S → Type 0)
     (e : E) (first : ℕ) : List Field → S → Type 0 where
-  behind_here : {f : Field} {fs : List Field} {s : S} → FailsFieldBehind rules gives e first f s
-      → FailsBehind rules gives e first (f ∷ fs) s
-  behind_further : {f : Field} {fs : List Field} {s m : S} {xs ws : List I}
-      → ReadsFieldBehind gives first f s xs m ws → FailsBehind rules gives e first fs m
-      → FailsBehind rules gives e first (f ∷ fs) s
+  after_here : {f : Field} {fs : List Field} {s : S} → FailsFieldAfter rules gives e first f s
+      → FailsAfter rules gives e first (f ∷ fs) s
+  after_further : {f : Field} {fs : List Field} {s m : S} {xs ws : List I}
+      → ReadsFieldAfter gives first f s xs m ws → FailsAfter rules gives e first fs m
+      → FailsAfter rules gives e first (f ∷ fs) s
 
 -- Ok reads additions, and Err comes only where one isn't read.
-abbrev pub BehindRead : {E S I : Type 0} → DecoderRules E S → (S → ℕ → Tag → Result I E → S → Type 0) → ℕ → List Field
+abbrev pub AfterRead : {E S I : Type 0} → DecoderRules E S → (S → ℕ → Tag → Result I E → S → Type 0) → ℕ → List Field
     → S → List I → Result (Unit {0}) E → S → List I → Type 0
-BehindRead rules gives first fs s xs (Ok u) t ys = ReadsBehind gives first fs s xs t ys
-BehindRead rules gives first fs s xs (Err e) t ys = FailsBehind rules gives e first fs s
+AfterRead rules gives first fs s xs (Ok u) t ys = ReadsAfter gives first fs s xs t ys
+AfterRead rules gives first fs s xs (Err e) t ys = FailsAfter rules gives e first fs s
 
 -- A call that reads additions in turn.
-pub record TakesBehind {E S I : Type 0} (rules : DecoderRules E S) (gives : S → ℕ → Tag → Result I E → S → Type 0)
+pub record TakesAfter {E S I : Type 0} (rules : DecoderRules E S) (gives : S → ℕ → Tag → Result I E → S → Type 0)
     (first : ℕ) (fs : List Field) (s : S) (xs : List I) (result : Result (Unit {0}) E) (t : S)
     (ys : List I) : Type 0 where
-  pub law : BehindRead rules gives first fs s xs result t ys
+  pub law : AfterRead rules gives first fs s xs result t ys
   pub kept : KeepsEach rules gives → rules.codec t ≡ rules.codec s

@@ -1,10 +1,10 @@
 //! The items of a SET: those of the root components that are there, and those of all additions.
 
 ghost use Rattle.std.specs.Prelude.{length};
-ghost use Rattle.rasn_schema.specs.Extensions.{fields_behind};
+ghost use Rattle.rasn_schema.specs.Extensions.{fields_after};
 ghost use Rattle.rasn_schema.specs.Fields.{in_tag_order};
 ghost use Rattle.rasn_sets.specs.Components.{GivesItem, GivesSet};
-ghost use Rattle.rasn_sets.specs.Made.{TakesBehindOf, TakesItems, TakesRootOf, TakesSet, listing};
+ghost use Rattle.rasn_sets.specs.SetsRead.{TakesAfterOf, TakesItems, TakesRootOf, TakesSet, listing};
 
 use crate::steps::{read_additions, read_components};
 use rasn_schema::fields::Constructed;
@@ -28,14 +28,14 @@ fn read_root<D: Decoder, I: Drop, C: Constructed, F: Fn(&mut D, usize, Tag) -> R
 }
 
 /// Reads all additions, in the order of the type.
-fn read_behind<
+fn read_after<
     D: Decoder,
     I: Drop,
     C: Constructed,
     F: Fn(&mut D, usize, Tag) -> Result<I, D::Error>,
 >(decoder: &mut D, decode: &F, items: &mut Vec<I>) -> Result<(), D::Error>
     requires { F.IsAlwaysCallable decode.now }
-    ensures { TakesBehindOf D.rules (GivesItem F.Fn decode.now) (length C.FIELDS) (fields_behind C.EXTENDED_FIELDS)
+    ensures { TakesAfterOf D.rules (GivesItem F.Fn decode.now) (length C.FIELDS) (fields_after C.EXTENDED_FIELDS)
         decoder.old items.old.items result decoder.new items.new.items }
 {
     match C::EXTENDED_FIELDS {
@@ -52,12 +52,12 @@ fn read_items<
     F: Fn(&mut D, usize, Tag) -> Result<I, D::Error>,
 >(decoder: &mut D, decode: &F) -> Result<Vec<I>, D::Error>
     requires { F.IsAlwaysCallable decode.now }
-    ensures { TakesItems D.rules C.FIELDS (fields_behind C.EXTENDED_FIELDS) (GivesItem F.Fn decode.now) decoder.old
+    ensures { TakesItems D.rules C.FIELDS (fields_after C.EXTENDED_FIELDS) (GivesItem F.Fn decode.now) decoder.old
         (listing (λ xs. xs.items) result) decoder.new }
 {
     let mut items = Vec::new(decoder.alloc());
     read_root::<D, I, C, F>(decoder, decode, &mut items)?;
-    read_behind::<D, I, C, F>(decoder, decode, &mut items)?;
+    read_after::<D, I, C, F>(decoder, decode, &mut items)?;
     Ok(items)
 }
 
@@ -71,7 +71,7 @@ pub(crate) fn read_set<
 >(decoder: &mut D, decode: &F, make: G) -> Result<C, D::Error>
     requires decode { F.IsAlwaysCallable decode.now }
     requires make { G.IsAlwaysCallable make }
-    ensures { TakesSet D.rules C.FIELDS (fields_behind C.EXTENDED_FIELDS) C.contents C.added
+    ensures { TakesSet D.rules C.FIELDS (fields_after C.EXTENDED_FIELDS) C.contents C.added
         (GivesItem F.Fn decode.now) (GivesSet G.FnOnce (λ xs. xs.items) make)
         decoder.old result decoder.new }
 {

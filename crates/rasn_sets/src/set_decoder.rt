@@ -1,6 +1,6 @@
 //! The call of every decoder that reads a SET by a function for each component (X.691 21).
 
-ghost use Rattle.rasn_schema.specs.Extensions.{fields_behind};
+ghost use Rattle.rasn_schema.specs.Extensions.{fields_after};
 ghost use Rattle.rasn_sets.specs.Components.{GivesItem, GivesSet, ReadsSetEach, stated_set};
 
 use crate::items::read_set;
@@ -25,7 +25,7 @@ pub trait SetDecoder: Decoder {
         requires decode { D.IsAlwaysCallable decode }
         requires make { F.IsAlwaysCallable make }
         ensures { ReadsSetEach Self.rules
-            (stated_set C.FIELDS (fields_behind C.EXTENDED_FIELDS) C.parts C.IS_EXTENSIBLE C.additions)
+            (stated_set C.FIELDS (fields_after C.EXTENDED_FIELDS) C.parts C.IS_EXTENSIBLE C.additions)
             C.contents C.added (GivesItem D.Fn decode) (GivesSet F.FnOnce (λ xs. xs.items) make)
             self.old result self.new }
     {

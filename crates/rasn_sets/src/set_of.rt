@@ -96,7 +96,7 @@ impl<T: Eq> Eq for SetOf<T> {
     ghost laws = { same_bag_equiv T.Eq.laws };
 }
 
-/// Whether each of these values stands in the one list as often as in the other.
+/// Whether each of these values is in the one list as often as in the other.
 fn stand_as_often<T: Eq>(members: &[T], others: &[T], values: &[T]) -> bool
     ensures { result ≡ stand_alike T.eq members.now others.now values.now }
 {
@@ -108,7 +108,7 @@ fn stand_as_often<T: Eq>(members: &[T], others: &[T], values: &[T]) -> bool
     true
 }
 
-/// How often a value stands in a list.
+/// How often a value is in a list.
 #[tactic(auto, using(std::proofs::lemmas::List::at_drop_more, std::proofs::lemmas::List::drop_all))]
 fn times_in<T: Eq>(members: &[T], value: &T) -> usize
     ensures { result ≡ times T.eq value.now members.now }

@@ -1,7 +1,7 @@
-//! The components of a SET in turn: each is read, and its item kept behind those that were read before.
+//! The components of a SET in turn: each is read, and its item kept after those that were read before.
 
 ghost use Rattle.rasn_sets.specs.Components.{GivesItem};
-ghost use Rattle.rasn_sets.specs.Turns.{KeepsItem, TakesBehind, TakesField, TakesFieldBehind, TakesRoot};
+ghost use Rattle.rasn_sets.specs.Turns.{KeepsItem, TakesAfter, TakesField, TakesFieldAfter, TakesRoot};
 
 use rasn_schema::fields::{Field, Presence};
 use rasn_traits::decoder::Decoder;
@@ -71,7 +71,7 @@ fn read_addition<D: Decoder, I: Drop, F: Fn(&mut D, usize, Tag) -> Result<I, D::
     items: &mut Vec<I>,
 ) -> Result<(), D::Error>
     requires { F.IsAlwaysCallable decode.now }
-    ensures { TakesFieldBehind D.rules (GivesItem F.Fn decode.now) first field.now decoder.old items.old.items result
+    ensures { TakesFieldAfter D.rules (GivesItem F.Fn decode.now) first field.now decoder.old items.old.items result
         decoder.new items.new.items }
 {
     let Some(index) = first.checked_add(field.index) else {
@@ -89,7 +89,7 @@ pub(crate) fn read_additions<D: Decoder, I: Drop, F: Fn(&mut D, usize, Tag) -> R
     items: &mut Vec<I>,
 ) -> Result<(), D::Error>
     requires { F.IsAlwaysCallable decode.now }
-    ensures { TakesBehind D.rules (GivesItem F.Fn decode.now) first fields.now decoder.old items.old.items result
+    ensures { TakesAfter D.rules (GivesItem F.Fn decode.now) first fields.now decoder.old items.old.items result
         decoder.new items.new.items }
 {
     for field in fields {

@@ -1,4 +1,4 @@
--- Ascending numbers: walks over them, and the places that they stand at.
+-- Ascending numbers: walks over them, and the places that they are at.
 use Rattle.std.proofs.Common.{◌≡◌, refl, sym, ap, ◌∙◌, subst, ℕ, zero, suc, ◌+◌, ◌-◌, ◌^◌, ◌<◌, ◌≤◌, ◌⊎◌, Bool, true, false, cond, ◌&&◌, ◌||◌, ltb, eqb, List, [], ◌∷◌, ◌++◌, length, filter, arith, inl, inr}
 use Rattle.std.proofs.lemmas.Bool.{cases_Bool, ltb-true, ltb-false, lt-ltb, le-ltb, eqb-true, eq-eqb, and_from, and_right, or_cases, or_left, or_right, cond-true, cond-false}
 use Rattle.rasn_types.specs.Alphabets.{has, restricted, interval_of, from_to}
@@ -96,7 +96,7 @@ from_on-first n (x ∷ xs) c cs e = go (cases_Bool (ltb x n)) (from_on-first n x
     go (inr f) r = let k : x ∷ xs ≡ c ∷ cs = sym (cond-false (ltb x n) _ _ f) ∙ e in let j : x ≡ c = cc in
         (or_left (eqb x c) _ (eq-eqb x c j), let b = ltb-false x n f in omega arith)
 
--- what is left after it begins behind it
+-- what is left after it begins after it
 pub from_on-next : (m n : ℕ) (xs : List ℕ) (c : ℕ) (cs : List ℕ) → Up m xs → from_on n xs ≡ c ∷ cs → from_on (c + 1) xs ≡ cs
 from_on-next m n [] c cs u e = absurd (cc)
 from_on-next m n (x ∷ xs) c cs u e = go (cases_Bool (ltb x n)) (from_on-next (suc x) n xs c cs u.1)

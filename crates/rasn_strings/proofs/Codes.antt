@@ -69,7 +69,7 @@ index_of_has ds c h = go (index_of c ds) refl
     go None e = absurd (both_ways (has ds c) (never ds e) h)
     go (Some i) e = (i, e)
 
--- among ascending numbers each stands at one place
+-- among ascending numbers each is at one place
 pub index_at : (n : ℕ) (ds : List ℕ) (i c : ℕ) → Up n ds → slice_get ds i ≡ Some c → (index_of c ds ≡ Some i) × (n ≤ c)
 index_at n [] i c u e = absurd (cc)
 index_at n (d ∷ ds) zero c u e = let h : c ≡ d = cc in let l : n ≤ d = u.0 in (cond-true (eqb c d) (Some 0) (more (index_of c ds)) (eq-eqb c d h), omega arith)

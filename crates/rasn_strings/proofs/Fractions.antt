@@ -14,14 +14,14 @@ unit_fits p h = let k : 10 ^ p ≤ 10 ^ 8 = pow-le-pow_right (omega arith) h in 
 pub unit_some : (p : ℕ) → 0 < 10 ^ p
 unit_some p = one-le-pow p 10 (omega arith)
 
--- a digit and what is behind it
+-- a digit and what is after it
 pub digit_of : (p n : ℕ) → n < 10 ^ suc p → n / 10 ^ p ≤ 9
 digit_of p n h = let j : n < 10 ^ p * 10 = subst (λ (m : ℕ). n < m) (pow-suc 10 p) h in let k : n < 10 * 10 ^ p = omega arith in let l : n / 10 ^ p < 10 = (div-lt_iff_lt-mul (unit_some p)).1 k in omega arith
 
 pub behind : (p n : ℕ) → n % 10 ^ p < 10 ^ p
 behind p n = mod-lt n (unit_some p)
 
--- a number of a digit and what is behind it
+-- a number of a digit and what is after it
 pub parts_of : (p d r : ℕ) → r < 10 ^ p → ((d * 10 ^ p + r) / 10 ^ p ≡ d) × ((d * 10 ^ p + r) % 10 ^ p ≡ r)
 parts_of p d r h = (div-mul-add d (10 ^ p) r h, mod-mul-add d (10 ^ p) r h)
 

@@ -12,7 +12,7 @@ use Rattle.jiff.specs.Types.{DateTime}
 use Rattle.rasn_strings.specs.Moments.{two_digits, month_to_second, year_to_second, fraction_digits, fraction_text, is_generalized_moment, generalized_characters, generalized_text, IsMomentOf, IsFractionText, IsGeneralizedMomentOf, IsSameMoment}
 use Rattle.rasn_strings.proofs.Calendar.{unpos, tested, back8}
 use Rattle.rasn_strings.proofs.Fractions.{fraction_digits-zero, fraction_digits-step, digit_of, behind}
-use Rattle.rasn_strings.proofs.Texts.{are_digits-two, two_digits-number, digits_behind, characters_of, moment_named, number_below, ten}
+use Rattle.rasn_strings.proofs.Texts.{are_digits-two, two_digits-number, digits_after, characters_of, moment_named, number_below, ten}
 use Rattle.rasn_strings.proofs.UtcTexts.{two_same, moments_same}
 
 -- ---- fractions
@@ -68,7 +68,7 @@ fraction_same zero (suc n) h k e = let f = first_same 90 46 [] (fraction_digits 
 fraction_same (suc m) zero h k e = let f = first_same 46 90 (fraction_digits 9 (suc m) ++ 90 ∷ []) [] (ap (λ xs. xs ++ 90 ∷ []) (sym (fraction_text-some (suc m) (λ i. omega arith))) ∙ e) in let g = f.0 in absurd (omega arith)
 fraction_same (suc m) (suc n) h k e = digits_same 9 (suc m) (suc n) h k (first_same 46 46 _ _ (ap (λ xs. xs ++ 90 ∷ []) (sym (fraction_text-some (suc m) (λ i. omega arith))) ∙ e ∙ ap (λ xs. xs ++ 90 ∷ []) (fraction_text-some (suc n) (λ i. omega arith)))).1
 
--- ---- a text by its fourteen digits and what stands behind them
+-- ---- a text by its fourteen digits and what is after them
 
 fourteen : (a b c d e f g h i j k l m n : ℕ) (rest : List ℕ) → is_time TimeKind.generalized (a ∷ b ∷ c ∷ d ∷ e ∷ f ∷ g ∷ h ∷ i ∷ j ∷ k ∷ l ∷ m ∷ n ∷ rest)
     ≡ (are_digits (a ∷ b ∷ c ∷ d ∷ e ∷ f ∷ g ∷ h ∷ i ∷ j ∷ k ∷ l ∷ m ∷ n ∷ []) && (is_fraction rest && is_moment (decimal_from 0 (a ∷ b ∷ c ∷ d ∷ [])) (e ∷ f ∷ g ∷ h ∷ i ∷ j ∷ k ∷ l ∷ m ∷ n ∷ [])))
@@ -127,14 +127,14 @@ generalized_same t u h k e = record {
   fraction_is = fraction_same t.time.subsec_nanosecond u.time.subsec_nanosecond t.time.subsec_in u.time.subsec_in m.5;
 }
   where
-    behind_month : DateTime → List ℕ
-    behind_month v = month_to_second v ++ fraction_text v.time.subsec_nanosecond ++ 90 ∷ []
+    after_month : DateTime → List ℕ
+    after_month v = month_to_second v ++ fraction_text v.time.subsec_nanosecond ++ 90 ∷ []
 
-    high : (year_size t.date.year / 100 ≡ year_size u.date.year / 100) × (two_digits (year_size t.date.year % 100) ++ behind_month t ≡ two_digits (year_size u.date.year % 100) ++ behind_month u)
-    high = two_same (year_size t.date.year / 100) (year_size u.date.year / 100) (two_digits (year_size t.date.year % 100) ++ behind_month t) (two_digits (year_size u.date.year % 100) ++ behind_month u) (let i = (year_held t h).1 in omega arith) (let i = (year_held u k).1 in omega arith) (sym (held_text t h) ∙ e ∙ held_text u k)
+    high : (year_size t.date.year / 100 ≡ year_size u.date.year / 100) × (two_digits (year_size t.date.year % 100) ++ after_month t ≡ two_digits (year_size u.date.year % 100) ++ after_month u)
+    high = two_same (year_size t.date.year / 100) (year_size u.date.year / 100) (two_digits (year_size t.date.year % 100) ++ after_month t) (two_digits (year_size u.date.year % 100) ++ after_month u) (let i = (year_held t h).1 in omega arith) (let i = (year_held u k).1 in omega arith) (sym (held_text t h) ∙ e ∙ held_text u k)
 
-    low : (year_size t.date.year % 100 ≡ year_size u.date.year % 100) × (behind_month t ≡ behind_month u)
-    low = two_same (year_size t.date.year % 100) (year_size u.date.year % 100) (behind_month t) (behind_month u) (omega arith) (omega arith) high.1
+    low : (year_size t.date.year % 100 ≡ year_size u.date.year % 100) × (after_month t ≡ after_month u)
+    low = two_same (year_size t.date.year % 100) (year_size u.date.year % 100) (after_month t) (after_month u) (omega arith) (omega arith) high.1
 
     same_year : year_size t.date.year ≡ year_size u.date.year
     same_year = let i = high.0 in let j = low.0 in omega arith
@@ -163,12 +163,12 @@ digits_read r ds n y ns l w e f m = go r ds l w
     read t a b c d xs l w m = record {
       held = ap (λ z. le_z (pos 0) z) m.year_is ∙ le-leb 0 (decimal_from 0 (a ∷ b ∷ c ∷ d ∷ [])) (omega arith);
       characters = ap₂ (λ ys zs. ys ++ zs) (two_digits-number a b (year_size t.date.year / 100) (c ∷ d ∷ xs) w (ap (λ z. year_size z / 100) m.year_is ∙ (year_parts a b c d xs w2).0))
-          (ap₂ (λ ys zs. ys ++ zs) (two_digits-number c d (year_size t.date.year % 100) xs w2 (ap (λ z. year_size z % 100) m.year_is ∙ (year_parts a b c d xs w2).1)) (behind xs l (digits_behind c d xs w2) m));
+          (ap₂ (λ ys zs. ys ++ zs) (two_digits-number c d (year_size t.date.year % 100) xs w2 (ap (λ z. year_size z % 100) m.year_is ∙ (year_parts a b c d xs w2).1)) (behind xs l (digits_after c d xs w2) m));
       fraction_is = unpos t.time.subsec_nanosecond n m.fraction_is;
     }
       where
         w2 : are_digits (c ∷ d ∷ xs) ≡ true
-        w2 = digits_behind a b (c ∷ d ∷ xs) w
+        w2 = digits_after a b (c ∷ d ∷ xs) w
 
         behind : (xs : List ℕ) → length xs ≡ 10 → are_digits xs ≡ true → IsMomentOf (pos (decimal_from 0 (a ∷ b ∷ c ∷ d ∷ []))) xs (pos n) t → month_to_second t ≡ xs
         behind xs l = subst (λ ys. are_digits ys ≡ true → IsMomentOf (pos (decimal_from 0 (a ∷ b ∷ c ∷ d ∷ []))) ys (pos n) t → month_to_second t ≡ ys) (sym (ten xs l)) (λ w m. characters_of _ _ _ _ _ _ _ _ _ _ (pos n) (pos (decimal_from 0 (a ∷ b ∷ c ∷ d ∷ []))) t w m)
@@ -223,7 +223,7 @@ four_sum x z f h (a ∷ b ∷ c ∷ d ∷ ds) l w e g i j = sum_of (decimal_from
     high = number_below a b (c ∷ d ∷ ds) w
 
     low : decimal_from 0 (c ∷ d ∷ []) < 100
-    low = number_below c d ds (digits_behind a b (c ∷ d ∷ ds) w)
+    low = number_below c d ds (digits_after a b (c ∷ d ∷ ds) w)
 
     small : (x f : ℤ) (n : ℕ) → n < 100 → x ≡ pos n → f ≡ to_z w8 (of_z w8 x) → f ≡ pos n
     small x f n h e i = i ∙ ap (λ z. to_z w8 (of_z w8 z)) e ∙ back8 (pos n) (omega arith)

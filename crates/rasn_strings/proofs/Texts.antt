@@ -22,8 +22,8 @@ two_digits-number c d n cs h e = let i = leb-true 48 c (both_left (leb 48 c) _ h
     let f : n ≡ 10 * (10 * 0 + (c - 48)) + (d - 48) = e in
     ap₂ (λ (a b : ℕ). a ∷ b ∷ []) (let g : 48 + n / 10 % 10 ≡ c = omega arith in g) (let g : 48 + n % 10 ≡ d = omega arith in g)
 
-pub digits_behind : (c d : ℕ) (cs : List ℕ) → are_digits (c ∷ d ∷ cs) ≡ true → are_digits cs ≡ true
-digits_behind c d cs h = both_right (leb d 57) _ (both_right (leb 48 d) _ (both_right (leb c 57) _ (both_right (leb 48 c) _ h)))
+pub digits_after : (c d : ℕ) (cs : List ℕ) → are_digits (c ∷ d ∷ cs) ≡ true → are_digits cs ≡ true
+digits_after c d cs h = both_right (leb d 57) _ (both_right (leb 48 d) _ (both_right (leb c 57) _ (both_right (leb 48 c) _ h)))
 
 -- ten digits are the characters of the moment that they name
 pub characters_of : (a b c d e f g h i j : ℕ) (ns y : ℤ) (t : DateTime) → are_digits (a ∷ b ∷ c ∷ d ∷ e ∷ f ∷ g ∷ h ∷ i ∷ j ∷ []) ≡ true → IsMomentOf y (a ∷ b ∷ c ∷ d ∷ e ∷ f ∷ g ∷ h ∷ i ∷ j ∷ []) ns t →
@@ -35,16 +35,16 @@ characters_of a b c d e f g h i j ns y t w m =
     (ap₂ (λ xs ys. xs ++ ys) (two_digits-number g h t.time.minute (i ∷ j ∷ []) w3 m.minute_is) (two_digits-number i j t.time.second [] w4 m.second_is))))
   where
     w1 : are_digits (c ∷ d ∷ e ∷ f ∷ g ∷ h ∷ i ∷ j ∷ []) ≡ true
-    w1 = digits_behind a b (c ∷ d ∷ e ∷ f ∷ g ∷ h ∷ i ∷ j ∷ []) w
+    w1 = digits_after a b (c ∷ d ∷ e ∷ f ∷ g ∷ h ∷ i ∷ j ∷ []) w
 
     w2 : are_digits (e ∷ f ∷ g ∷ h ∷ i ∷ j ∷ []) ≡ true
-    w2 = digits_behind c d (e ∷ f ∷ g ∷ h ∷ i ∷ j ∷ []) w1
+    w2 = digits_after c d (e ∷ f ∷ g ∷ h ∷ i ∷ j ∷ []) w1
 
     w3 : are_digits (g ∷ h ∷ i ∷ j ∷ []) ≡ true
-    w3 = digits_behind e f (g ∷ h ∷ i ∷ j ∷ []) w2
+    w3 = digits_after e f (g ∷ h ∷ i ∷ j ∷ []) w2
 
     w4 : are_digits (i ∷ j ∷ []) ≡ true
-    w4 = digits_behind g h (i ∷ j ∷ []) w3
+    w4 = digits_after g h (i ∷ j ∷ []) w3
 
 -- a list of ten is its ten elements
 pub ten : (xs : List ℕ) → length xs ≡ 10 → xs ≡ get_or xs 0 0 ∷ get_or xs 1 0 ∷ get_or xs 2 0 ∷ get_or xs 3 0 ∷ get_or xs 4 0 ∷ get_or xs 5 0 ∷ get_or xs 6 0 ∷ get_or xs 7 0 ∷ get_or xs 8 0 ∷ get_or xs 9 0 ∷ []
@@ -61,7 +61,7 @@ ten (a ∷ b ∷ c ∷ d ∷ e ∷ f ∷ g ∷ []) l = absurd (omega arith)
 ten (a ∷ b ∷ c ∷ d ∷ e ∷ f ∷ g ∷ h ∷ []) l = absurd (omega arith)
 ten (a ∷ b ∷ c ∷ d ∷ e ∷ f ∷ g ∷ h ∷ i ∷ []) l = absurd (omega arith)
 
--- the characters of a moment name it, whatever stands behind
+-- the characters of a moment name it, whatever is behind
 pub moment_named : (y : ℕ) (t : DateTime) (cs : List ℕ) → t.date.year ≡ pos y → is_moment y (month_to_second t ++ cs) ≡ true
 moment_named y t cs e = rw (number-two t.date.month (let h = t.date.month_in in omega arith), number-two t.date.day (day_small t.date), number-two t.time.hour (let h = t.time.hour_in in omega arith), number-two t.time.minute (let h = t.time.minute_in in omega arith), number-two t.time.second (let h = t.time.second_in in omega arith)) (moment_lawful y t e)
 

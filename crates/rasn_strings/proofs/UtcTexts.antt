@@ -11,7 +11,7 @@ use Rattle.jiff.specs.Types.{DateTime}
 use Rattle.rasn_strings.specs.Moments.{two_digits, month_to_second, is_utc_moment, utc_characters, utc_text, IsMomentOf, IsUtcMomentOf, IsSameMoment}
 use Rattle.rasn_strings.proofs.Digits.{both_left, both_right}
 use Rattle.rasn_strings.proofs.Calendar.{day_small, unpos, back8}
-use Rattle.rasn_strings.proofs.Texts.{are_digits-two, number-two, two_digits-number, digits_behind, characters_of, moment_named, number_below, ten}
+use Rattle.rasn_strings.proofs.Texts.{are_digits-two, number-two, two_digits-number, digits_after, characters_of, moment_named, number_below, ten}
 
 -- the last character
 abbrev zulu : List ℕ
@@ -110,7 +110,7 @@ utc_read : (a b c d e f g h i j k l : ℕ) (r : Option DateTime) → are_digits 
     MatchOption r (is_time TimeKind.utc (a ∷ b ∷ c ∷ d ∷ e ∷ f ∷ g ∷ h ∷ i ∷ j ∷ k ∷ l ∷ 90 ∷ []) ≡ false) (IsUtcMomentOf (a ∷ b ∷ c ∷ d ∷ e ∷ f ∷ g ∷ h ∷ i ∷ j ∷ k ∷ l ∷ []))
 unfolding is_time utc_text
 utc_read a b c d e f g h i j k l None w m = rw (w, m) refl
-utc_read a b c d e f g h i j k l (Some t) w m = record { held = held; written = sym (ap (λ x. cond x (utc_characters t) []) (sym held)) ∙ ap₂ (λ xs ys. xs ++ ys ++ 90 ∷ []) first (characters_of c d e f g h i j k l (pos 0) (pos (year_of (decimal_from 0 (a ∷ b ∷ [])))) t (digits_behind a b (c ∷ d ∷ e ∷ f ∷ g ∷ h ∷ i ∷ j ∷ k ∷ l ∷ []) w) m) }
+utc_read a b c d e f g h i j k l (Some t) w m = record { held = held; written = sym (ap (λ x. cond x (utc_characters t) []) (sym held)) ∙ ap₂ (λ xs ys. xs ++ ys ++ 90 ∷ []) first (characters_of c d e f g h i j k l (pos 0) (pos (year_of (decimal_from 0 (a ∷ b ∷ [])))) t (digits_after a b (c ∷ d ∷ e ∷ f ∷ g ∷ h ∷ i ∷ j ∷ k ∷ l ∷ []) w) m) }
   where
     y : (1950 ≤ year_of (decimal_from 0 (a ∷ b ∷ []))) × (year_of (decimal_from 0 (a ∷ b ∷ [])) ≤ 2049) × (year_of (decimal_from 0 (a ∷ b ∷ [])) % 100 ≡ decimal_from 0 (a ∷ b ∷ []))
     y = year-in (decimal_from 0 (a ∷ b ∷ [])) (number_below a b (c ∷ d ∷ e ∷ f ∷ g ∷ h ∷ i ∷ j ∷ k ∷ l ∷ []) w)

@@ -12,7 +12,7 @@ use Rattle.rasn_strings.proofs.IntervalsOf.{later}
 pub begins : (is : List Interval) (some : List ℕ) → ascend_from 0 is ≡ true → from_on 0 (restricted (expand is) some) ≡ restricted (expand is) some
 begins is some e = from_on-all 0 0 (restricted (expand is) some) (omega arith) (up-restricted is some e)
 
--- the next character, and what is left behind it
+-- the next character, and what is left after it
 pub record Next (n : ℕ) (c : ℕ) (alphabet : List ℕ) : Type 0 where
   pub left : from_on n alphabet ≡ c ∷ from_on (c + 1) alphabet
   pub from : n ≤ c
@@ -34,22 +34,22 @@ next_none is some n e = go (from_on n (restricted (expand is) some)) e
     go [] e = refl
     go (y ∷ ys) e = absurd (cc)
 
--- the place of a character among those that are left: the next one, or behind it
+-- the place of a character among those that are left: the next one, or after it
 pub place_here : (k c d : ℕ) (xs ys : List ℕ) → xs ≡ d ∷ ys → d ≡ c → later k (index_of c xs) ≡ Some k
 place_here k c d xs ys e h = ap (λ zs. later k (index_of c zs)) e ∙ ap (later k) (cond-true (eqb c d) (Some 0) (more (index_of c ys)) (eq-eqb c d (sym h))) ∙ ap (λ (n : ℕ). Some n) (omega arith)
 
-pub place_behind : (k c d : ℕ) (xs ys : List ℕ) → xs ≡ d ∷ ys → (d ≡ c → ⊥) → later k (index_of c xs) ≡ later (k + 1) (index_of c ys)
-place_behind k c d xs ys e h = ap (λ zs. later k (index_of c zs)) e ∙ ap (later k) (cond-false (eqb c d) (Some 0) (more (index_of c ys)) (ne_eqb c d (λ i. h (sym i)))) ∙ go (index_of c ys)
+pub place_after : (k c d : ℕ) (xs ys : List ℕ) → xs ≡ d ∷ ys → (d ≡ c → ⊥) → later k (index_of c xs) ≡ later (k + 1) (index_of c ys)
+place_after k c d xs ys e h = ap (λ zs. later k (index_of c zs)) e ∙ ap (later k) (cond-false (eqb c d) (Some 0) (more (index_of c ys)) (ne_eqb c d (λ i. h (sym i)))) ∙ go (index_of c ys)
   where
     go : (o : Option ℕ) → later k (more o) ≡ later (k + 1) o
     go None = refl
     go (Some n) = ap (λ (m : ℕ). Some m) (omega arith)
 
--- the numbers behind the k-th
-pub drop_behind : (k c : ℕ) (xs ys : List ℕ) → drop k xs ≡ c ∷ ys → drop (k + 1) xs ≡ ys
-drop_behind zero c xs ys e = subst (λ zs. drop 1 zs ≡ ys) (sym e) refl
-drop_behind (suc k) c [] ys e = absurd (cc)
-drop_behind (suc k) c (x ∷ xs) ys e = ap (λ n. drop n (x ∷ xs)) (let i : suc k + 1 ≡ suc (k + 1) = omega arith in i) ∙ drop_behind k c xs ys e
+-- the numbers after the k-th
+pub drop_after : (k c : ℕ) (xs ys : List ℕ) → drop k xs ≡ c ∷ ys → drop (k + 1) xs ≡ ys
+drop_after zero c xs ys e = subst (λ zs. drop 1 zs ≡ ys) (sym e) refl
+drop_after (suc k) c [] ys e = absurd (cc)
+drop_after (suc k) c (x ∷ xs) ys e = ap (λ n. drop n (x ∷ xs)) (let i : suc k + 1 ≡ suc (k + 1) = omega arith in i) ∙ drop_after k c xs ys e
 
 pub get_dropped : (k : ℕ) (xs : List ℕ) → slice_get (drop k xs) 0 ≡ slice_get xs k
 get_dropped zero xs = refl

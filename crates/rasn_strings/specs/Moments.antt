@@ -96,14 +96,14 @@ abbrev pub EachGeneralizedTimeHasOneText : Type 0
 EachGeneralizedTimeHasOneText = (t u : DateTime) → is_generalized_moment t ≡ true → is_generalized_moment u ≡ true →
     generalized_text t ≡ generalized_text u → IsSameMoment t u
 
--- the digits and the Z behind them are those of a number
+-- the digits and the Z after them are those of a number
 pub record IsFractionOf (places : ℕ) (text : List ℕ) (number : ℕ) : Type 0 where
   pub lawful : ends_well places text ≡ true
   pub some : 0 < number
   pub below : number < 10 ^ places
   pub written : fraction_digits places number ++ 90 ∷ [] ≡ text
 
--- what stands behind the seconds is the fraction of so many nanoseconds
+-- what is after the seconds is the fraction of so many nanoseconds
 pub record IsFractionText (text : List ℕ) (number : ℕ) : Type 0 where
   pub lawful : is_fraction text ≡ true
   pub below : number < 10 ^ 9

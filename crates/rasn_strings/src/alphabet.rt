@@ -12,7 +12,7 @@ use crate::strings::StaticPermittedAlphabet;
 use rasn_types::width::width_of;
 use std::marker::Model;
 
-/// The characters of a type that may stand in a string, and the variant in which they are written.
+/// The characters of a type that may be in a string, and the variant in which they are written.
 #[derive(Drop)]
 pub struct CharacterAlphabet<'list> {
     own: &'static [Interval],
@@ -40,7 +40,7 @@ impl<'list> Model for CharacterAlphabet<'list> {
 
 impl<'list> CharacterAlphabet<'list> {
     /// The alphabet of a type, restricted to the characters that are permitted, where these are given (X.691 30.4).
-    /// They may stand in any order, and more than once; those that the type doesn't have are dropped. `aligned` says
+    /// They may be in any order, and more than once; those that the type doesn't have are dropped. `aligned` says
     /// whether the variant is ALIGNED. It takes no memory.
     pub fn new<S: StaticPermittedAlphabet>(permitted: Option<&'list [u32]>, aligned: bool) -> Self
         ensures variant { result.variant ≡ variant_when aligned }

@@ -6,7 +6,7 @@ ghost use Rattle.rasn_strings.specs.Moments.{fraction_digits, fraction_text, IsF
 
 use std::alloc::{AllocError, Allocator};
 
-/// Ten to the number of places behind a digit of a fraction.
+/// Ten to the number of places after a digit of a fraction.
 fn unit_of(places: u32) -> u32
     requires { places ≤ 8 }
     ensures { result ≡ 10 ^ places }
@@ -44,7 +44,7 @@ fn push_digits<A: Allocator>(
     push_digits(text, rest % unit, places - 1)
 }
 
-/// The number of nanoseconds that stands before a Z at the end, behind a full stop if it isn't 0.
+/// The number of nanoseconds that is before a Z at the end, after a full stop if it isn't 0.
 pub fn read_fraction(text: &[u8]) -> Option<u32>
     ensures { MatchOption result (is_fraction text.now ≡ false) (IsFractionText text.now) }
 {

@@ -472,7 +472,7 @@ impl<K: CharacterKind> Eq for CharactersOf<K> {
     ghost laws = { Prim.search (comparing, rules) };
 }
 
-/// The characters, one by one: what begins another stands before it.
+/// The characters, one by one: what begins another is before it.
 impl<K: CharacterKind> PartialOrd for CharactersOf<K> {
     ghost partial_cmp = { λ a b. Some (slice_cmp nat_cmp a b) };
 

@@ -55,7 +55,7 @@ normal_some ps marker qs added k v = (normal_at qs k v, refl)
 at_chosen : {vs : List VariantShape} {xs : Option (List VariantShape)} (c : Chosen) (p : Place) (P : Side → ℕ → Type 0) → StandsAtPlace vs xs c p → P (side_of p) (index_in p) → P c.side c.place
 at_chosen c p P h q = subst (λ d. P d c.place) h.side (subst (λ k. P (side_of p) k) h.index q)
 
--- a choice that is opened to write the alternative that is chosen, which stands at a place
+-- a choice that is opened to write the alternative that is chosen, which is at a place
 module _ {E X O : Type 0} (rules : EncoderRules E X) (opens : Schema → Side → ℕ → X → O → X → Type 0) (alternatives behind : ℕ → Parts) {vs : List VariantShape} (xs : Option (List VariantShape)) (c : Chosen) (depth : ℕ) (p : Place)
     (stands : StandsAtPlace vs xs c p) where
   -- it isn't opened
@@ -87,14 +87,14 @@ module _ {E X O : Type 0} (rules : EncoderRules E X) (opens : Schema → Side �
       rw (normal-alternative (choices_of alternatives xs behind n) c.side c.place a.0 c.value a.1)
       (f.law x i (choices_of alternatives xs behind n) c.side c.place a.0 (normal a.0 c.value) (at_chosen c p (λ d k. opens (choices_of alternatives xs behind n) d k x o i) stands (h n).0) a.1 a.2))
 
--- a choice of which an alternative is read that stands at a place
+-- a choice of which an alternative is read that is at a place
 module _ {S O E : Type 0} {rules : DecoderRules E S} {unended : O → E → S → Type 0} {opens : Schema → Side → ℕ → S → O → S → Type 0} {closes : S → O → S → Type 0}
     (L : DecodesWell rules) (K : ChoicesWell rules unended opens closes)
     (choice : ℕ → Schema) (d : Side) (k : ℕ) (c : Schema) {s i : S} {o : O} (deeper : rules.levels s ≡ suc (rules.levels i)) (there : alternative_in (choice (rules.levels i)) d k ≡ Some c) (h : opens (choice (rules.levels i)) d k s o i) where
   placed_choice : (P : Schema → Type 0) → P (choice (rules.levels i)) → P (one_level_in choice (rules.levels s))
   placed_choice P q = subst P (sym (ap (one_level_in choice) deeper)) q
 
-  -- the decoder behind its alternative hasn't failed
+  -- the decoder after its alternative hasn't failed
   pub placed_left : (w : Value) (j : S) → ReadsAlternative rules d k c i w j → rules.failed j ≡ false
   placed_left w j a = (L.spelled c).left i a.0 j a.2
 
@@ -113,7 +113,7 @@ module _ {S O E : Type 0} {rules : DecoderRules E S} {unended : O → E → S �
     stands = K.in_alternative (choice (rules.levels i)) d k c s o i e h there r.stands;
   }))
 
-  -- it doesn't end behind its alternative
+  -- it doesn't end after its alternative
   pub placed_endless : {e : E} (w : Value) (j : S) → ReadsAlternative rules d k c i w j → rules.memory e j ⊎ (((u : S) → closes j o u → ⊥) × unended o e j)
       → rules.memory e s ⊎ Refuses (rules.spells (one_level_in choice (rules.levels s))) (rules.fault (one_level_in choice (rules.levels s))) e s
   placed_endless {e} w j a (inl m) = inl (K.room (choice (rules.levels i)) d k s o i e h ((L.spelled c).room i a.0 j e a.2 m))
@@ -128,7 +128,7 @@ module _ {S O E : Type 0} {rules : DecoderRules E S} {unended : O → E → S �
 module _ {S O E : Type 0} {rules : DecoderRules E S} {unended : O → E → S → Type 0} {opens : Schema → Side → ℕ → S → O → S → Type 0} {closes : S → O → S → Type 0}
     (L : DecodesWell rules) (K : ChoicesWell rules unended opens closes)
     (choice : ℕ → Schema) (vs : List VariantShape) (xs : Option (List VariantShape)) (tag : Schemas.Tag) {s i : S} {o : O} (h : IsChosen rules opens choice vs xs tag s o i) where
-  -- the alternative that goes by the tag is the one behind the index
+  -- the alternative that goes by the tag is the one after the index
   pub alternative_taken : {T : Type 0} (value : T → Value) (r : Result T E) (j : S) → TakesAlternative rules choice vs xs tag value i r j
       → Answers rules.memory (rules.fault h.schema) (ReadsAlternative rules h.side h.index h.schema) value i r j
   alternative_taken value r j f = go h.side h.place h.there
@@ -138,7 +138,7 @@ module _ {S O E : Type 0} {rules : DecoderRules E S} {unended : O → E → S �
       go root p a = f.before h.index h.schema p a
       go added p a = f.behind h.index h.schema p a
 
-  -- the decoder behind an alternative hasn't failed
+  -- the decoder after an alternative hasn't failed
   pub alternative_left : (w : Value) (j : S) → ReadsAlternative rules h.side h.index h.schema i w j → rules.failed j ≡ false
   alternative_left w j a = placed_left L K choice h.side h.index h.schema h.deeper h.there h.opened w j a
 
@@ -151,7 +151,7 @@ module _ {S O E : Type 0} {rules : DecoderRules E S} {unended : O → E → S �
       → rules.memory e s ⊎ Refuses (rules.spells (one_level_in choice (rules.levels s))) (rules.fault (one_level_in choice (rules.levels s))) e s
   choice_failed r = placed_failed L K choice h.side h.index h.schema h.deeper h.there h.opened r
 
-  -- a choice that doesn't end behind its alternative
+  -- a choice that doesn't end after its alternative
   pub choice_endless : {e : E} (w : Value) (j : S) → ReadsAlternative rules h.side h.index h.schema i w j → rules.memory e j ⊎ (((u : S) → closes j o u → ⊥) × unended o e j)
       → rules.memory e s ⊎ Refuses (rules.spells (one_level_in choice (rules.levels s))) (rules.fault (one_level_in choice (rules.levels s))) e s
   choice_endless w j a r = placed_endless L K choice h.side h.index h.schema h.deeper h.there h.opened w j a r

@@ -60,7 +60,7 @@ module _ {E S : Type 0} {rules : DecoderRules E S} where
   bit_refused i (inl h) = absurd h
   bit_refused i (inr r) = inr (bit_unread i r)
 
-  -- a value behind the bit 1 that isn't read
+  -- a value after the bit 1 that isn't read
   pub value_unread : DecodesWell rules → {p : Presence} {d : Option Value} {c : Schema} {s m : S} {e : E} → left_out p ≡ Some d → rules.marks s true m
       → rules.memory e m ⊎ Refuses (rules.spells c) (rules.fault c) e m → rules.memory e s ⊎ Refuses (ReadsPart rules p c) (λ e. FaultyPart rules e p c) e s
   value_unread L {s = s} {m} {e} i a (inl h) = inl (L.marked.room s true m e a h)
@@ -72,7 +72,7 @@ module _ {E S : Type 0} {rules : DecoderRules E S} where
     stands = faulty_there i a r.stands;
   })
 
-  -- a value behind the bit 1
+  -- a value after the bit 1
   pub value_read : DecodesWell rules → {T : Type 0} (value : T → Value) (p : Presence) {d : Option Value} (c : Schema) (s : S) {m : S} (t : S) (result : Result T E) → left_out p ≡ Some d → rules.marks s true m
       → Answers rules.memory (rules.fault c) (rules.spells c) value m result t → Answers rules.memory (λ e. FaultyPart rules e p c) (ReadsPart rules p c) (λ x. Some (value x)) s result t
   value_read L value p c s t (Ok v) i a h = reads_there i a h

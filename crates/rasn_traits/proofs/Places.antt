@@ -1,7 +1,7 @@
 -- The places of a choice's alternatives, and how many these are.
 use Rattle.std.proofs.Common.{◌≡◌, ap, sym, refl, subst, ◌∙◌, ◌<◌, ℕ, zero, suc, Bool, length, true, lt-ltb, ltb-true, inl, inr, arith, List, Option, Some, None, Result, Ok, Err}
 use Rattle.rasn_types.specs.Values.{Side}
-use Rattle.rasn_schema.specs.Choices.{VariantShape, choices_of, is_extensible, variants_behind, variants_of}
+use Rattle.rasn_schema.specs.Choices.{VariantShape, choices_of, is_extensible, variants_after, variants_of}
 use Rattle.rasn_schema.specs.Structures.{alternative_at, alternative_in, choice_schema}
 use Rattle.rasn_schema.specs.Schemas.{count, Parts, no_parts, part, Schema}
 use Rattle.rasn_schema.specs.declared.items.ItemCounts.{ItemCounts}
@@ -17,7 +17,7 @@ counted no_parts = refl
 counted (part t p s ps) = let e = counted ps in omega arith
 
 -- a choice of alternatives is one of as many as its type states
-pub is_choice_of : {vs : List VariantShape} (xs : Option (List VariantShape)) (ps qs : Parts) → vs ≡ variants_of ps → variants_behind xs ≡ variants_of qs → IsChoiceOf (variant_counts vs xs) (choice_schema ps (is_extensible xs) qs)
+pub is_choice_of : {vs : List VariantShape} (xs : Option (List VariantShape)) (ps qs : Parts) → vs ≡ variants_of ps → variants_after xs ≡ variants_of qs → IsChoiceOf (variant_counts vs xs) (choice_schema ps (is_extensible xs) qs)
 is_choice_of None ps qs e f = (counted ps ∙ ap length (sym e), counted qs ∙ ap length (sym f), refl)
 is_choice_of (Some vs) ps qs e f = (counted ps ∙ ap length (sym e), counted qs ∙ ap length (sym f), refl)
 
@@ -38,7 +38,7 @@ at_index (part t p s ps) zero h = (s, refl)
 at_index (part t p s ps) (suc i) h = at_index ps i (omega arith)
 
 -- its schema
-pub alternative_there : (vs : List VariantShape) (xs : Option (List VariantShape)) (ps qs : Parts) (marker : Bool) (p : Place) → vs ≡ variants_of ps → variants_behind xs ≡ variants_of qs → IsPlaceOf vs xs p
+pub alternative_there : (vs : List VariantShape) (xs : Option (List VariantShape)) (ps qs : Parts) (marker : Bool) (p : Place) → vs ≡ variants_of ps → variants_after xs ≡ variants_of qs → IsPlaceOf vs xs p
     → (s : Schema) × (alternative_in (choice_schema ps marker qs) (side_of p) (index_in p) ≡ Some s)
 alternative_there vs xs ps qs marker (Root i) e f h = at_index ps i (subst (λ n. i < n) (sym (counted ps ∙ ap length (sym e))) h)
 alternative_there vs xs ps qs marker (Added i) e f h = at_index qs i (subst (λ n. i < n) (sym (counted qs ∙ ap length (sym f))) h)
@@ -51,7 +51,7 @@ alternative_opened choice c p x (Err e) y k h = record { law = elim h.law [ inl 
 
 -- and so to read
 pub placed_to_read : {E S O : Type 0} (rules : DecoderRules E S) (opens : Schema → Side → ℕ → S → O → S → Type 0) (alternatives behind : ℕ → Parts) (vs : List VariantShape) (xs : Option (List VariantShape))
-    → ((n : ℕ) → vs ≡ variants_of (alternatives n)) → ((n : ℕ) → variants_behind xs ≡ variants_of (behind n)) → (s : S) (r : Result (Place × O) E) (t : S) → OpensPlacedToRead rules opens (variant_counts vs xs) s r t
+    → ((n : ℕ) → vs ≡ variants_of (alternatives n)) → ((n : ℕ) → variants_after xs ≡ variants_of (behind n)) → (s : S) (r : Result (Place × O) E) (t : S) → OpensPlacedToRead rules opens (variant_counts vs xs) s r t
     → OpensAlternativeToRead rules opens (choices_of alternatives xs behind) vs xs s r t
 placed_to_read rules opens alternatives behind vs xs e f s (Ok r) t h =
     let n = rules.levels t in

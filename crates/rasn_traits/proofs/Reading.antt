@@ -7,7 +7,7 @@ use Rattle.rasn_traits.specs.AdditionsRead.{ReadsAddition, reads_added, reads_la
 use Rattle.rasn_traits.specs.Calls.{DecoderRules, Reads, Refuses, ReadsWell, DecodesWell}
 use Rattle.rasn_traits.specs.Presences.{left_out}
 use Rattle.rasn_schema.specs.Records.{record_at, no_additions}
-use Rattle.rasn_traits.specs.Scopes.{ReadsPart, reads_required, reads_there, reads_left_out, ReadsParts, reads_end, reads_next, FaultyPart, faulty_required, FaultyParts, faulty_here, faulty_behind, ReadsFields, reads_fields, faulty_root, faulty_behind_root, ReadsNoFields, AnswersFields, AnswersParts, KeepsCodec, ReadsAround, ScopesWell}
+use Rattle.rasn_traits.specs.Scopes.{ReadsPart, reads_required, reads_there, reads_left_out, ReadsParts, reads_end, reads_next, FaultyPart, faulty_required, FaultyParts, faulty_here, faulty_after, ReadsFields, reads_fields, faulty_root, faulty_after_root, ReadsNoFields, AnswersFields, AnswersParts, KeepsCodec, ReadsAround, ScopesWell}
 
 -- how a component was read, which may be absent
 pub data Optionally {E S : Type 0} (rules : DecoderRules E S) (p : Presence) (c : Schema) (s : S) (x : Option Value) (t : S) : Type 0 where
@@ -82,14 +82,14 @@ module _ {S E : Type 0} {rules : DecoderRules E S} (L : DecodesWell rules) where
     stands = faulty_here (faulty_required r.stands);
   })
 
-  -- a component behind one that was read
-  pub fails_behind : {k : TagTree} {p : Presence} {c : Schema} {ps : Parts} {s m : S} {x : Option Value} {e : E} → ReadsPart rules p c s x m
+  -- a component after one that was read
+  pub fails_after : {k : TagTree} {p : Presence} {c : Schema} {ps : Parts} {s m : S} {x : Option Value} {e : E} → ReadsPart rules p c s x m
       → rules.memory e m ⊎ Refuses (ReadsParts rules ps) (λ e. FaultyParts rules e ps) e m
       → rules.memory e s ⊎ Refuses (ReadsParts rules (part k p c ps)) (λ e. FaultyParts rules e (part k p c ps)) e s
-  fails_behind {p = p} {c = c} {s = s} {m = m} {x = x} {e = e} a (inl h) = inl ((part_reads_well p c).room s x m e a h)
-  fails_behind {p = p} {c = c} {ps = ps} {s = s} {m = m} {x = x} {e = e} a (inr r) = inr (record {
+  fails_after {p = p} {c = c} {s = s} {m = m} {x = x} {e = e} a (inl h) = inl ((part_reads_well p c).room s x m e a h)
+  fails_after {p = p} {c = c} {ps = ps} {s = s} {m = m} {x = x} {e = e} a (inr r) = inr (record {
     nothing = λ xs t b. let q = next_of b in r.nothing q.1 t (subst (λ z. ReadsParts rules ps z q.1 t) ((part_reads_well p c).one s q.0 x q.2 m q.4 a).1 q.5);
-    stands = faulty_behind a r.stands;
+    stands = faulty_after a r.stands;
   })
 
   -- components are read in one way
@@ -161,7 +161,7 @@ module _ {S E : Type 0} {rules : DecoderRules E S} (L : DecodesWell rules) where
     stands = faulty_addition r.stands;
   })
 
-  -- an addition behind one that was read
+  -- an addition after one that was read
   pub fails_further : {k : TagTree} {p : Presence} {c : Schema} {ps : Parts} {s m : S} {x : Option Value} {e : E} → ReadsAddition rules p c s x m
       → rules.memory e m ⊎ Refuses (ReadsAdditions rules ps) (λ e. FaultyAdditions rules e ps) e m
       → rules.memory e s ⊎ Refuses (ReadsAdditions rules (part k p c ps)) (λ e. FaultyAdditions rules e (part k p c ps)) e s
@@ -219,16 +219,16 @@ module _ {S E : Type 0} {rules : DecoderRules E S} (L : DecodesWell rules) where
     stands = faulty_root r.stands;
   })
 
-  -- an addition that isn't read, behind the root components
-  pub fails_behind_root : {ps qs : Parts} {s : S} {e : E} (rs : List (Option Value)) (m : S) → ReadsParts rules ps s rs m
+  -- an addition that isn't read, after the root components
+  pub fails_after_root : {ps qs : Parts} {s : S} {e : E} (rs : List (Option Value)) (m : S) → ReadsParts rules ps s rs m
       → rules.memory e m ⊎ Refuses (ReadsAdditions rules qs) (λ e. FaultyAdditions rules e qs) e m → rules.memory e s ⊎ ReadsNoFields rules ps qs e s
-  fails_behind_root {ps} {qs} {s} {e} rs m a (inl h) = inl (parts_room L ps s rs m e a h)
-  fails_behind_root {ps} {qs} {s} {e} rs m a (inr r) = inr (record {
+  fails_after_root {ps} {qs} {s} {e} rs m a (inl h) = inl (parts_room L ps s rs m e a h)
+  fails_after_root {ps} {qs} {s} {e} rs m a (inr r) = inr (record {
     nothing = λ rs' xs t b. let f = fields_of b in r.nothing xs t (subst (λ z. ReadsAdditions rules qs z xs t) (parts_one L ps s rs' rs f.0 m f.1 a).1 f.2);
-    stands = faulty_behind_root a r.stands;
+    stands = faulty_after_root a r.stands;
   })
 
--- a required component, and those behind it
+-- a required component, and those after it
 pub required_read : {E S : Type 0} {rules : DecoderRules E S} {k : TagTree} {c : Schema} {ps : Parts} {s t : S} {v : Value} {rs : List (Option Value)} (m : S)
     → rules.spells c s v m → ReadsParts rules ps m rs t → ReadsParts rules (part k required c ps) s (Some v ∷ rs) t
 required_read m a b = reads_next (reads_required a) b
@@ -305,5 +305,5 @@ module _ {S O E : Type 0} {rules : DecoderRules E S} {unended : O → E → S �
   pub record_addition_failed : {e : E} (rs : List (Option Value)) (m : S) → ReadsParts rules (parts (rules.levels i)) i rs m
       → rules.memory e m ⊎ Refuses (ReadsAdditions rules (additions (rules.levels m))) (λ e. FaultyAdditions rules e (additions (rules.levels m))) e m
       → rules.memory e s ⊎ Refuses (rules.spells (record_at listed parts marker additions (rules.levels s))) (rules.fault (record_at listed parts marker additions (rules.levels s))) e s
-  record_addition_failed {e} rs m a r = record_failed (fails_behind_root L rs m a
+  record_addition_failed {e} rs m a r = record_failed (fails_after_root L rs m a
       (subst (λ n. rules.memory e m ⊎ Refuses (ReadsAdditions rules (additions n)) (λ e. FaultyAdditions rules e (additions n)) e m) (parts_level L (parts (rules.levels i)) i rs m a) r))

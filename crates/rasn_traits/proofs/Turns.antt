@@ -68,17 +68,17 @@ additions_of : (ps : Parts) (a : Amount) → (with_parts ps a).additions ≡ a.a
 additions_of no_parts a = refl
 additions_of (part t p s ps) a = part_additions p (with_parts ps a) ∙ additions_of ps a
 
-behind_components : (qs : Parts) (a : Amount) → (with_additions qs a).components ≡ a.components
-behind_components no_parts a = refl
-behind_components (part t p s qs) a = behind_components qs a
+after_components : (qs : Parts) (a : Amount) → (with_additions qs a).components ≡ a.components
+after_components no_parts a = refl
+after_components (part t p s qs) a = after_components qs a
 
-behind_bits : (qs : Parts) (a : Amount) → (with_additions qs a).bits ≡ a.bits
-behind_bits no_parts a = refl
-behind_bits (part t p s qs) a = behind_bits qs a
+after_bits : (qs : Parts) (a : Amount) → (with_additions qs a).bits ≡ a.bits
+after_bits no_parts a = refl
+after_bits (part t p s qs) a = after_bits qs a
 
-behind_additions : (qs : Parts) (a : Amount) → (with_additions qs a).additions ≡ count qs + a.additions
-behind_additions no_parts a = omega arith
-behind_additions (part t p s qs) a = let e = behind_additions qs a in omega arith
+after_additions : (qs : Parts) (a : Amount) → (with_additions qs a).additions ≡ count qs + a.additions
+after_additions no_parts a = omega arith
+after_additions (part t p s qs) a = let e = after_additions qs a in omega arith
 
 module _ {E X : Type 0} (rules : EncoderRules E X) where
   part_came : (p : Presence) (s : Schema) (x m y : X) (r : Option Value) (a : Amount) → PresentsPart rules p s x r m → Came rules a m y → Came rules (with_part p a) x y
@@ -110,10 +110,10 @@ module _ {E X : Type 0} (rules : EncoderRules E X) where
   fields_came ps qs x y rs xs (presents_fields {m = m} h k) =
       let b = with_additions qs no_amount in
       let c = components_of ps b in
-      let d = behind_components qs no_amount in
+      let d = after_components qs no_amount in
       let e = bits_of ps b in
-      let f = behind_bits qs no_amount in
+      let f = after_bits qs no_amount in
       let g = additions_of ps b in
-      let i = behind_additions qs no_amount in
+      let i = after_additions qs no_amount in
       subst (λ (a : Amount). Came rules a x y) (same_amount (with_parts ps b) (amount_of ps qs) (omega arith) (omega arith) (omega arith))
       (parts_came ps x m y rs b h (additions_came qs m y y xs no_amount k came_nothing))

@@ -8,7 +8,7 @@ use Rattle.rasn_traits.specs.Calls.{EncoderRules, Written, Encodes, PresentsWell
 use Rattle.rasn_schema.specs.Records.{record_at, no_additions, AtParts}
 use Rattle.rasn_schema.specs.Structures.{record_value, extended}
 use Rattle.rasn_traits.specs.Additions.{PresentsAdditions, presents_no_more, WrittenAdditions}
-use Rattle.rasn_traits.specs.Scopes.{PresentsPart, PresentsParts, presents_required, presents_there, presents_left_out, presents_end, presents_next, refuses_required, RefusesParts, refuses_here, refuses_behind, WrittenParts, presents_fields, refuses_root, refuses_behind_root, WrittenFields, IsCounted, Passes, ClosesWritten, KeepsCodec, WritesAround, deeper_of}
+use Rattle.rasn_traits.specs.Scopes.{PresentsPart, PresentsParts, presents_required, presents_there, presents_left_out, presents_end, presents_next, refuses_required, RefusesParts, refuses_here, refuses_after, WrittenParts, presents_fields, refuses_root, refuses_after_root, WrittenFields, IsCounted, Passes, ClosesWritten, KeepsCodec, WritesAround, deeper_of}
 use Rattle.std.proofs.Math.Nat.{le-max_left, le-max_right}
 
 -- a record takes one level
@@ -56,12 +56,12 @@ module _ {E X : Type 0} (rules : EncoderRules E X) where
   required_refused (inl m) = inl m
   required_refused (inr h) = inr (refuses_here (refuses_required h))
 
-  -- a required component that is presented, and what comes of those behind it
+  -- a required component that is presented, and what comes of those after it
   pub required_written : PresentsWell rules → (t : TagTree) (s : Schema) (ps : Parts) (x m : X) (v : Value) (rs : List (Option Value)) → rules.presents x s v m
       → (r : Result (Unit {0}) E) (y : X) → WrittenParts rules ps rs m r y → WrittenParts rules (part t required s ps) (Some v ∷ rs) x r y
   required_written L t s ps x m v rs a (Ok u) y w = presents_next (presents_required a) w
   required_written L t s ps x m v rs a (Err e) y (inl h) = inl (L.room x s v m e a h)
-  required_written L t s ps x m v rs a (Err e) y (inr h) = inr (refuses_behind (presents_required a) h)
+  required_written L t s ps x m v rs a (Err e) y (inr h) = inr (refuses_after (presents_required a) h)
 
   -- the last component, required
   pub last_written : (t : TagTree) (s : Schema) (x : X) (v : Value) (r : Result (Unit {0}) E) (y : X) → Written rules s v x r y
@@ -75,7 +75,7 @@ module _ {E X : Type 0} (rules : EncoderRules E X) where
   plainly_written ps x rs (Err e) y (inl m) = inl m
   plainly_written ps x rs (Err e) y (inr h) = inr (refuses_root h)
 
-  -- want of memory behind components that were presented, or behind additions, is want of memory of the whole
+  -- want of memory after components that were presented, or after additions, is want of memory of the whole
   part_room : PresentsWell rules → (p : Presence) (s : Schema) (x : X) (o : Option Value) (y : X) (e : E) → PresentsPart rules p s x o y → rules.memory e y → rules.memory e x
   part_room L p s x o y e (presents_required {v = v} a) h = L.room x s v y e a h
   part_room L p s x o y e (presents_there {m = m} {v = v} q b a) h = L.mark_room x true m e b (L.room m s v y e a h)
@@ -86,12 +86,12 @@ module _ {E X : Type 0} (rules : EncoderRules E X) where
   parts_room L (part t p s ps) x (r ∷ rs) y e (presents_next {m = m} a b) h = part_room L p s x r m e a (parts_room L ps m rs y e b h)
   parts_room L (part t p s ps) x [] y e a h = elim a [ ]
 
-  -- root components that were presented, and what comes of the additions behind them
-  pub behind_root : PresentsWell rules → (ps qs : Parts) (x m : X) (rs xs : List (Option Value)) → PresentsParts rules ps x rs m
+  -- root components that were presented, and what comes of the additions after them
+  pub after_root : PresentsWell rules → (ps qs : Parts) (x m : X) (rs xs : List (Option Value)) → PresentsParts rules ps x rs m
       → (r : Result (Unit {0}) E) (y : X) → WrittenAdditions rules qs xs m r y → WrittenFields rules ps qs rs xs x r y
-  behind_root L ps qs x m rs xs a (Ok u) y w = presents_fields a w
-  behind_root L ps qs x m rs xs a (Err e) y (inl h) = inl (parts_room L ps x rs m e a h)
-  behind_root L ps qs x m rs xs a (Err e) y (inr h) = inr (refuses_behind_root a h)
+  after_root L ps qs x m rs xs a (Ok u) y w = presents_fields a w
+  after_root L ps qs x m rs xs a (Err e) y (inl h) = inl (parts_room L ps x rs m e a h)
+  after_root L ps qs x m rs xs a (Err e) y (inr h) = inr (refuses_after_root a h)
 
   -- a root component that is refused
   pub root_refused : (ps qs : Parts) (x : X) (rs xs : List (Option Value)) (e : E) (y : X) → WrittenParts rules ps rs x (Err e) y → WrittenFields rules ps qs rs xs x (Err e) y
@@ -127,7 +127,7 @@ module _ {E X : Type 0} (rules : EncoderRules E X) where
       → ((n : ℕ) → k ≤ n → WrittenAdditions rules (additions n) (normals (additions n) xs) m (Err e) j)
       → AtDepths (record_at listed parts marker additions) (suc k) (λ s. Written rules s (normal s (record_value rs xs)) x (Err e) y)
   record_addition_refused L parts marker additions rs xs k x i m j y e h a w = record_refused listed parts marker additions rs xs k x i j y e (λ n. tt) h
-      (λ n le. behind_root L (parts n) (additions n) i m (normals (parts n) rs) (normals (additions n) xs) (a n le) (Err e) j (w n le))
+      (λ n le. after_root L (parts n) (additions n) i m (normals (parts n) rs) (normals (additions n) xs) (a n le) (Err e) j (w n le))
 
   -- a record whose root components were presented, and then its additions
   pub record_ended : {O : Type 0} (opens : Schema → X → O → X → Type 0) (parts : ℕ → Parts) (marker : Bool) (additions : ℕ → Parts) (rs xs : List (Option Value)) (k : ℕ) (x i m j : X) (o : O)

@@ -1,4 +1,4 @@
--- What additions owe that stand behind the extension marker of a record (ITU-T X.691, 19.7 to 19.9), stated over any
+-- What additions owe that are after the extension marker of a record (ITU-T X.691, 19.7 to 19.9), stated over any
 -- codec's relations.
 use Rattle.std.specs.Prelude.{◌≡◌, ℕ, ◌⊎◌, Bool, true, false, Result, Ok, Err, OnErr, List, [], ◌∷◌, Option, Some, None}
 use Rattle.rasn_types.specs.Values.{Value}

@@ -1,4 +1,4 @@
--- What additions owe that a decoder reads behind the extension marker of a record (ITU-T X.691, 19.7 to 19.9), stated
+-- What additions owe that a decoder reads after the extension marker of a record (ITU-T X.691, 19.7 to 19.9), stated
 -- over any codec's relations.
 use Rattle.std.specs.Prelude.{◌≡◌, ℕ, ◌⊎◌, true, false, Result, Ok, Err, OnErr, List, [], ◌∷◌, Option, Some, None}
 use Rattle.std.specs.Prelude.{IfOk, IfSome}
@@ -26,7 +26,7 @@ pub data ReadsAdditions {E S : Type 0} (rules : DecoderRules E S) : Parts → S 
       → ReadsAddition rules p c s r m → ReadsAdditions rules ps m rs t
       → ReadsAdditions rules (part k p c ps) s (r ∷ rs) t
 
--- The fault that an error names stands in one addition: in its value, or in that a required one isn't there.
+-- The fault that an error names is in one addition: in its value, or in that a required one isn't there.
 pub data FaultyAddition {E S : Type 0} (rules : DecoderRules E S) (e : E) : TagTree → Presence → Schema → S
     → Type 0 where
   faulty_added : {k : TagTree} {p : Presence} {c : Schema} {s : S} → rules.misadds c e s
@@ -34,7 +34,7 @@ pub data FaultyAddition {E S : Type 0} (rules : DecoderRules E S) (e : E) : TagT
   faulty_lacking : {k : TagTree} {c : Schema} {s t : S} → rules.adds c s None t → rules.lacking (field_tag k) e t
       → FaultyAddition rules e k required c s
 
--- The fault that an error names stands in one of some additions, behind those that are read before it.
+-- The fault that an error names is in one of some additions, after those that are read before it.
 pub data FaultyAdditions {E S : Type 0} (rules : DecoderRules E S) (e : E) : Parts → S → Type 0 where
   faulty_addition : {k : TagTree} {p : Presence} {c : Schema} {ps : Parts} {s : S} → FaultyAddition rules e k p c s
       → FaultyAdditions rules e (part k p c ps) s
@@ -64,7 +64,7 @@ pub record ReadsNoAddition {E S : Type 0} (rules : DecoderRules E S) (e : E) (s 
   pub nothing : (c : Schema) (r : Option Value) (t : S) → rules.adds c s r t → ⊥
   pub stands : (c : Schema) → rules.misadds c e s
 
--- Ok is inside the open type of the next addition, or behind one that isn't there; and Err, memory aside, comes only
+-- Ok is inside the open type of the next addition, or after one that isn't there; and Err, memory aside, comes only
 -- where none is read.
 abbrev pub AdditionOpenedToRead : {E S O : Type 0} → DecoderRules E S → (S → O → S → Type 0) → S → Result (Option O) E
     → S → Type 0

@@ -31,7 +31,7 @@ amount_of ps qs = record { components = count ps; bits = presence_bits ps; addit
 abbrev pub with_component : Amount → Amount
 with_component a = record { components = suc a.components; bits = a.bits; additions = a.additions }
 
--- a presence bit more: a bit 0 is a component that is left out, and behind a bit 1 its value follows
+-- a presence bit more: a bit 0 is a component that is left out, and after a bit 1 its value follows
 abbrev pub with_bit : Bool → Amount → Amount
 with_bit true a = record { components = a.components; bits = suc a.bits; additions = a.additions }
 with_bit false a = record { components = suc a.components; bits = suc a.bits; additions = a.additions }

@@ -1,4 +1,4 @@
--- What stands in an open SET OF, member after member, and what opening, going on and closing one owe, stated over any
+-- What is in an open SET OF, member after member, and what opening, going on and closing one owe, stated over any
 -- encoder's relations. The members come in whatever order: what is presented is their bag.
 use Rattle.std.specs.Prelude.{ℕ, ◌≡◌, ◌⊎◌, Bool, List, [], ◌∷◌, length, Result, Ok, Err, IsErrAnd}
 use Rattle.rasn_types.specs.Values.{Value, bag_of}

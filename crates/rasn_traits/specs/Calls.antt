@@ -32,7 +32,7 @@ pub record EncoderRules (E X : Type 0) : Type 1 where
   -- the next addition is given as one value in an open type: what was written before, and how it is then
   pub adds : X → Schema → Value → X → Type 0
   -- an error by which a value is refused: it has no encoding, or the encoder had failed; and the fault that the error
-  -- names stands in the value
+  -- names is in the value
   pub refuses : E → X → Schema → Value → Type 0
   -- an error by which a presence bit is refused: none is left, or the encoder had failed
   pub unmarked : E → X → Type 0
@@ -71,7 +71,7 @@ pub record Encodes {E X : Type 0} (rules : EncoderRules E X) (schema : ℕ → S
   pub law : AtDepths schema k (λ s. Written rules s (normal s v) x result y)
   pub behaves : Behaves rules.already rules.failed rules.codec x result y
 
--- What holds of an encoder's relations: what is presented was begun and left unfailed, and want of memory behind it is
+-- What holds of an encoder's relations: what is presented was begun and left unfailed, and want of memory after it is
 -- want of memory of the whole.
 pub record PresentsWell {E X : Type 0} (rules : EncoderRules E X) : Type 0 where
   pub begun : (x : X) (s : Schema) (v : Value) (y : X) → rules.presents x s v y → rules.failed x ≡ false
@@ -87,7 +87,7 @@ pub record PresentsWell {E X : Type 0} (rules : EncoderRules E X) : Type 0 where
   pub vacant : (x i : X) (s : Schema) (v : Value) (e : E) → rules.begins x i → is_group_schema s ≡ true
       → is_vacant s v ≡ true → rules.refuses e i s v → ⊥
 
--- A refusal of a decoder: nothing is read at s, and the fault that e names stands in what is left there.
+-- A refusal of a decoder: nothing is read at s, and the fault that e names is in what is left there.
 pub record Refuses {S V E : Type 0} (R : S → V → S → Type 0) (fault : E → S → Type 0) (e : E) (s : S) : Type 0 where
   pub nothing : (v : V) (t : S) → R s v t → ⊥
   pub stands : fault e s
@@ -102,17 +102,17 @@ Answers memory fault R value s (Err e) t = memory e s ⊎ Refuses R fault e s
 pub record DecoderRules (E S : Type 0) : Type 1 where
   -- how many levels may still be entered
   pub levels : S → ℕ
-  -- a front of what is left spells a value, and what is left behind it
+  -- a front of what is left spells a value, and what is left after it
   pub spells : Schema → S → Value → S → Type 0
   -- the next presence bit
   pub marks : S → Bool → S → Type 0
-  -- the next addition: the value of an open type, or none; and what is left behind it
+  -- the next addition: the value of an open type, or none; and what is left after it
   pub adds : Schema → S → Option Value → S → Type 0
-  -- the fault that an error names stands in what is left, as a schema reads it
+  -- the fault that an error names is in what is left, as a schema reads it
   pub fault : Schema → E → S → Type 0
   -- an error by which a presence bit is refused: none is left, or the decoder had failed
   pub unmarked : E → S → Type 0
-  -- the fault that an error names stands in the next addition, as a schema reads it
+  -- the fault that an error names is in the next addition, as a schema reads it
   pub misadds : Schema → E → S → Type 0
   -- so much is still to come in the open scope, which counts what comes
   pub awaits : Amount → S → Type 0
@@ -141,7 +141,7 @@ pub record Reads {S T E : Type 0} (rules : DecoderRules E S) (c : Schema) (value
   pub behaves : Behaves rules.already rules.failed rules.codec s result t
 
 -- What holds of each relation of a decoder: one value and one state, at the same depth, unfailed, and want of memory
--- behind it is want of memory of the whole.
+-- after it is want of memory of the whole.
 pub record ReadsWell {S V E : Type 0} (rules : DecoderRules E S) (R : S → V → S → Type 0) : Type 0 where
   pub one : (s : S) (v w : V) (t u : S) → R s v t → R s w u → (v ≡ w) × (t ≡ u)
   pub level : (s : S) (v : V) (t : S) → R s v t → rules.levels t ≡ rules.levels s

@@ -1,13 +1,13 @@
--- What a call owes that writes or reads a choice (X.680 29), and what stands in it, stated over any codec's relations.
+-- What a call owes that writes or reads a choice (X.680 29), and what is in it, stated over any codec's relations.
 -- `choice` is the choice by the number of levels of its alternatives, `vs` and `xs` are its variants before an
--- extension marker and behind one, and `d` and `k` are the list and the place there in which an alternative stands.
+-- extension marker and after one, and `d` and `k` are the list and the place there in which an alternative stands.
 use Rattle.std.specs.Prelude.{◌≡◌, ℕ, suc, ◌≤◌, ◌<◌, ◌⊎◌, true, false, Result, Ok, Err, OnErr, IsErrAnd, IfOk}
 use Rattle.std.specs.Prelude.{IfSome, List, length, Option, Some, None}
 use Rattle.rasn_types.specs.Values.{Value, alternative, Side, root, added}
 use Rattle.rasn_types.specs.declared.types.Tag.{Tag}
 use Rattle.rasn_schema.specs.Schemas
 use Rattle.rasn_schema.specs.Schemas.{Schema}
-use Rattle.rasn_schema.specs.Choices.{VariantShape, one_level_in, place_of, variants_behind, variants_on}
+use Rattle.rasn_schema.specs.Choices.{VariantShape, one_level_in, place_of, variants_after, variants_on}
 use Rattle.rasn_schema.specs.Structures.{alternative_in, tag_of}
 use Rattle.rasn_schema.specs.Components.{Chosen}
 use Rattle.rasn_schema.specs.Normal.{normal, AtDepths}
@@ -18,7 +18,7 @@ use Rattle.rasn_traits.specs.Scopes.{KeepsCodec}
 use Rattle.rasn_traits.specs.Amounts.{one_value}
 use Rattle.rasn_traits.specs.Turns.{RefusesOther}
 
--- the list of a place, and where it stands there
+-- the list of a place, and where it is there
 abbrev pub side_of : Place → Side
 side_of (Root i) = root
 side_of (Added i) = added
@@ -27,12 +27,12 @@ abbrev pub index_in : Place → ℕ
 index_in (Root i) = i
 index_in (Added i) = i
 
--- an alternative stands at a place
+-- an alternative is at a place
 abbrev pub IsPlaceOf : List VariantShape → Option (List VariantShape) → Place → Type 0
 IsPlaceOf vs xs (Root i) = i < length vs
-IsPlaceOf vs xs (Added i) = i < length (variants_behind xs)
+IsPlaceOf vs xs (Added i) = i < length (variants_after xs)
 
--- the alternative that a value is stands at a place
+-- the alternative that a value is is at a place
 pub record StandsAtPlace (vs : List VariantShape) (xs : Option (List VariantShape)) (c : Chosen) (place : Place)
     : Type 0 where
   pub side : side_of place ≡ c.side
@@ -71,7 +71,7 @@ pub record ClosesChoice {E X O : Type 0} (rules : EncoderRules E X) (opens : Sch
   pub law : (x i : X) (n : ℕ) (d : Side) (k : ℕ) (s : Schema) (v : Value) → opens (choice n) x o i
       → place_of t (variants_on d vs xs) ≡ Some k → alternative_in (choice n) d k ≡ Some s
       → rules.presents i s v j → Written rules (choice n) (alternative d k v) x result y
-  pub unknown : place_of t vs ≡ None → place_of t (variants_behind xs) ≡ None
+  pub unknown : place_of t vs ≡ None → place_of t (variants_after xs) ≡ None
       → IsErrAnd result (λ e. rules.already e j ⊎ rules.unchosen e j)
   pub untimely : (x i : X) (n : ℕ) (d : Side) (k : ℕ) → opens (choice n) x o i
       → place_of t (variants_on d vs xs) ≡ Some k → RefusesOther rules one_value i j result
@@ -149,7 +149,7 @@ pub data EndsChoice {E X : Type 0} (rules : EncoderRules E X) (choice : ℕ → 
       → EndsChoice rules choice vs xs returns x result
   ends_chosen : {i j : X} {t : Tag} → returns i (Ok t) j
       → (rules.failed j ≡ true → IsErrAnd result (λ e. rules.already e j))
-      → (place_of (tag_of t) vs ≡ None → place_of (tag_of t) (variants_behind xs) ≡ None
+      → (place_of (tag_of t) vs ≡ None → place_of (tag_of t) (variants_after xs) ≡ None
       → IsErrAnd result (Unchosen rules j)) → EndsChoice rules choice vs xs returns x result
 
 -- A call that writes a choice by a function that is lent the encoder.
@@ -180,13 +180,13 @@ pub data RefusesUnknown {E X : Type 0} (rules : EncoderRules E X) (choice schema
   unknown_tag : {j : X} → Unchosen rules j e → RefusesUnknown rules choice schema depth v x e
 
 -- A call that writes a choice by the value of one alternative, which goes by a tag: before an extension marker, or
--- behind it. A tag by which none goes is refused.
+-- after it. A tag by which none goes is refused.
 pub record EncodesAlternative {E X : Type 0} (rules : EncoderRules E X) (choice : ℕ → Schema) (vs : List VariantShape)
     (xs : Option (List VariantShape)) (tag : Schemas.Tag) (schema : ℕ → Schema) (depth : ℕ) (v : Value) (x : X)
     (result : Result (Unit {0}) E) (y : X) : Type 0 where
   pub before : EncodesAt rules choice root (place_of tag vs) schema depth v x result y
-  pub behind : EncodesAt rules choice added (place_of tag (variants_behind xs)) schema depth v x result y
-  pub unknown : place_of tag vs ≡ None → place_of tag (variants_behind xs) ≡ None
+  pub behind : EncodesAt rules choice added (place_of tag (variants_after xs)) schema depth v x result y
+  pub unknown : place_of tag vs ≡ None → place_of tag (variants_after xs) ≡ None
       → IsErrAnd result (RefusesUnknown rules choice schema depth v x)
   pub behaves : Behaves rules.already rules.failed rules.codec x result y
 
@@ -201,15 +201,15 @@ TakenFrom rules choice d variants tag value s result t = (k : ℕ) (c : Schema) 
     → alternative_in (choice (rules.levels s)) d k ≡ Some c
     → Answers rules.memory (rules.fault c) (ReadsAlternative rules d k c) value s result t
 
--- A call that reads the alternative that goes by a tag, before an extension marker or behind it, to the levels left.
+-- A call that reads the alternative that goes by a tag, before an extension marker or after it, to the levels left.
 pub record TakesAlternative {E S T : Type 0} (rules : DecoderRules E S) (choice : ℕ → Schema) (vs : List VariantShape)
     (xs : Option (List VariantShape)) (tag : Schemas.Tag) (value : T → Value) (s : S) (result : Result T E)
     (t : S) : Type 0 where
   pub before : TakenFrom rules choice root vs tag value s result t
-  pub behind : TakenFrom rules choice added (variants_behind xs) tag value s result t
+  pub behind : TakenFrom rules choice added (variants_after xs) tag value s result t
   pub behaves : Behaves rules.already rules.failed rules.codec s result t
 
--- Behind the index of a choice, and inside its open type where it stands behind an extension marker, stands the
+-- After the index of a choice, and inside its open type where it is after an extension marker, stands the
 -- alternative at its place, one level deeper.
 pub record IsChosen {E S O : Type 0} (rules : DecoderRules E S) (opens : Schema → Side → ℕ → S → O → S → Type 0)
     (choice : ℕ → Schema) (vs : List VariantShape) (xs : Option (List VariantShape)) (tag : Schemas.Tag) (s : S)
@@ -230,7 +230,7 @@ OpenedToChoose rules opens choice vs xs s (Ok r) i = IsChosen rules opens choice
 OpenedToChoose rules opens choice vs xs s (Err e) i =
     let c = one_level_in choice (rules.levels s) in rules.memory e s ⊎ Refuses (rules.spells c) (rules.fault c) e s
 
--- A call that reads the index of a choice, and opens the open type of an alternative behind an extension marker: one
+-- A call that reads the index of a choice, and opens the open type of an alternative after an extension marker: one
 -- value is to come.
 pub record OpensToChoose {E S O : Type 0} (rules : DecoderRules E S) (opens : Schema → Side → ℕ → S → O → S → Type 0)
     (choice : ℕ → Schema) (vs : List VariantShape) (xs : Option (List VariantShape)) (s : S)
@@ -247,7 +247,7 @@ pub record TakesAt {E S T : Type 0} (rules : DecoderRules E S) (choice : ℕ →
       s result t
   pub behaves : Behaves rules.already rules.failed rules.codec s result t
 
--- Behind the index of a choice, and inside its open type where it stands behind an extension marker, stands the
+-- After the index of a choice, and inside its open type where it is after an extension marker, stands the
 -- alternative at a place, one level deeper.
 pub record IsAlternative {E S O : Type 0} (rules : DecoderRules E S)
     (opens : Schema → Side → ℕ → S → O → S → Type 0) (choice : ℕ → Schema) (vs : List VariantShape)
@@ -265,7 +265,7 @@ OpenedAlternativeToRead rules opens choice vs xs s (Ok r) i = IsAlternative rule
 OpenedAlternativeToRead rules opens choice vs xs s (Err e) i =
     let c = one_level_in choice (rules.levels s) in rules.memory e s ⊎ Refuses (rules.spells c) (rules.fault c) e s
 
--- A call that reads the index of a choice, and opens the open type of an alternative behind an extension marker: one
+-- A call that reads the index of a choice, and opens the open type of an alternative after an extension marker: one
 -- value is to come.
 pub record OpensAlternativeToRead {E S O : Type 0} (rules : DecoderRules E S)
     (opens : Schema → Side → ℕ → S → O → S → Type 0) (choice : ℕ → Schema) (vs : List VariantShape)
@@ -274,7 +274,7 @@ pub record OpensAlternativeToRead {E S O : Type 0} (rules : DecoderRules E S)
   pub counts : IfOk result (λ r. rules.awaits one_value t)
   pub behaves : Behaves rules.already rules.failed rules.codec s result t
 
--- What holds of a decoder's choices. A choice is the alternative behind its index, up to the end of its open type: what
+-- What holds of a decoder's choices. A choice is the alternative after its index, up to the end of its open type: what
 -- is read there is the choice, no choice is read in another way, and a fault in the alternative, or at the end, is one
 -- of the choice.
 pub record ChoicesWell {E S O : Type 0} (rules : DecoderRules E S) (unended : O → E → S → Type 0)

@@ -31,7 +31,7 @@ stands_in c (Added i) = nat_lt i (addeds_of c.addeds)
 abbrev pub variant_counts : List VariantShape → Option (List VariantShape) → ItemCounts
 variant_counts vs xs = record { roots = length vs; addeds = option_map length xs }
 
--- Components and additions of which so many root components have a presence bit, and so many additions stand behind a
+-- Components and additions of which so many root components have a presence bit, and so many additions are after a
 -- marker, where there is one.
 pub record AreCounted (parts : ℕ → Parts) (marker : Bool) (additions : ℕ → Parts) (bits : ℕ) (added : Option ℕ)
     : Type 0 where
@@ -157,7 +157,7 @@ PlacedToRead rules opens choice s (Ok r) i =
 PlacedToRead rules opens choice s (Err e) i =
     let c = one_level_in choice (rules.levels s) in rules.memory e s ⊎ Refuses (rules.spells c) (rules.fault c) e s
 
--- A call that reads the index of any choice of so many alternatives, and opens the open type of one behind the
+-- A call that reads the index of any choice of so many alternatives, and opens the open type of one after the
 -- extension marker: one value is to come.
 pub record OpensPlacedToRead {E S O : Type 0} (rules : DecoderRules E S)
     (opens : Schema → Side → ℕ → S → O → S → Type 0) (alternatives : ItemCounts) (s : S)

@@ -1,4 +1,4 @@
--- What stands in an open list, element after element, and what opening, going on and closing one owe, stated over any
+-- What is in an open list, element after element, and what opening, going on and closing one owe, stated over any
 -- codec's relations.
 use Rattle.std.specs.Prelude.{ℕ, suc, ◌≡◌, ◌<◌, ◌⊎◌, Bool, true, false, List, [], ◌∷◌, ◌++◌, length, Result, Ok, Err}
 use Rattle.std.specs.Prelude.{IfOk, IsErrAnd}
@@ -98,7 +98,7 @@ pub record OpensListToRead {E S L : Type 0} (rules : DecoderRules E S) (amid : A
   pub law : ListOpenedToRead rules amid size mark s result i
   pub behaves : Behaves rules.already rules.failed rules.codec s result i
 
--- The next element of a list, which began at s, stands at i, one level deeper: where it is read, the others are still
+-- The next element of a list, which began at s, is at i, one level deeper: where it is read, the others are still
 -- to be read; where none is, no list is; its fault is one of the list; and want of memory there is want of memory of
 -- the whole.
 pub record HasElement {E S L : Type 0} (rules : DecoderRules E S) (amid : AmidRead S L) (e : Schema) (size : Size)
@@ -110,7 +110,7 @@ pub record HasElement {E S L : Type 0} (rules : DecoderRules E S) (amid : AmidRe
   pub in_element : (d : E) → rules.fault e d i → rules.fault (Schema.list e size mark) d s
   pub room : (d : E) → rules.memory d i → rules.memory d s
 
--- Ok says whether a further element stands there, or the list was read, and Err, memory aside, comes only where no list
+-- Ok says whether a further element is there, or the list was read, and Err, memory aside, comes only where no list
 -- is read.
 abbrev pub ElementFound : {E S L : Type 0} → DecoderRules E S → AmidRead S L → Schema → Size → Bool → S → List Value
     → Result Bool E → L → S → Type 0

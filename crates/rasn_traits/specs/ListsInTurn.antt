@@ -70,7 +70,7 @@ pub record IsBeforeElement {X L : Type 0} (amid : Amid X L) (l : L) (y : X) : Ty
   pub stands : amid form before (element ∷ others) l y
 
 -- A list or a bag is open of which all elements were written.
-pub record IsBehindElements {X L : Type 0} (amid : Amid X L) (l : L) (y : X) : Type 0 where
+pub record IsAfterElements {X L : Type 0} (amid : Amid X L) (l : L) (y : X) : Type 0 where
   pub form : ListForm
   pub before : X
   pub stands : amid form before [] l y

@@ -1,4 +1,4 @@
--- What stands in a scope, component after component, and what opening and closing one owe, stated over any codec's
+-- What is in a scope, component after component, and what opening and closing one owe, stated over any codec's
 -- relations.
 use Rattle.std.specs.Prelude.{◌≡◌, ℕ, zero, suc, max, ◌≤◌, ◌⊎◌, Bool, true, false, Result, Ok, Err, OnErr, IsErr}
 use Rattle.std.specs.Prelude.{IfOk, IsErrAnd, List, [], ◌∷◌, length, Option, Some}
@@ -13,14 +13,14 @@ use Rattle.rasn_traits.specs.AdditionsRead.{ReadsAdditions, FaultyAdditions}
 use Rattle.rasn_traits.specs.Presences.{presence_bit, left_out}
 use Rattle.rasn_traits.specs.Amounts.{Amount, amount_of, one_value}
 use Rattle.rasn_traits.specs.Turns.{RefusesOther}
-use Rattle.rasn_traits.specs.TurnsRead.{RefusesInList, RefusesOtherRead}
+use Rattle.rasn_traits.specs.TurnsRead.{RefusesInFields, RefusesInList, RefusesOtherRead}
 use Rattle.rasn_schema.specs.Records.{record_at, AtParts}
 
 -- a record of these root components, without an extension marker
 abbrev pub schema_of_parts : Parts → Schema
 schema_of_parts ps = Schema.sequence listed ps false no_parts
 
--- One component is presented: a required one as its value; one that may be absent as its presence bit, and behind a bit
+-- One component is presented: a required one as its value; one that may be absent as its presence bit, and after a bit
 -- 1 its value (X.691 19.2, 19.5).
 pub data PresentsPart {E X : Type 0} (rules : EncoderRules E X) : Presence → Schema → X → Option Value → X
     → Type 0 where
@@ -55,7 +55,7 @@ pub data RefusesParts {E X : Type 0} (rules : EncoderRules E X) (e : E) : Parts 
   refuses_here : {t : TagTree} {p : Presence} {s : Schema} {ps : Parts} {x : X} {r : Option Value}
       {rs : List (Option Value)}
       → RefusesPart rules e p s x r → RefusesParts rules e (part t p s ps) x (r ∷ rs)
-  refuses_behind : {t : TagTree} {p : Presence} {s : Schema} {ps : Parts} {x m : X} {r : Option Value}
+  refuses_after : {t : TagTree} {p : Presence} {s : Schema} {ps : Parts} {x m : X} {r : Option Value}
       {rs : List (Option Value)}
       → PresentsPart rules p s x r m → RefusesParts rules e ps m rs → RefusesParts rules e (part t p s ps) x (r ∷ rs)
 
@@ -89,7 +89,7 @@ pub data PresentsFields {E X : Type 0} (rules : EncoderRules E X) (ps qs : Parts
 pub data RefusesFields {E X : Type 0} (rules : EncoderRules E X) (e : E) (ps qs : Parts) (x : X)
     (rs xs : List (Option Value)) : Type 0 where
   refuses_root : RefusesParts rules e ps x rs → RefusesFields rules e ps qs x rs xs
-  refuses_behind_root : {m : X} → PresentsParts rules ps x rs m → RefusesAdditions rules e qs m xs
+  refuses_after_root : {m : X} → PresentsParts rules ps x rs m → RefusesAdditions rules e qs m xs
       → RefusesFields rules e ps qs x rs xs
 
 -- Ok presents the components, and Err, memory aside, comes only where one of them is refused.
@@ -209,7 +209,7 @@ pub record WritesAround {E X : Type 0} (rules : EncoderRules E X) (order : Order
   pub fails : OnErr result (rules.failed y ≡ true)
   pub kept : KeepsCodec rules.codec returns → rules.codec y ≡ rules.codec x
 
--- One component is read: a required one as its value; one that may be absent by its presence bit, and behind a bit 1 as
+-- One component is read: a required one as its value; one that may be absent by its presence bit, and after a bit 1 as
 -- its value (X.691 19.2, 19.5).
 pub data ReadsPart {E S : Type 0} (rules : DecoderRules E S) : Presence → Schema → S → Option Value → S → Type 0 where
   reads_required : {c : Schema} {s t : S} {v : Value} → rules.spells c s v t → ReadsPart rules required c s (Some v) t
@@ -225,7 +225,7 @@ pub data ReadsParts {E S : Type 0} (rules : DecoderRules E S) : Parts → S → 
       {rs : List (Option Value)}
       → ReadsPart rules p c s r m → ReadsParts rules ps m rs t → ReadsParts rules (part k p c ps) s (r ∷ rs) t
 
--- The fault that an error names stands in one component: in its value, or at its presence bit.
+-- The fault that an error names is in one component: in its value, or at its presence bit.
 pub data FaultyPart {E S : Type 0} (rules : DecoderRules E S) (e : E) : Presence → Schema → S → Type 0 where
   faulty_required : {c : Schema} {s : S} → rules.fault c e s → FaultyPart rules e required c s
   faulty_there : {p : Presence} {c : Schema} {s m : S} {r : Option Value} → left_out p ≡ Some r → rules.marks s true m
@@ -233,11 +233,11 @@ pub data FaultyPart {E S : Type 0} (rules : DecoderRules E S) (e : E) : Presence
   faulty_bit : {p : Presence} {c : Schema} {s : S} {r : Option Value} → left_out p ≡ Some r → rules.unmarked e s
       → FaultyPart rules e p c s
 
--- The fault that an error names stands in one of some components, behind those that are read before it.
+-- The fault that an error names is in one of some components, after those that are read before it.
 pub data FaultyParts {E S : Type 0} (rules : DecoderRules E S) (e : E) : Parts → S → Type 0 where
   faulty_here : {k : TagTree} {p : Presence} {c : Schema} {ps : Parts} {s : S} → FaultyPart rules e p c s
       → FaultyParts rules e (part k p c ps) s
-  faulty_behind : {k : TagTree} {p : Presence} {c : Schema} {ps : Parts} {s m : S} {r : Option Value}
+  faulty_after : {k : TagTree} {p : Presence} {c : Schema} {ps : Parts} {s m : S} {r : Option Value}
       → ReadsPart rules p c s r m → FaultyParts rules e ps m → FaultyParts rules e (part k p c ps) s
 
 -- Ok answers components that are read in turn, and Err, memory aside, comes only where they aren't.
@@ -258,10 +258,10 @@ pub data ReadsFields {E S : Type 0} (rules : DecoderRules E S) (ps qs : Parts) (
   reads_fields : {m : S} → ReadsParts rules ps s rs m → ReadsAdditions rules qs m xs t
       → ReadsFields rules ps qs s rs xs t
 
--- The fault that an error names stands in one of the components, behind those that are read before it.
+-- The fault that an error names is in one of the components, after those that are read before it.
 pub data FaultyFields {E S : Type 0} (rules : DecoderRules E S) (e : E) (ps qs : Parts) (s : S) : Type 0 where
   faulty_root : FaultyParts rules e ps s → FaultyFields rules e ps qs s
-  faulty_behind_root : {m : S} {rs : List (Option Value)} → ReadsParts rules ps s rs m → FaultyAdditions rules e qs m
+  faulty_after_root : {m : S} {rs : List (Option Value)} → ReadsParts rules ps s rs m → FaultyAdditions rules e qs m
       → FaultyFields rules e ps qs s
 
 -- No components are read, root components and then additions.
@@ -310,7 +310,7 @@ pub record OpensToRead {E S O : Type 0} (rules : DecoderRules E S) (opens : Sche
   pub law : OpenedToRead rules opens parts marker additions s result t
   pub behaves : Behaves rules.already rules.failed rules.codec s result t
 
--- Ok is behind a scope, and Err, memory aside, comes only where the record can't end here.
+-- Ok is after a scope, and Err, memory aside, comes only where the record can't end here.
 abbrev pub ClosedRead : {E S O : Type 0} → DecoderRules E S → (O → E → S → Type 0) → (S → O → S → Type 0) → O → S
     → Result (Unit {0}) E → S → Type 0
 ClosedRead rules unended closes o s (Ok u) t = closes s o t
@@ -334,13 +334,22 @@ pub record ClosesRead {E S O : Type 0} (rules : DecoderRules E S) (unended : O �
   pub in_list : RefusesInList rules s result
   pub behaves : Behaves rules.already rules.failed rules.codec s result t
 
+-- A call that closes a record which counts what comes in it: it closes none in which nothing is counted.
+pub record ClosesReadInTurn {E S O : Type 0} (rules : DecoderRules E S) (opens_fields : Schema → S → O → S → Type 0)
+    (unended : O → E → S → Type 0) (closes : S → O → S → Type 0) (o : O) (s : S) (result : Result (Unit {0}) E)
+    (t : S) : Type 0 where
+  pub ends : ClosesRead rules unended closes o s result t
+  pub in_fields : RefusesInFields rules opens_fields s result
+
 -- A call that closes what holds one value. Where what comes in it is counted, all but one value are refused, and so is
--- a list that is still open.
-pub record ClosesOneRead {E S O : Type 0} (rules : DecoderRules E S) (unended : O → E → S → Type 0)
-    (closes : S → O → S → Type 0) (o : O) (s : S) (result : Result (Unit {0}) E) (t : S) : Type 0 where
+-- a list that is still open, and a record in which nothing is counted.
+pub record ClosesOneRead {E S P O : Type 0} (rules : DecoderRules E S) (opens_fields : Schema → S → P → S → Type 0)
+    (unended : O → E → S → Type 0) (closes : S → O → S → Type 0) (o : O) (s : S) (result : Result (Unit {0}) E)
+    (t : S) : Type 0 where
   pub law : rules.failed s ≡ false → ClosedRead rules unended closes o s result t
   pub untimely : RefusesOtherRead rules one_value s result
   pub in_list : RefusesInList rules s result
+  pub in_fields : RefusesInFields rules opens_fields s result
   pub behaves : Behaves rules.already rules.failed rules.codec s result t
 
 -- A record was opened at s, and all its components were read as they are listed.
@@ -372,7 +381,7 @@ pub record ReadsAround {E S T : Type 0} (rules : DecoderRules E S) (parts : ℕ 
   pub fails : OnErr result (rules.failed t ≡ true)
   pub kept : KeepsCodec rules.codec returns → rules.codec t ≡ rules.codec s
 
--- What holds of a decoder's scopes. A record is what stands in its scope, up to its end: what is read there is the
+-- What holds of a decoder's scopes. A record is what is in its scope, up to its end: what is read there is the
 -- record, no record is read in another way, and a fault in a component, or at the end, is one of the record.
 pub record ScopesWell {E S O : Type 0} (rules : DecoderRules E S) (unended : O → E → S → Type 0)
     (opens : Schema → S → O → S → Type 0) (closes : S → O → S → Type 0) : Type 0 where

@@ -1,4 +1,4 @@
--- What stands in the scope of a SET, stated over any codec's relations: its root components stand there in ascending
+-- What is in the scope of a SET, stated over any codec's relations: its root components are there in ascending
 -- order of their smallest tags, and then its additions, as they are listed (ITU-T X.691, 21.1).
 use Rattle.std.specs.Prelude.{◌≡◌, ℕ, suc, Bool, true, List, Option, Result, OnErr, IsErrAnd, length}
 use Rattle.rasn_types.specs.Values.{Value}

@@ -25,3 +25,9 @@ RefusesOtherRead {S = S} rules due j result = (i : S) (came : Amount) → rules.
 abbrev pub RefusesInList : {E S : Type 0} → DecoderRules E S → S → Result (Unit {0}) E → Type 0
 RefusesInList {S = S} rules j result = (i s : S) (due came : Amount) → rules.awaits due i → CameRead rules came i s
     → rules.amidst s j → IsErrAnd result (λ e. rules.untimely e j)
+
+-- Where a record is still open in which nothing is counted, closing a scope that counts what comes is refused.
+abbrev pub RefusesInFields : {E S O : Type 0} → DecoderRules E S → (Schema → S → O → S → Type 0) → S
+    → Result (Unit {0}) E → Type 0
+RefusesInFields {S = S} {O = O} rules opens_fields j result = (c : Schema) (s i : S) (o : O) (came : Amount)
+    → opens_fields c s o i → CameRead rules came i j → IsErrAnd result (λ e. rules.untimely e j)

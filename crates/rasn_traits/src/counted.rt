@@ -18,7 +18,7 @@ use rasn_types::types::{Identifier, Tag};
 
 /// An encoder of types that are data.
 pub trait CountedEncoder: Encoder {
-    /// Writes the item of an ENUMERATED that stands at a place (X.691 14).
+    /// Writes the item of an ENUMERATED that is at a place (X.691 14).
     fn encode_item(
         &mut self,
         tag: Tag,
@@ -30,7 +30,7 @@ pub trait CountedEncoder: Encoder {
         ensures { Writes Self.rules (items_of items) (item_at place) self.old result self.new };
 
     /// Opens a SEQUENCE (X.691 19), or a SET whose components come in ascending order of their smallest tags (X.691
-    /// 21): it has so many root components, of which so many have a presence bit, and so many additions behind its
+    /// 21): it has so many root components, of which so many have a presence bit, and so many additions after its
     /// extension marker, where it has one. The calls from here to `close_record` write its root components, and then
     /// give its additions.
     fn open_record(
@@ -102,7 +102,7 @@ pub trait CountedDecoder: Decoder {
 
     /// Opens a SEQUENCE (X.691 19), or a SET whose components are read in ascending order of their smallest tags (X.691
     /// 21), which takes a level: it has so many root components, of which so many have a presence bit, and so many
-    /// additions behind its extension marker, where it has one. The calls from here to `close_sequence` read its root
+    /// additions after its extension marker, where it has one. The calls from here to `close_sequence` read its root
     /// components, and then its additions. At no level left it refuses.
     fn open_record(
         &mut self,
@@ -114,23 +114,24 @@ pub trait CountedDecoder: Decoder {
         ensures { OpensCountedToRead Self.rules Self.opens components presence_bits additions
             self.old result self.new };
 
-    /// Opens a record as `open_record` does, of which all components are read before `close_fields_of`, so that they
-    /// needn't be counted.
+    /// Opens a record as `open_record` does, but for `close_fields_of` alone: what is read in it isn't counted.
     fn open_fields_of(
         &mut self,
         tag: Tag,
         presence_bits: usize,
         additions: Option<usize>,
     ) -> Result<Self::Scope, Self::Error>
-        ensures { OpensFieldsOfToRead Self.rules Self.opens presence_bits additions self.old result self.new };
+        ensures { OpensFieldsOfToRead Self.rules Self.opens_fields presence_bits additions
+            self.old result self.new };
 
-    /// Closes a record, all of whose components were read as they are listed, as `close_sequence` does.
+    /// Closes a record that `open_fields_of` opened, as `close_sequence` does one that counts what comes. The caller
+    /// shows that all its components were read as they are listed, so that nothing need be counted.
     fn close_fields_of(&mut self, scope: Self::Scope) -> Result<(), Self::Error>
-        requires in_turn { IsAnyReadInTurn Self.rules Self.opens scope self.old }
-        ensures { ClosesRead Self.rules Self.unended Self.closes scope self.old result self.new };
+        requires in_turn { IsAnyReadInTurn Self.rules Self.opens_fields scope self.old }
+        ensures { ClosesRead Self.rules Self.unended_fields Self.closes_fields scope self.old result self.new };
 
     /// Reads the index of a CHOICE of so many alternatives (X.691 23), which takes a level, answers where its
-    /// alternative stands, and opens the open type of one behind the extension marker (X.691 23.8): the calls from here
+    /// alternative stands, and opens the open type of one after the extension marker (X.691 23.8): the calls from here
     /// to `close_choice` read the value of the alternative. At no level left it refuses.
     fn open_alternative_of(
         &mut self,

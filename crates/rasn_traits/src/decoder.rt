@@ -26,8 +26,8 @@ ghost use Rattle.rasn_traits.specs.Lists.{AmidRead, ListsWell, OpensListToRead, 
 ghost use Rattle.rasn_traits.specs.ListsInTurn.{AwaitsValues, IsBeforeElementRead, OpensListToReadInTurn};
 ghost use Rattle.rasn_traits.specs.ListsInTurn.{ReadsNextInTurn};
 ghost use Rattle.rasn_traits.specs.Moments.{date_at, identifier_value};
-ghost use Rattle.rasn_traits.specs.Scopes.{ClosesOneRead, ClosesRead, IsReadInTurn, OpensInTurn, OpensToRead};
-ghost use Rattle.rasn_traits.specs.Scopes.{ReadsAround, ScopesWell};
+ghost use Rattle.rasn_traits.specs.Scopes.{ClosesOneRead, ClosesRead, ClosesReadInTurn, IsReadInTurn, OpensInTurn};
+ghost use Rattle.rasn_traits.specs.Scopes.{OpensToRead, ReadsAround, ScopesWell};
 ghost use Rattle.rasn_traits.specs.Sets.{ReadsSet, SetsWell};
 
 use crate::de;
@@ -78,16 +78,22 @@ pub trait Decoder: Sized {
     // A scope is opened to read a schema: what was before, what waits outside, and how it is inside.
     ghost opens: { Schema → Self → Self.Scope → Self → Type 0 };
 
-    // A scope ends: how it is inside, what waited outside, and how it is behind the scope.
+    // A scope ends: how it is inside, what waited outside, and how it is after the scope.
     ghost closes: { Self → Self.Scope → Self → Type 0 };
+
+    // A scope is opened in which nothing is counted: what was before, what waits outside, and how it is inside.
+    ghost opens_fields: { Schema → Self → Self.Scope → Self → Type 0 };
+
+    // It ends: how it is inside, what waited outside, and how it is after it.
+    ghost closes_fields: { Self → Self.Scope → Self → Type 0 };
 
     // A choice is opened to read the alternative at a place: what was before, what waits outside, and how it is there.
     ghost opens_choice: { Schema → Side → ℕ → Self → Self.Alternative → Self → Type 0 };
 
-    // A choice ends: how it is behind its alternative, what waited outside, and how it is behind the choice.
+    // A choice ends: how it is after its alternative, what waited outside, and how it is after the choice.
     ghost closes_choice: { Self → Self.Alternative → Self → Type 0 };
 
-    // The fault that an error names stands at the end of an alternative's open type.
+    // The fault that an error names is at the end of an alternative's open type.
     ghost unended_choice: { Self.Alternative → Self.Error → Self → Type 0 };
 
     // A list is open: its elements' schema and its size, what was before it, its elements read, what is left, and now.
@@ -102,29 +108,32 @@ pub trait Decoder: Sized {
     // In an open list that counts what comes: so many values are to come before the next call of it.
     ghost awaits_values: { AwaitsValues Self };
 
-    // The fault that an error names stands at the end of a scope.
+    // The fault that an error names is at the end of a scope.
     ghost unended: { Self.Scope → Self.Error → Self → Type 0 };
+
+    // The same, of a scope in which nothing is counted.
+    ghost unended_fields: { Self.Scope → Self.Error → Self → Type 0 };
 
     // The open type of an addition is opened to read: what was before, what waits outside, and how it is inside.
     ghost opens_addition: { Self → Self.Addition → Self → Type 0 };
 
-    // An open type ends: how it is inside, what waited outside, and how it is behind it.
+    // An open type ends: how it is inside, what waited outside, and how it is after it.
     ghost closes_addition: { Self → Self.Addition → Self → Type 0 };
 
-    // The fault that an error names stands at the end of an open type.
+    // The fault that an error names is at the end of an open type.
     ghost unended_addition: { Self.Addition → Self.Error → Self → Type 0 };
 
     // Octets that contain a value are opened to read it: what was before, what waits outside, and how it is inside.
     ghost opens_contents: { Self → Self.Contents → Self → Type 0 };
 
-    // They end: how it is inside, what waited outside, and how it is behind them.
+    // They end: how it is inside, what waited outside, and how it is after them.
     ghost closes_contents: { Self → Self.Contents → Self → Type 0 };
 
-    // The fault that an error names stands at the end of octets that contain a value.
+    // The fault that an error names is at the end of octets that contain a value.
     ghost unended_contents: { Self.Contents → Self.Error → Self → Type 0 };
 
     // Octets of an OCTET STRING are lent: its size and whether that has an extension marker, what was before, what is
-    // left behind them, and how many they are.
+    // left after them, and how many they are.
     ghost lends: { Size → Bool → Self → Self → ℕ → Type 0 };
 
     /// The variant in use.
@@ -267,21 +276,22 @@ pub trait Decoder: Sized {
     fn open_sequence<C: Constructed>(&mut self, tag: Tag) -> Result<Self::Scope, Self::Error>
         ensures { OpensInTurn rules opens C.parts C.IS_EXTENSIBLE C.additions self.old result self.new };
 
-    /// Closes a SEQUENCE, skips the additions that its type doesn't know (X.691 19.9), and gives its level back. Where
-    /// a component, a presence bit or an addition wasn't read, or one too many, and where a list is still open, it is
-    /// refused.
+    /// Closes a SEQUENCE or SET, skips the additions that its type doesn't know (X.691 19.9), and gives its level back.
+    /// Where a component, a presence bit or an addition wasn't read, or one too many, it is refused, and so where a
+    /// list is still open, or a record that `open_fields` opened.
     fn close_sequence(&mut self, scope: Self::Scope) -> Result<(), Self::Error>
-        ensures { ClosesRead rules unended closes scope self.old result self.new };
+        ensures { ClosesReadInTurn rules opens_fields unended closes scope self.old result self.new };
 
-    /// Opens a SEQUENCE (X.691 19), as `open_sequence` does, of which all components are read before `close_fields`, so
-    /// that they needn't be counted.
+    /// Opens a SEQUENCE (X.691 19) as `open_sequence` does, but for `close_fields` alone: what is read in it isn't
+    /// counted.
     fn open_fields<C: Constructed>(&mut self, tag: Tag) -> Result<Self::Scope, Self::Error>
-        ensures { OpensToRead rules opens C.parts C.IS_EXTENSIBLE C.additions self.old result self.new };
+        ensures { OpensToRead rules opens_fields C.parts C.IS_EXTENSIBLE C.additions self.old result self.new };
 
-    /// Closes a SEQUENCE, all of whose components were read as they are listed, as `close_sequence` does.
+    /// Closes a SEQUENCE that `open_fields` opened, as `close_sequence` does one that counts what comes. The caller
+    /// shows that all its components were read as they are listed, so that nothing need be counted.
     fn close_fields<C: Constructed>(&mut self, scope: Self::Scope) -> Result<(), Self::Error>
-        requires in_turn { IsReadInTurn rules opens C.parts C.IS_EXTENSIBLE C.additions scope self.old }
-        ensures { ClosesRead rules unended closes scope self.old result self.new };
+        requires in_turn { IsReadInTurn rules opens_fields C.parts C.IS_EXTENSIBLE C.additions scope self.old }
+        ensures { ClosesRead rules unended_fields closes_fields scope self.old result self.new };
 
     /// Opens a SET (X.691 21), which takes a level: the calls from here to `close_sequence` read its root components,
     /// in ascending order of their smallest tags, and then its additions, in the order of `EXTENDED_FIELDS`. At no
@@ -290,7 +300,7 @@ pub trait Decoder: Sized {
         ensures { OpensInTurn rules opens (canonised_at C.parts) C.IS_EXTENSIBLE C.additions
             self.old result self.new };
 
-    /// Reads the index of a CHOICE (X.691 23), which takes a level, and opens the open type of an alternative behind
+    /// Reads the index of a CHOICE (X.691 23), which takes a level, and opens the open type of an alternative after
     /// the extension marker (X.691 23.8): the calls from here to `close_choice` read the value of the alternative,
     /// which goes by the tag. At no level left it refuses.
     fn open_choice<C: Choice>(&mut self) -> Result<(Tag, Self::Alternative), Self::Error>
@@ -298,7 +308,7 @@ pub trait Decoder: Sized {
             C.EXTENDED_VARIANTS self.old result self.new };
 
     /// Reads the index of a CHOICE (X.691 23), which takes a level, answers where its alternative stands, and opens the
-    /// open type of one behind the extension marker (X.691 23.8): the calls from here to `close_choice` read the value
+    /// open type of one after the extension marker (X.691 23.8): the calls from here to `close_choice` read the value
     /// of the alternative. At no level left it refuses.
     fn open_alternative<C: Choice>(&mut self) -> Result<(Place, Self::Alternative), Self::Error>
         ensures { OpensAlternativeToRead rules opens_choice (choices_of C.alternatives C.EXTENDED_VARIANTS C.added)
@@ -307,7 +317,7 @@ pub trait Decoder: Sized {
     /// Closes a CHOICE of which the alternative was read, and gives its level back. All but one value are refused, and
     /// so is a list that is still open, and an open type with whole octets left over.
     fn close_choice(&mut self, alternative: Self::Alternative) -> Result<(), Self::Error>
-        ensures { ClosesOneRead rules unended_choice closes_choice alternative self.old result self.new };
+        ensures { ClosesOneRead rules opens_fields unended_choice closes_choice alternative self.old result self.new };
 
     /// Opens octets that contain a value (X.682 11; X.691 11.2): the calls from here to `close_contents` read it, by
     /// itself.
@@ -317,7 +327,7 @@ pub trait Decoder: Sized {
     /// Closes octets of which the value that they contain was read. All but one value are refused, and so is a list
     /// that is still open, and whole octets that are left over.
     fn close_contents(&mut self, contents: Self::Contents) -> Result<(), Self::Error>
-        ensures { ClosesOneRead rules unended_contents closes_contents contents self.old result self.new };
+        ensures { ClosesOneRead rules opens_fields unended_contents closes_contents contents self.old result self.new };
 
     /// Reads the presence bit of the next component of the open SEQUENCE that has one (X.691 19.2). Takes no memory.
     fn next_presence(&mut self) -> Result<bool, Self::Error>
@@ -325,14 +335,14 @@ pub trait Decoder: Sized {
 
     /// Opens the open type of the next addition of the open SEQUENCE (X.691 11.2, 19.9): the calls from here to
     /// `close_addition` read its value, by itself. Where the addition isn't there, it answers `None`, and the next call
-    /// is for the one behind it.
+    /// is for the one after it.
     fn open_addition(&mut self) -> Result<Option<Self::Addition>, Self::Error>
         ensures { OpensAdditionToRead rules opens_addition self.old result self.new };
 
     /// Closes an open type of which one value was read. All but one value are refused, and so is a list that is still
     /// open.
     fn close_addition(&mut self, addition: Self::Addition) -> Result<(), Self::Error>
-        ensures { ClosesOneRead rules unended_addition closes_addition addition self.old result self.new };
+        ensures { ClosesOneRead rules opens_fields unended_addition closes_addition addition self.old result self.new };
 
     /// Opens a SEQUENCE OF under constraints (X.691 20), which takes a level: its elements follow, each behind a call
     /// of `next_element` that answers true. At no level left it refuses.
@@ -480,8 +490,8 @@ pub trait Decoder: Sized {
         }
     }
 
-    /// Reads a SEQUENCE (X.691 19) by the lists of its root components, which stand in the order of `FIELDS`, and of
-    /// its additions, which stand in the order of `EXTENDED_FIELDS`, and answers what they are.
+    /// Reads a SEQUENCE (X.691 19) by the lists of its root components, which are in the order of `FIELDS`, and of
+    /// its additions, which are in the order of `EXTENDED_FIELDS`, and answers what they are.
     final fn decode_record<C: Constructed, P: DecodeParts, Q: DecodeAdditions>(
         &mut self,
         tag: Tag,
@@ -508,6 +518,9 @@ pub trait Decoder: Sized {
 
     // What holds of each decoder's scopes.
     ghost scopes: { ScopesWell rules unended opens closes };
+
+    // The same of scopes in which nothing is counted.
+    ghost fields: { ScopesWell rules unended_fields opens_fields closes_fields };
 
     // What holds of each decoder's open types.
     ghost additions: { AdditionsWell rules unended_addition opens_addition closes_addition };

@@ -23,7 +23,7 @@ ghost use Rattle.rasn_traits.specs.Choices.{OpensChoice, WritesChoice};
 ghost use Rattle.rasn_traits.specs.Contents.{ClosesContents, OpensContents};
 ghost use Rattle.rasn_traits.specs.Lists.{Amid, OpensList, WritesNext, ClosesList};
 ghost use Rattle.rasn_traits.specs.ListsInTurn.{AwaitsValues, ClosesBagInTurn, ClosesListInTurn, IsBeforeElement};
-ghost use Rattle.rasn_traits.specs.ListsInTurn.{IsBehindElements, OpensBagInTurn, OpensListInTurn};
+ghost use Rattle.rasn_traits.specs.ListsInTurn.{IsAfterElements, OpensBagInTurn, OpensListInTurn};
 ghost use Rattle.rasn_traits.specs.ListsInTurn.{WritesMemberInTurn, WritesNextInTurn};
 ghost use Rattle.rasn_traits.specs.Moments.{identifier_value};
 ghost use Rattle.rasn_traits.specs.Reals.{WritesNoReal};
@@ -157,7 +157,7 @@ pub trait Encoder: Sized {
         ensures { Writes rules (Schema.items E.roots E.addeds E.EXTENSIBLE) (E.value value.now)
             self.old result self.new };
 
-    /// Writes the octets of a value whose type isn't known, behind an unconstrained length in octets (X.691 11.2).
+    /// Writes the octets of a value whose type isn't known, after an unconstrained length in octets (X.691 11.2).
     fn encode_any(
         &mut self,
         tag: Tag,
@@ -210,7 +210,7 @@ pub trait Encoder: Sized {
         ensures { Writes rules (character_schema S.alphabet constraints.now) (characters (S.characters value.now))
             self.old result self.new };
 
-    /// Writes a UTF8String: its octets behind an unconstrained length. No constraint is visible (X.691 30.6).
+    /// Writes a UTF8String: its octets after an unconstrained length. No constraint is visible (X.691 30.6).
     fn encode_utf8_string(
         &mut self,
         tag: Tag,
@@ -220,7 +220,7 @@ pub trait Encoder: Sized {
     ) -> Result<(), Self::Error>
         ensures { Writes rules (Schema.text utf8) (octets value.now) self.old result self.new };
 
-    /// Writes a GeneralString: its octets behind an unconstrained length. No constraint is visible (X.691 30.6).
+    /// Writes a GeneralString: its octets after an unconstrained length. No constraint is visible (X.691 30.6).
     fn encode_general_string(
         &mut self,
         tag: Tag,
@@ -230,7 +230,7 @@ pub trait Encoder: Sized {
     ) -> Result<(), Self::Error>
         ensures { Writes rules (Schema.text other) (octets value.now) self.old result self.new };
 
-    /// Writes a GraphicString: its octets behind an unconstrained length. No constraint is visible (X.691 30.6).
+    /// Writes a GraphicString: its octets after an unconstrained length. No constraint is visible (X.691 30.6).
     fn encode_graphic_string(
         &mut self,
         tag: Tag,
@@ -240,7 +240,7 @@ pub trait Encoder: Sized {
     ) -> Result<(), Self::Error>
         ensures { Writes rules (Schema.text other) (octets value.now) self.old result self.new };
 
-    /// Writes a TeletexString: its octets behind an unconstrained length. No constraint is visible (X.691 30.6).
+    /// Writes a TeletexString: its octets after an unconstrained length. No constraint is visible (X.691 30.6).
     fn encode_teletex_string(
         &mut self,
         tag: Tag,
@@ -250,7 +250,7 @@ pub trait Encoder: Sized {
     ) -> Result<(), Self::Error>
         ensures { Writes rules (Schema.text other) (octets value.now) self.old result self.new };
 
-    /// Writes an OBJECT IDENTIFIER by its arcs: its contents octets (X.690 8.19) behind an unconstrained length (X.691
+    /// Writes an OBJECT IDENTIFIER by its arcs: its contents octets (X.690 8.19) after an unconstrained length (X.691
     /// 24). Arcs that name no object are refused.
     fn encode_object_identifier(
         &mut self,
@@ -321,7 +321,7 @@ pub trait Encoder: Sized {
             self.old result self.new };
 
     /// Opens a SET (X.691 21): the calls from here to `close_components` write its root components, in the order of
-    /// `FIELDS`, and then give its additions, in the order of `EXTENDED_FIELDS`. The root components come to stand in
+    /// `FIELDS`, and then give its additions, in the order of `EXTENDED_FIELDS`. The root components come to be in
     /// ascending order of their smallest tags.
     fn open_components<C: Constructed>(
         &mut self,
@@ -361,7 +361,7 @@ pub trait Encoder: Sized {
             self.old result self.new };
 
     /// Closes a CHOICE in which the value of an alternative was written, by the tag that this goes by: one of the root,
-    /// or one behind the extension marker, which stands in an open type (X.691 23.8). A tag by which none goes is
+    /// or one after the extension marker, which is in an open type (X.691 23.8). A tag by which none goes is
     /// refused, and so is a CHOICE in which no value was written, or more than one.
     fn close_choice<C: Choice>(
         &mut self,
@@ -397,7 +397,7 @@ pub trait Encoder: Sized {
     ) -> Result<Self::Contents, Self::Error>
         ensures { OpensContents rules opens_contents self.old result self.new };
 
-    /// Closes octets in which one value was written: they are its complete encoding (X.691 11.1), behind an
+    /// Closes octets in which one value was written: they are its complete encoding (X.691 11.1), after an
     /// unconstrained length. Where none was written, or more than one, it refuses.
     fn close_contents(&mut self, contents: Self::Contents) -> Result<(), Self::Error>
         ensures { ClosesContents rules opens_contents contents self.old result self.new };
@@ -467,7 +467,7 @@ pub trait Encoder: Sized {
     /// Closes a list that `open_elements` opened, as `close_list` does. The caller shows that its elements were
     /// written.
     fn close_elements(&mut self, list: Self::List) -> Result<(), Self::Error>
-        requires in_turn { IsBehindElements amid_elements list self.old }
+        requires in_turn { IsAfterElements amid_elements list self.old }
         ensures { ClosesList rules amid_elements list self.old result self.new };
 
     /// Opens a SET OF under constraints (X.691 22): so many members follow, each behind a call of `next_member`, up to
@@ -487,7 +487,7 @@ pub trait Encoder: Sized {
     fn next_member(&mut self, bag: &mut Self::Bag) -> Result<(), Self::Error>
         ensures { WritesMemberInTurn rules awaits_values amid_bag bag.old self.old result bag.new self.new };
 
-    /// Closes a SET OF in which its members were written: they stand in ascending order of their complete encodings.
+    /// Closes a SET OF in which its members were written: they are in ascending order of their complete encodings.
     /// Where one wasn't written, or anything else was, it refuses.
     fn close_set_of(&mut self, bag: Self::Bag) -> Result<(), Self::Error>
         ensures { ClosesBagInTurn rules awaits_values amid_bag bag self.old result self.new };
@@ -513,7 +513,7 @@ pub trait Encoder: Sized {
     /// Closes a SET OF that `open_members` opened, as `close_set_of` does. The caller shows that its members were
     /// written.
     fn close_members(&mut self, bag: Self::Bag) -> Result<(), Self::Error>
-        requires in_turn { IsBehindElements amid_members bag self.old }
+        requires in_turn { IsAfterElements amid_members bag self.old }
         ensures { ClosesBag rules amid_members bag self.old result self.new };
 
     /// Refuses from now on.
@@ -609,7 +609,7 @@ pub trait Encoder: Sized {
     }
 
     /// Writes a SET (X.691 21). `scope` writes its root components, in the order of `FIELDS`, and then gives its
-    /// additions, in the order of `EXTENDED_FIELDS`. The root components come to stand in ascending order of their
+    /// additions, in the order of `EXTENDED_FIELDS`. The root components come to be in ascending order of their
     /// smallest tags.
     final fn encode_set<
         C: Constructed,
@@ -675,8 +675,8 @@ pub trait Encoder: Sized {
         }
     }
 
-    /// Writes a SEQUENCE (X.691 19) by the lists of its root components, which stand in the order of `FIELDS`, and of
-    /// its additions, which stand in the order of `EXTENDED_FIELDS`.
+    /// Writes a SEQUENCE (X.691 19) by the lists of its root components, which are in the order of `FIELDS`, and of
+    /// its additions, which are in the order of `EXTENDED_FIELDS`.
     final fn encode_record<C: Constructed, P: EncodeParts, Q: EncodeAdditions, I: Into<Identifier>>(
         &mut self,
         tag: Tag,

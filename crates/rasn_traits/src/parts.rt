@@ -63,7 +63,7 @@ impl EncodeAdditions for NoAdditions {
 
 /// Components of a record that are still to be read, in their order.
 pub trait DecodeParts {
-    /// What they are: a pair of the first and of those behind it, and `()` at the end.
+    /// What they are: a pair of the first and of those after it, and `()` at the end.
     type Values: Drop;
 
     // The components, to a number of levels.
@@ -79,7 +79,7 @@ pub trait DecodeParts {
 
 /// Additions of a record that are still to be read, in their order.
 pub trait DecodeAdditions {
-    /// What they are: a pair of the first and of those behind it, and `()` at the end.
+    /// What they are: a pair of the first and of those after it, and `()` at the end.
     type Values: Drop;
 
     // The additions, to a number of levels.

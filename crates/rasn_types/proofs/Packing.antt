@@ -26,11 +26,11 @@ use Rattle.rasn_types.proofs.Reading.{number_of-append}
 zeros : ℕ → Bits
 zeros n = replicate n false
 
--- the octet that some bits are, zeros behind them
+-- the octet that some bits are, zeros after them
 abbrev pub octet : Bits → ℕ
 octet bs = number_of (take 8 (bs ++ replicate 8 false))
 
--- ---- octets, and bits behind them
+-- ---- octets, and bits after them
 
 pub number-zeros : (n : ℕ) → number_of (replicate n false) ≡ 0
 number-zeros zero = refl
@@ -54,7 +54,7 @@ pack-append (suc k) m xs ys e = ap (λ (n : ℕ). pack n (xs ++ ys)) (let s : su
     front : take 8 (xs ++ (ys ++ replicate 8 false)) ≡ take 8 (xs ++ replicate 8 false)
     front = take-append-le 8 xs (ys ++ replicate 8 false) (omega arith) ∙ sym (take-append-le 8 xs (replicate 8 false) (omega arith))
 
--- the octets before the one that bit 8 * k stands in, and that one
+-- the octets before the one that bit 8 * k is in, and that one
 pub pack-last : (k : ℕ) (xs ys : Bits) → length xs ≡ 8 * k → pack (k + 1) (xs ++ ys) ≡ pack k xs ++ octet ys ∷ []
 pack-last k xs ys e = pack-append k 1 xs ys e
 

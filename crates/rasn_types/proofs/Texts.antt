@@ -132,7 +132,7 @@ is_text-IsUtf8 os h = subst (λ qs. utf8_after (awaiting 0 0 0) qs ≡ true) h.1
 
 -- ---- what is read whole is a text
 
--- what a further octet is, and what stands behind it
+-- what a further octet is, and what is after it
 record Next (l h n : ℕ) (os : List ℕ) : Type 0 where
   octet : ℕ
   rest : List ℕ

@@ -10,7 +10,7 @@ no_bits : (n : ℕ) → trimmed (replicate n false) ≡ []
 no_bits zero = refl
 no_bits (suc n) = ap (unless_zeros false) (no_bits n)
 
--- zero bits behind bits are trimmed away
+-- zero bits after bits are trimmed away
 pub trimmed-zeros : (bs : Bits) (n : ℕ) → trimmed (bs ++ replicate n false) ≡ trimmed bs
 trimmed-zeros [] n = no_bits n
 trimmed-zeros (b ∷ bs) n = ap (unless_zeros b) (trimmed-zeros bs n)
@@ -30,7 +30,7 @@ split_on true ts bs n e = (n, ap (λ cs. true ∷ cs) e)
 split_on false [] bs n e = (suc n, ap (λ cs. false ∷ cs) e)
 split_on false (c ∷ cs) bs n e = (n, ap (λ ds. false ∷ ds) e)
 
--- bits are the trimmed ones with zero bits behind them
+-- bits are the trimmed ones with zero bits after them
 pub trimmed-split : (bs : Bits) → (n : ℕ) × (bs ≡ trimmed bs ++ replicate n false)
 trimmed-split [] = (0, refl)
 trimmed-split (b ∷ bs) = let r = trimmed-split bs in split_on b (trimmed bs) bs r.0 r.1
@@ -62,7 +62,7 @@ taken_before n bs b s h e = ap (λ (m : ℕ). take m bs) (let i : n ≡ suc (n -
 pub zero_passed : (n : ℕ) (bs : Bits) (b : Bool) → 0 < n → n ≤ length bs → b ≡ get_or bs (n - 1) false → b ≡ false → trimmed (take n bs) ≡ trimmed bs → trimmed (take (n - 1) bs) ≡ trimmed bs
 zero_passed n bs b s h e z k = sym (ap trimmed (taken_before n bs b s h e ∙ ap (λ c. take (n - 1) bs ++ c ∷ []) z) ∙ trimmed-zeros (take (n - 1) bs) 1) ∙ k
 
--- the walk stops behind a bit that is one
+-- the walk stops after a bit that is one
 pub one_stops : (n : ℕ) (bs : Bits) (b : Bool) → 0 < n → n ≤ length bs → b ≡ get_or bs (n - 1) false → b ≡ true → trimmed (take n bs) ≡ trimmed bs → n ≡ length (trimmed bs)
 one_stops n bs b s h e o k =
     let t : take n bs ≡ take (n - 1) bs ++ true ∷ [] = taken_before n bs b s h e ∙ ap (λ c. take (n - 1) bs ++ c ∷ []) o in
@@ -80,7 +80,7 @@ trimmed-front bs = let r = trimmed-split bs in ap (λ cs. take (length (trimmed 
 
 -- ---- bits filled up one by one
 
--- the trimmed bits stand in the octets
+-- the trimmed bits are in the octets
 pub packed_enough : (n : ℕ) (bs : Bits) (os : List ℕ) → n ≡ length (trimmed bs) → os ≡ packed bs → n ≤ 8 * length os
 packed_enough n bs os e h =
     let l : length os ≡ (length bs + 7) / 8 = ap length h ∙ length-pack ((length bs + 7) / 8) bs in

@@ -27,7 +27,7 @@ pub subidentifier-is : (n : ℕ) → subidentifier n ≡ leading_octets (n / 128
 unfolding subidentifier
 subidentifier-is n = ap (λ xs. xs ++ n % 128 ∷ []) (leading_octets-more n (n / 128) (n / 128) (omega arith) (omega arith))
 
--- what begins with a list still does when more is put behind it
+-- what begins with a list still does when more is put after it
 pub kept-append : (a s t : List ℕ) → take (length a) s ≡ a → take (length a) (s ++ t) ≡ a
 kept-append [] s t h = refl
 kept-append (x ∷ a) [] t h = absurd (cc)

@@ -75,7 +75,7 @@ abbrev pub has_all : List ℕ → List ℕ → Bool
 has_all own [] = true
 has_all own (c ∷ cs) = has own c && has_all own cs
 
--- X.680 51.7: the characters of a type that are among some, which may stand in any order
+-- X.680 51.7: the characters of a type that are among some, which may be in any order
 abbrev pub restricted : List ℕ → List ℕ → List ℕ
 restricted own some = filter (has some) own
 

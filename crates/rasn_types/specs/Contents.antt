@@ -37,7 +37,7 @@ first_octet o =
     else if nat_lt o 244 then awaiting 3 128 191
     else if o == 244 then awaiting 3 128 143 else None
 
--- what follows one more octet; none where it may not stand there
+-- what follows one more octet; none where it may not be there
 abbrev pub next_octet : Awaited → ℕ → Option Awaited
 next_octet w o = if w.more == 0 then first_octet o else if nat_le w.low o && nat_le o w.high then awaiting
     (w.more - 1) 128 191 else None

@@ -52,10 +52,10 @@ pub record IsReadOn (begun limit octet number : ℕ) : Type 0 where
   pub below : number < limit
   pub fewest : (nat_lt 0 begun || not (octet == 128)) ≡ true
 
--- the number that the next subidentifier behind these arcs may not reach
-abbrev pub limit_behind : List ℕ → ℕ
-limit_behind [] = 2 ^ 32 + 80
-limit_behind (arc ∷ arcs) = 2 ^ 32
+-- the number that the next subidentifier after these arcs may not reach
+abbrev pub limit_after : List ℕ → ℕ
+limit_after [] = 2 ^ 32 + 80
+limit_after (arc ∷ arcs) = 2 ^ 32
 
 -- whether numbers are the arcs of an object, or none as yet
 abbrev pub are_arcs_so_far : List ℕ → Bool

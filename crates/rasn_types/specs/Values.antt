@@ -2,7 +2,7 @@
 use Rattle.std.specs.Prelude.{ℕ, Bool, true, false, cond, if◌then◌else◌, nat_lt, ◌==◌, List, [], ◌∷◌, ◌++◌, map, length}
 use Rattle.std.specs.Prelude.{Option, Some, None, ℤ, pos, negsuc}
 
--- X.680 52: which of two lists an item or an alternative stands in: that before the extension marker, or that after it
+-- X.680 52: which of two lists an item or an alternative is in: that before the extension marker, or that after it
 pub data Side : Type 0 where
   root added : Side
 

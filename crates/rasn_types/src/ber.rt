@@ -4,7 +4,7 @@ ghost use Rattle.std.specs.Prelude.{◌≡◌, ◌↔◌, ◌<◌, ◌≤◌, �
 ghost use Rattle.std.specs.Prelude.{OnOk, OnErr, MatchOption};
 ghost use Rattle.rasn_types.specs.Contents.{is_identifier, next_arc};
 ghost use Rattle.rasn_types.specs.Identifiers.{are_arcs, are_arcs_so_far, begun_arc, contents, leading_octets};
-ghost use Rattle.rasn_types.specs.Identifiers.{limit_behind, subidentifier, subidentifiers, IsFirstSubidentifier};
+ghost use Rattle.rasn_types.specs.Identifiers.{limit_after, subidentifier, subidentifiers, IsFirstSubidentifier};
 ghost use Rattle.rasn_types.specs.Identifiers.{IsReadOn};
 ghost use Rattle.rasn_types.specs.declared.ber.BerError.TheVariants.{InvalidObjectIdentifier};
 
@@ -143,9 +143,9 @@ const LIMIT: u64 = 1 << 32;
 /// The number that a first subidentifier may not reach: 80 more than a second arc below the first arc 2 (X.690 8.19.4).
 const FIRST_LIMIT: u64 = LIMIT + 80;
 
-/// The number that the subidentifier behind these arcs may not reach.
+/// The number that the subidentifier after these arcs may not reach.
 fn limit_of_next(arcs: &[u32]) -> u64
-    ensures { result ≡ limit_behind arcs.now }
+    ensures { result ≡ limit_after arcs.now }
 {
     if arcs.is_empty() { FIRST_LIMIT } else { LIMIT }
 }
@@ -166,7 +166,7 @@ fn read_on(begun: u64, octet: u8, limit: u64) -> Option<u64>
 
 /// Appends the arcs of a subidentifier: two for the first one, else one (X.690 8.19.4).
 fn push_arcs(arcs: &mut Vec<u32>, number: u64) -> Result<(), AllocError>
-    requires below { number < limit_behind arcs.old.items }
+    requires below { number < limit_after arcs.old.items }
     requires lawful { are_arcs_so_far arcs.old.items ≡ true }
     ensures lawful { OnOk result (are_arcs arcs.new.items ≡ true) }
     ensures read { OnOk result (contents arcs.new.items ≡ contents arcs.old.items ++ subidentifier number) }

@@ -160,7 +160,7 @@ impl<K> Eq for OctetsOf<K> {
     ghost laws = { nat_list_eq_equiv };
 }
 
-/// The octets, octet by octet: what begins another stands before it.
+/// The octets, octet by octet: what begins another is before it.
 impl<K> PartialOrd for OctetsOf<K> {
     ghost partial_cmp = { λ a b. Some (slice_cmp nat_cmp a b) };
 

@@ -4,7 +4,7 @@ use Rattle.std.specs.Prelude.{Bool, true, not, ◌&&◌, ◌||◌}
 use Rattle.std.specs.Fmt.{decimal}
 use Rattle.std.specs.List.{list_all, slice_split}
 
--- what stands in a text between its full stops
+-- what is in a text between its full stops
 abbrev pub numbers_in : List ℕ → List (List ℕ)
 numbers_in text = slice_split (λ c. c == 46) text
 

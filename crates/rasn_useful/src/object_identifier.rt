@@ -61,7 +61,7 @@ impl ObjectIdentifier {
         Ok(ObjectIdentifier::new(Vec::from_slice(alloc, arcs)?))
     }
 
-    /// The identifier whose arcs stand in a text as decimal numbers with full stops between them, such as `1.2.840`.
+    /// The identifier whose arcs are in a text as decimal numbers with full stops between them, such as `1.2.840`.
     /// Refused as no object identifier is any other text, also one with a sign, with superfluous zeros, or with a
     /// number past 32 bits.
     pub fn from_text(alloc: Global, text: &str) -> Result<ObjectIdentifier, BerError>
@@ -143,7 +143,7 @@ impl Eq for ObjectIdentifier {
     ghost laws = { nat_list_eq_equiv };
 }
 
-/// The order of the first arcs that differ. An identifier stands before those that it begins.
+/// The order of the first arcs that differ. An identifier is before those that it begins.
 impl PartialOrd for ObjectIdentifier {
     ghost partial_cmp = { λ arcs others. Some (slice_cmp nat_cmp arcs others) };
 
@@ -178,7 +178,7 @@ impl Hash for ObjectIdentifier {
     }
 }
 
-/// The numbers that stand in a text with full stops between them; `None` where not all are arcs. The only error is want
+/// The numbers that are in a text with full stops between them; `None` where not all are arcs. The only error is want
 /// of memory.
 fn arcs_of(alloc: Global, text: &str) -> Result<Option<Vec<u32>>, AllocError>
     ensures { IfOk result (λ read. MatchOption read (HasNoArcs text.now)

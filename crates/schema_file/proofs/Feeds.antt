@@ -1,4 +1,4 @@
--- Line feeds before and behind the first one.
+-- Line feeds before and after the first one.
 use Rattle.std.specs.Prelude.{◌≡◌, ℕ, suc, ◌+◌, ◌<◌, Bool, true, false, not, cond, List, [], ◌∷◌, length, drop}
 use Rattle.std.specs.List.{after_first, count_by, position_or_len, prefix_len, sum_by}
 use Rattle.std.proofs.Common.{◌∙◌, ap, arith, refl, rules, sym, subst}
@@ -8,7 +8,7 @@ use Rattle.std.proofs.lemmas.Grind.{common_steps}
 count_by-cons : {X : Type 0} (p : X → Bool) (x : X) (xs : List X) → count_by p (x ∷ xs) ≡ cond (p x) 1 0 + count_by p xs
 count_by-cons p x xs = grind (arith, common_steps)
 
--- where the first element passes, the others stand behind it
+-- where the first element passes, the others are after it
 position_first : {X : Type 0} (p : X → Bool) (x : X) (xs : List X) → p x ≡ true → position_or_len p (x ∷ xs) ≡ 0
 position_first p x xs e = rw e refl
 
@@ -35,7 +35,7 @@ count_at p x xs false e more h =
     let is_found : position_or_len p xs < length xs = omega (arith, later, h) in
     omega (arith, counted, none, same, more is_found)
 
--- where an element passes, one more passes than behind the first that does
+-- where an element passes, one more passes than after the first that does
 pub count_by-after_first : {X : Type 0} (p : X → Bool) (xs : List X) → position_or_len p xs < length xs
     → count_by p xs ≡ count_by p (after_first p xs) + 1
 count_by-after_first p [] h = omega arith

@@ -1,2 +1,2 @@
-pub mod Inside
+pub mod PlacesInside
 pub mod Lines

@@ -11,6 +11,6 @@ pub record IsAmong (lines number : ℕ) : Type 0 where
   pub from_one : 1 ≤ number
   pub to_last : number ≤ lines
 
--- the number of a line of a text: of one that ends with a line feed, or of what stands behind the last one
+-- the number of a line of a text: of one that ends with a line feed, or of what is after the last one
 abbrev pub IsLineOf : List ℕ → ℕ → Type 0
 IsLineOf text number = IsAmong (line_feeds text + 1) number

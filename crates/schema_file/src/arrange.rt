@@ -18,7 +18,7 @@ struct Slot {
 }
 
 /// Parts what each default says of a record into its root and its additions, and puts those of a SET's root in the
-/// order of their tags (X.691 21.1). The components of the types stand in the order of the text, with their tags; the
+/// order of their tags (X.691 21.1). The components of the types are in the order of the text, with their tags; the
 /// SETs stand at some ascending places. What isn't of its type stays. The only error is want of memory.
 pub fn arrange(alloc: Global, kinds: &mut [Kind], sets: &[usize]) -> Result<(), AllocError> {
     for place in 0..kinds.len() {
@@ -36,8 +36,8 @@ fn arrange_components(
 ) -> Result<(), AllocError> {
     for index in 0..part_count(kinds, place) {
         if let Some(of) = part_type(kinds, place, index) {
-            if let Some(told) = take_default(kinds, place, index) {
-                let told = arranged(alloc, kinds, sets, of, told, MOST_LEVELS)?;
+            if let Some(mut told) = take_default(kinds, place, index) {
+                arrange_told(alloc, kinds, sets, of, &mut told, MOST_LEVELS)?;
                 put_default(kinds, place, index, told);
             }
         }
@@ -83,41 +83,33 @@ fn place_within(kinds: &[Kind], place: usize) -> usize {
     }
 }
 
-/// A default of the type at a place, arranged.
+/// Arranges a default of the type at a place, where it stands, so that little waits at each level.
 #[cycle(arranging)]
-fn arranged(
+fn arrange_told(
     alloc: Global,
     kinds: &[Kind],
     sets: &[usize],
     place: usize,
-    told: DefaultTree,
+    told: &mut DefaultTree,
     levels: usize,
-) -> Result<DefaultTree, AllocError> {
+) -> Result<(), AllocError> {
     let Some(below) = levels.checked_sub(1) else {
-        return Ok(told);
+        return Ok(());
     };
     let place = place_within(kinds, place);
     match told {
-        DefaultTree::Elements(mut tolds) => {
-            if let Some(Kind::List(of, _)) = kinds.get(place) {
-                arrange_elements(alloc, kinds, sets, *of, &mut tolds, below)?;
-            }
-            Ok(DefaultTree::Elements(tolds))
-        }
-        DefaultTree::Fields(slots, additions) => match kinds.get(place) {
-            Some(Kind::Record(record)) => {
-                let is_set = sets.binary_search(&place).is_ok();
-                arranged_record(alloc, kinds, sets, record, is_set, slots, below)
-            }
-            _ => Ok(DefaultTree::Fields(slots, additions)),
+        DefaultTree::Elements(tolds) => match kinds.get(place) {
+            Some(Kind::List(of, _)) => arrange_elements(alloc, kinds, sets, *of, tolds, below),
+            _ => Ok(()),
         },
-        DefaultTree::Alternative(at, mut chosen) => {
-            let own = mem::replace(&mut *chosen, DefaultTree::Absent);
-            let of = chosen_place(kinds, place, at);
-            *chosen = arranged(alloc, kinds, sets, of, own, below)?;
-            Ok(DefaultTree::Alternative(at, chosen))
+        DefaultTree::Fields(slots, additions) => {
+            arrange_record(alloc, kinds, sets, place, slots, additions, below)
         }
-        told => Ok(told),
+        DefaultTree::Alternative(at, chosen) => {
+            let of = chosen_place(kinds, place, *at);
+            arrange_told(alloc, kinds, sets, of, &mut *chosen, below)
+        }
+        _ => Ok(()),
     }
 }
 
@@ -132,47 +124,38 @@ fn arrange_elements(
     levels: usize,
 ) -> Result<(), AllocError> {
     for told in tolds.iter_mut() {
-        let own = mem::replace(told, DefaultTree::Absent);
-        *told = arranged(alloc, kinds, sets, of, own, levels)?;
+        arrange_told(alloc, kinds, sets, of, told, levels)?;
     }
     Ok(())
 }
 
-/// What a default says of a record, root components first, arranged. It stays where it says more or less.
+/// Arranges what a default says of the record at a place. It stays where it says more or less, or where no record is.
 #[cycle(arranging)]
-fn arranged_record(
+fn arrange_record(
     alloc: Global,
     kinds: &[Kind],
     sets: &[usize],
-    record: &Record,
-    is_set: bool,
-    slots: Vec<DefaultTree>,
+    place: usize,
+    slots: &mut Vec<DefaultTree>,
+    additions: &mut Vec<DefaultTree>,
     levels: usize,
-) -> Result<DefaultTree, AllocError> {
-    let mut slots = slots;
+) -> Result<(), AllocError> {
+    let Some(Kind::Record(record)) = kinds.get(place) else {
+        return Ok(());
+    };
     let roots = record.root.len();
     if roots.checked_add(record.behind().len()) != Some(slots.len()) {
-        return Ok(DefaultTree::Fields(slots, Vec::new(alloc)));
+        return Ok(());
     }
-    let mut root = take_slots(alloc, kinds, sets, &record.root, 0, &mut slots, levels)?;
-    let added = take_slots(
-        alloc,
-        kinds,
-        sets,
-        record.behind(),
-        roots,
-        &mut slots,
-        levels,
-    )?;
-    if is_set {
-        root.sort_by_key(|slot| slot.tag)?;
-    }
-    Ok(DefaultTree::Fields(told_of(alloc, root)?, told_of(alloc, added)?))
+    arrange_slots(alloc, kinds, sets, &record.root, 0, slots, levels)?;
+    arrange_slots(alloc, kinds, sets, record.behind(), roots, slots, levels)?;
+    let is_set = sets.binary_search(&place).is_ok();
+    part(alloc, record, is_set, slots, additions)
 }
 
-/// Takes what is said of components, from an index on, each arranged.
+/// Arranges what is said of components, from an index on.
 #[cycle(arranging)]
-fn take_slots(
+fn arrange_slots(
     alloc: Global,
     kinds: &[Kind],
     sets: &[usize],
@@ -180,12 +163,46 @@ fn take_slots(
     first: usize,
     slots: &mut [DefaultTree],
     levels: usize,
+) -> Result<(), AllocError> {
+    for (index, component) in components.iter().enumerate() {
+        if let Some(slot) = slots.get_mut(first.saturating_add(index)) {
+            arrange_told(alloc, kinds, sets, component.of, slot, levels)?;
+        }
+    }
+    Ok(())
+}
+
+/// Parts what is said of a record's components into its root, that of a SET in the order of the tags, and its
+/// additions.
+#[inline(never)]
+fn part(
+    alloc: Global,
+    record: &Record,
+    is_set: bool,
+    slots: &mut Vec<DefaultTree>,
+    additions: &mut Vec<DefaultTree>,
+) -> Result<(), AllocError> {
+    let mut root = take_slots(alloc, &record.root, 0, slots)?;
+    let added = take_slots(alloc, record.behind(), record.root.len(), slots)?;
+    if is_set {
+        root.sort_by_key(|slot| slot.tag)?;
+    }
+    *slots = told_of(alloc, root)?;
+    *additions = told_of(alloc, added)?;
+    Ok(())
+}
+
+/// Takes what is said of components, from an index on.
+fn take_slots(
+    alloc: Global,
+    components: &[Component],
+    first: usize,
+    slots: &mut [DefaultTree],
 ) -> Result<Vec<Slot>, AllocError> {
     let mut taken = Vec::new(alloc);
     for (index, component) in components.iter().enumerate() {
         if let Some(slot) = slots.get_mut(first.saturating_add(index)) {
-            let own = mem::replace(slot, DefaultTree::Absent);
-            let told = arranged(alloc, kinds, sets, component.of, own, levels)?;
+            let told = mem::replace(slot, DefaultTree::Absent);
             let tag = component.tag;
             taken.push(Slot { tag, told })?;
         }

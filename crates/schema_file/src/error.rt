@@ -108,7 +108,7 @@ pub enum Reason {
     /// A default isn't a value of its component's type (X.680 25.9), or not in normal form.
     #[error("a default is no value of its type")]
     OtherDefault,
-    /// A CHOICE without a tag has no alternative with one, or CHOICEs without tags stand in one another more than 255
+    /// A CHOICE without a tag has no alternative with one, or CHOICEs without tags are in one another more than 255
     /// deep.
     #[error("a CHOICE has no tag")]
     TagLacks,

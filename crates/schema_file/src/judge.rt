@@ -1,8 +1,9 @@
-//! What can be judged only behind the last line of a type.
+//! What can be judged only after the last line of a type.
 
 ghost use Rattle.std.specs.Prelude.{◌<◌, length, OnOk};
-ghost use Rattle.schema_file.specs.Inside.{ComponentsAreInside, AlternativesAreInside, RecordIsInside, ChoiceIsInside};
-ghost use Rattle.schema_file.specs.Inside.{KindIsInside, RowsAreInside};
+ghost use Rattle.schema_file.specs.PlacesInside.{ComponentsAreInside, AlternativesAreInside, RecordIsInside};
+ghost use Rattle.schema_file.specs.PlacesInside.{ChoiceIsInside};
+ghost use Rattle.schema_file.specs.PlacesInside.{KindIsInside, RowsAreInside};
 
 use crate::error::Reason;
 use crate::lists::{names_differ, push_names, tags_ascend, tags_differ};
@@ -181,7 +182,7 @@ fn judge_choice(alloc: Global, kinds: &[Kind], choice: &Choice) -> Result<(), Re
     names_differ(names)
 }
 
-/// Judges the places of alternatives, and puts their names and tags behind those of others.
+/// Judges the places of alternatives, and puts their names and tags after those of others.
 fn judge_alternatives<'a>(
     kinds: &[Kind],
     alternatives: &'a [Alternative],

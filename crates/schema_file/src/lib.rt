@@ -1,4 +1,4 @@
-//! Reads schema files, the text of types as data, into tables of types. `docs/SCHEMA-FILE.md` says what stands in one.
+//! Reads schema files, the text of types as data, into tables of types. `docs/SCHEMA-FILE.md` says what is in one.
 #![tactic(auto)]
 
 mod arrange;

@@ -4,7 +4,7 @@ use crate::error::Reason;
 use rasn_dynamic::types::Component;
 use rasn_types::types::Tag;
 
-/// Puts the names of a group's parts behind those of others, where so many may still be looked at.
+/// Puts the names of a group's parts after those of others, where so many may still be looked at.
 pub fn push_names<'a>(
     found: &mut Vec<&'a str>,
     parts: &'a [Component],

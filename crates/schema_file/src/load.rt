@@ -4,7 +4,7 @@ ghost use Rattle.std.specs.Prelude.{◌≡◌, ◌≤◌, ◌<◌, ◌+◌, ℕ,
 ghost use Rattle.std.specs.List.{All};
 ghost use Rattle.rasn_schema.specs.Lawful.{IsLawfulType};
 ghost use Rattle.rasn_dynamic.specs.Types.{schema_at};
-ghost use Rattle.schema_file.specs.Inside.{PlacesAreInside, KindIsInside};
+ghost use Rattle.schema_file.specs.PlacesInside.{PlacesAreInside, KindIsInside};
 ghost use Rattle.schema_file.specs.Lines.{line_feeds, IsAmong, IsLineOf};
 
 use crate::error::{LoadError, Reason};
@@ -76,7 +76,7 @@ fn feeds_in(octets: &[u8]) -> usize
     octets.iter().filter(|octet| **octet == b'\n').count()
 }
 
-/// The lines of a text, and behind them what stands behind the last line feed.
+/// The lines of a text, and after them what is after the last line feed.
 fn lines_of<'text>(alloc: Global, text: &'text str) -> Result<Vec<&'text str>, LoadError>
     ensures ok { IfOk result (λ lines. length lines.items ≡ line_feeds text.now + 1) }
     ensures err { IfErr result (λ e. e.line ≡ 1) }
@@ -185,7 +185,7 @@ fn read_kinds(alloc: Global, lines: &[&str], counts: Counts) -> Result<Vec<Kind>
     Ok(kinds)
 }
 
-/// Puts what a line says of a type behind others.
+/// Puts what a line says of a type after others.
 fn push_kind(alloc: Global, line: &str, types: usize, kinds: &mut Vec<Kind>) -> Result<(), Reason>
     ensures { OnOk result (length kinds.new.items ≡ length kinds.old.items + 1) }
 {
@@ -226,7 +226,7 @@ fn read_roots(alloc: Global, lines: &[&str], counts: Counts) -> Result<Vec<Name>
     Ok(names)
 }
 
-/// Puts the name that a line says behind others. `known` has the lines of these, without their places.
+/// Puts the name that a line says after others. `known` has the lines of these, without their places.
 fn push_root<'text>(
     alloc: Global,
     line: &'text str,
@@ -280,7 +280,7 @@ fn judge_all(alloc: Global, kinds: &[Kind], counts: Counts, octets: usize) -> Re
     Ok(())
 }
 
-/// Judges the tags of the SETs, which stand at some places of a table.
+/// Judges the tags of the SETs, which are at some places of a table.
 fn judge_sets(
     alloc: Global,
     kinds: &[Kind],

@@ -5,11 +5,11 @@ use rasn_dynamic::types::{Alternative, Component, Kind, Simple};
 use rasn_types::types::Tag;
 use std::alloc::{AllocError, Global};
 
-/// How deep CHOICEs without tags stand in one another at most.
+/// How deep CHOICEs without tags are in one another at most.
 const MOST_CHOICES: usize = 255;
 
 /// Gives each component and alternative without a tag, which has that of no type, the smallest of the CHOICE that it
-/// is, and puts the root components of the SETs, which stand at some ascending places, in the order of their tags
+/// is, and puts the root components of the SETs, which are at some ascending places, in the order of their tags
 /// (X.691 21.1), and those of defaults.
 /// Which type an open type in a SET is isn't known then, since its component was told by the other order. The only
 /// error is want of memory.
@@ -77,7 +77,7 @@ fn tags(alloc: Global, kinds: &[Kind]) -> Result<Vec<Tag>, AllocError> {
 }
 
 /// The smallest tag of the root alternatives of the CHOICE at a place, which is that of the first; that of no type,
-/// where no CHOICE is there or CHOICEs without tags stand in one another too deep.
+/// where no CHOICE is there or CHOICEs without tags are in one another too deep.
 fn smallest_tag(kinds: &[Kind], place: usize) -> Tag {
     let mut place = place;
     for _ in 0..=MOST_CHOICES {

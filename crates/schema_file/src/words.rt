@@ -14,7 +14,7 @@ const MOST_CHARACTERS: usize = 256;
 /// The words of a line that are still to be read.
 #[derive(Drop)]
 pub struct Words<'text> {
-    /// What stands behind the words that were read, and behind a blank.
+    /// What is after the words that were read, and after a blank.
     rest: Option<&'text str>,
 }
 
@@ -151,7 +151,7 @@ impl<'text> Words<'text> {
         Ok(Some(characters))
     }
 
-    /// Puts the characters of a range behind those of the ranges before it.
+    /// Puts the characters of a range after those of the ranges before it.
     fn range(&mut self, characters: &mut Vec<u32>) -> Result<(), Reason> {
         let low = self.code()?;
         let high = self.code()?;

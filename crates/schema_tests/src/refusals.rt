@@ -29,7 +29,7 @@ const TEXTS: [(&[u8], &str); 6] = [
     ),
 ];
 
-/// Numbers of lines of the example, what stands there in their place, and what is said.
+/// Numbers of lines of the example, what is there in their place, and what is said.
 const LINES: [(usize, &str, &str); 48] = [
     (
         1,

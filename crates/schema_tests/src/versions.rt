@@ -6,10 +6,10 @@ use lawful_types::not_newer::{NotNewer, Reason};
 use schema_file::load::load;
 use std::test::Fail;
 
-/// The record of additions of the example, which holds itself through a list, with one more behind its marker.
+/// The record of additions of the example, which holds itself through a list, with one more after its marker.
 const MORE: &str = "sequence 3 2 id c0 r 1 note c1 o 2 more c2 d 3 list 0 [[ c3 4 size c4 o 1";
 
-/// The items of the example, with one more behind the marker.
+/// The items of the example, with one more after the marker.
 const REJECT: &str = "enumerated 2 1 call answer reject";
 
 #[test]

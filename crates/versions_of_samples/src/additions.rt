@@ -21,7 +21,7 @@ pub fn outer2_adds_to_outer1()
     is_newer_version::<Outer2, Outer1>();
 }
 
-/// An optional addition is added behind the group.
+/// An optional addition is added after the group.
 pub fn outer3_adds_to_outer2()
     ensures { let newer = ⟦<Outer3 as AsnType>⟧ in let older = ⟦<Outer2 as AsnType>⟧ in
         NewerType (newer.schema newer.CONSTRAINTS) (older.schema older.CONSTRAINTS) }

@@ -10,7 +10,7 @@ use per_samples_c::colors::TwoColors;
 use per_samples_c::one_color::OneColor;
 use rasn_below::AsnType;
 
-/// An alternative is added behind the marker.
+/// An alternative is added after the marker.
 pub fn alternative_is_added()
     ensures { let newer = ⟦<Alt2 as AsnType>⟧ in let older = ⟦<Alt1 as AsnType>⟧ in
         NewerType (newer.schema newer.CONSTRAINTS) (older.schema older.CONSTRAINTS) }
@@ -18,7 +18,7 @@ pub fn alternative_is_added()
     is_newer_version::<Alt2, Alt1>();
 }
 
-/// An item is added behind the marker.
+/// An item is added after the marker.
 pub fn item_is_added()
     ensures { let newer = ⟦<TwoColors as AsnType>⟧ in let older = ⟦<OneColor as AsnType>⟧ in
         NewerType (newer.schema newer.CONSTRAINTS) (older.schema older.CONSTRAINTS) }

@@ -8,14 +8,14 @@ ghost use Rattle.rasn_below.specs.Components.{octet_string, optional, sequence, 
 ghost use Rattle.rasn_below.specs.Types.{always, any_size, list_at, sequence_at, Schema};
 ghost use Rattle.rasn_below.specs.Values.{whole};
 ghost use Rattle.per_core.specs.Versions.{NewerType};
-ghost use Rattle.per_laws.specs.Named.{NewerTypeButForNames};
+ghost use Rattle.per_laws.specs.NamedBits.{NewerTypeButForNames};
 ghost use Rattle.per_laws.specs.Compared.{comparison};
 ghost use Rattle.per_laws.specs.Verdicts.{allowed, at_place, in_additions, in_element, in_root, left_out};
 ghost use Rattle.per_laws.specs.Verdicts.{other_bounds, other_default, other_items, other_kind, other_marker};
 ghost use Rattle.per_laws.specs.Verdicts.{other_presence, other_range, other_size, other_tag, put_in};
 ghost use Rattle.per_samples_b.specs.Outers.{outer1, outer2, outer3};
 
-/// An addition is left out at the end, or of the middle, so that the next one stands in its place; and one is put in
+/// An addition is left out at the end, or of the middle, so that the next one is in its place; and one is put in
 /// front of others.
 pub fn additions_stay_in_their_order()
     ensures at_the_end { comparison (sequence_at outer2) (sequence_at outer3) ≡ in_additions (at_place 1 left_out) }
@@ -80,7 +80,7 @@ pub fn default_stays_as_it_is()
         (sequence_at (automatic (default (whole (pos 3)) (integer u8 (0 to 7)) ∷ []))) ≡ allowed }
 {}
 
-/// An item is put in before the marker, moved in front of it, or left out behind it.
+/// An item is put in before the marker, moved in front of it, or left out after it.
 pub fn items_stay_as_they_are()
     ensures before { comparison (always (Schema.items 2 1 true)) (always (Schema.items 1 1 true)) ≡ other_items }
     ensures moved { comparison (always (Schema.items 2 0 true)) (always (Schema.items 1 1 true)) ≡ other_items }

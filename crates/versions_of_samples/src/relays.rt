@@ -10,7 +10,7 @@ ghost use Rattle.per_core.specs.declared.decode_error.DecodeError.{DecodeError};
 ghost use Rattle.rasn_per.specs.Calls.{DecodedBy, AreBytes};
 ghost use Rattle.per_versions.specs.Answers.{Answers};
 ghost use Rattle.per_versions.specs.Exchanges.{PassesOn};
-ghost use Rattle.per_versions.specs.Kept.{KeepsToI128};
+ghost use Rattle.per_versions.specs.NumbersKept.{KeepsToI128};
 ghost use Rattle.per_versions.specs.Readings.{normal_form};
 
 use crate::additions::outer3_adds_to_outer1;
@@ -43,7 +43,7 @@ pub fn relay_of_outer3_changes_nothing_for_outer1()
 }
 
 /// A record without a number, and an extensible INTEGER between two bounds.
-#[tactic(auto, unfolding(per_versions::specs::Kept::keeps_to_i128))]
+#[tactic(auto, unfolding(per_versions::specs::NumbersKept::keeps_to_i128))]
 pub fn types_keep_to_i128()
     ensures record_of { let own = ⟦<Outer3 as AsnType>⟧ in KeepsToI128 (own.schema own.CONSTRAINTS) }
     ensures number { let own = ⟦<OneToTenExtensible as AsnType>⟧ in KeepsToI128 (own.schema own.CONSTRAINTS) }

@@ -50,7 +50,7 @@ pub fn outer2_is_read_by_outer1(
     read_by_older(alloc, codec, value)
 }
 
-/// The older reader answers the value without the addition behind the group.
+/// The older reader answers the value without the addition after the group.
 pub fn outer3_is_read_by_outer2(
     alloc: Global,
     codec: Codec,

@@ -29,7 +29,7 @@ const CARRIERS: Rows = &[
 ];
 
 /// A payload (the octets from the sixth on) that is no encoding of a pair: it ends within the pair's second component,
-/// an octet is left over behind it, or it has no octet.
+/// an octet is left over after it, or it has no octet.
 const REFUSED: &[(&str, &str)] = &[
     ("010380010502800180800105", "Incomplete(8)"),
     ("0103800105048001050080800105", "UnexpectedExtraData(1)"),

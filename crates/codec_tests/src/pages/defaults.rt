@@ -79,7 +79,7 @@ const COLORS: Rows = &[
     ),
 ];
 
-/// No padding stands before a string of no bits (X.691 11.9.3.3), where the other encoder has some.
+/// No padding is before a string of no bits (X.691 11.9.3.3), where the other encoder has some.
 const BITS: Rows = &[
     ("40", "40", "{\"last\":true}"),
     (

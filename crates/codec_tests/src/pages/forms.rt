@@ -36,7 +36,7 @@ const EIGHT: Rows = &[(
     "{\"a\":true,\"b\":1,\"c\":null,\"d\":false,\"e\":-1,\"f\":true,\"g\":null,\"h\":70000}",
 )];
 
-/// Two presence bits stand before sixteen flags (X.691 19.2).
+/// Two presence bits are before sixteen flags (X.691 19.2).
 const EIGHTEEN: Rows = &[
     (
         "a49268",
@@ -82,8 +82,8 @@ fn writes_and_reads_components(rt: HostRuntime) {
     expect_rows::<Six>(&rt, SIX);
 }
 
-/// Some of sixteen components behind an extension bit, which is zero where there is no addition (X.691 19.1); one of
-/// each constructed type, and the addition behind its own open type (X.691 19.9); and the last of them, one of which is
+/// Some of sixteen components after an extension bit, which is zero where there is no addition (X.691 19.1); one of
+/// each constructed type, and the addition after its own open type (X.691 19.9); and the last of them, one of which is
 /// a record without its additions.
 const MANY_EXTENDED: Rows = &[
     ("000000", "000000", "{}"),
@@ -169,7 +169,7 @@ fn writes_and_reads_an_identifier_and_a_bag(rt: HostRuntime) {
     expect_recoded::<Membership>(&rt, Codec::Aper, MEMBERS_TURNED);
 }
 
-/// The index of few alternatives stands in bits, and the alternative is padded from where it stands (X.691 23.6).
+/// The index of few alternatives is in bits, and the alternative is padded from where it stands (X.691 23.6).
 const ALTERNATIVE: Rows = &[("d0", "d0", "{\"y\":5}")];
 
 const NESTED: Rows = &[
@@ -177,7 +177,7 @@ const NESTED: Rows = &[
     ("80", "80", "{\"last\":null}"),
 ];
 
-/// Alternatives of the root behind an extension bit 0 and an index, the others behind a bit 1 and an index as open
+/// Alternatives of the root after an extension bit 0 and an index, the others after a bit 1 and an index as open
 /// types (X.691 23.4, 23.8).
 const SEVERAL: Rows = &[
     ("20", "20", "{\"a\":true}"),
@@ -186,7 +186,7 @@ const SEVERAL: Rows = &[
     ("810100", "810100", "{\"done\":null}"),
 ];
 
-/// A CHOICE without a tag of its own stands where its alternatives' tags do (X.691 21.1).
+/// A CHOICE without a tag of its own is where its alternatives' tags do (X.691 21.1).
 const BESIDE: Rows = &[
     ("34", "34", "{\"choice\":{\"a\":true},\"lane\":5}"),
     ("50", "50", "{\"choice\":{\"none\":null},\"lane\":2}"),
@@ -213,7 +213,7 @@ fn writes_and_reads_alternatives(rt: HostRuntime) {
 /// Alternatives under tags that are written.
 const TRUTH_OR_NONE: Rows = &[("40", "40", "{\"m\":true}"), ("80", "80", "{\"n\":null}")];
 
-/// Alternatives that are a record, before the marker and behind it.
+/// Alternatives that are a record, before the marker and after it.
 const ALT: Rows = &[
     ("20", "20", "{\"plain\":true}"),
     (

@@ -1,4 +1,4 @@
-//! Values of types that stand on no page of their own: strings, times, numbers, bags; and what is refused of them.
+//! Values of types that are on no page of their own: strings, times, numbers, bags; and what is refused of them.
 
 use crate::pages::expected::{
     Rows, encode, expect_json, expect_recoded, expect_refused, expect_rows,
@@ -14,7 +14,7 @@ use rasn_below::types::{
 };
 use std::test::Fail;
 
-/// Octets behind a length.
+/// Octets after a length.
 const ANY: Rows = &[("020105", "020105", "\"0105\"")];
 
 const UTF8: Rows = &[("02c3a9", "02c3a9", "\"é\"")];
@@ -28,7 +28,7 @@ const TELETEX: Rows = &[("01cc", "01cc", "\"Ì\"")];
 const NUMBER: Rows = &[("02ff7f", "02ff7f", "-129")];
 
 #[test]
-fn writes_and_reads_octets_behind_a_length(rt: HostRuntime) {
+fn writes_and_reads_octets_after_a_length(rt: HostRuntime) {
     expect_rows::<Any>(&rt, ANY);
     expect_rows::<Utf8String>(&rt, UTF8);
     expect_rows::<GeneralString>(&rt, GENERAL);
@@ -68,10 +68,10 @@ const NUMBERS: Rows = &[
     ("00", "00", "[]"),
 ];
 
-/// TRUE, FALSE and TRUE are three bits behind their count.
+/// TRUE, FALSE and TRUE are three bits after their count.
 const TRUTHS: Rows = &[("03a0", "0360", "[true,false,true]")];
 
-/// A member is put behind the others where it isn't yet known how many bits stand before it: the second begins in the
+/// A member is put after the others where it isn't yet known how many bits are before it: the second begins in the
 /// midst of an octet, where the ALIGNED variant pads.
 const ONE_BIT_EACH: Rows = &[(
     "0201800100",
@@ -108,8 +108,8 @@ const TIMES: Rows = &[
     ),
 ];
 
-/// A fraction with a zero behind it (X.690 11.7.5), a text without Z, midnight as the 24th hour, the text of a UTCTime;
-/// a control character, which no VisibleString has, and a code behind the last character.
+/// A fraction with a zero after it (X.690 11.7.5), a text without Z, midnight as the 24th hour, the text of a UTCTime;
+/// a control character, which no VisibleString has, and a code after the last character.
 const NO_TIMES_ALIGNED: &[(&str, &str)] = &[
     ("1131393932303632323132333432312e305a", "Below"),
     ("0e3230313830363133303630313538", "Below"),
@@ -161,7 +161,7 @@ const BOOLEAN_AND_MORE: &[(&str, &str)] = &[
 /// A group that holds nothing, in an open type of two octets, where one does.
 const GROUP_AND_MORE: &[(&str, &str)] = &[("c040800000", "UnexpectedExtraData(1)")];
 
-/// An index behind the last alternative.
+/// An index after the last alternative.
 const PAST_THE_LAST: &[(&str, &str)] = &[("820100", "ChoiceIndexNotFound(2)")];
 
 #[test]

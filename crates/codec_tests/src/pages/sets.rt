@@ -15,7 +15,7 @@ use per_samples_sets::set_each::SetEach;
 use rasn_below::types::Codec;
 use std::test::Fail;
 
-/// The root stands in the order of its tags, and behind it the additions as they are listed (X.691 19.7, 21).
+/// The root is in the order of its tags, and after it the additions as they are listed (X.691 19.7, 21).
 const EXTENDED: Rows = &[
     (
         "c0aa0380018001a0",

@@ -1,7 +1,6 @@
-use Rattle.std.proofs.Common.{[], ◌≡◌, ◌∙◌, ◌++◌, sym, ap, ap₂, length, length-append, subst, arith}
-use Rattle.std.proofs.lemmas.List.{append-nil, nil_from_length}
+use Rattle.std.proofs.Common.{◌≡◌, ◌∙◌, ◌++◌, ap₂, subst, arith}
+use Rattle.std.proofs.lemmas.List.{take_all}
 use Rattle.rasn_types.specs.Bits.{to_bits, unpack}
-use Rattle.rasn_types.proofs.Bits.{length-to_bits}
 use Rattle.per_bits.specs.Octets.{filled, AreFilledBy}
 use Rattle.per_bits.proofs.Readers.{filled_all, moved_length}
 use Rattle.per_bits.proofs.append_from_octet.Goals as goal
@@ -13,9 +12,7 @@ append_field-requires-clause-room g c =
 
 pub returns : goal.returns
 returns g c =
-    let field = to_bits c.len-width.result c.take_field-number.result in
-    let count = ap length c.take_field-number.ensures.bits ∙ length-append field c.take_field-number.new.self.bits in
-    let none : c.take_field-number.new.self.bits ≡ [] = nil_from_length c.take_field-number.new.self.bits (omega (arith, length-to_bits c.len-width.result c.take_field-number.result)) in
+    let field = to_bits c.len-width.result c.first_field-number.result in
     let all : filled 0 c.move_front.new.octets.items ++ field ≡ unpack c.args.octets.now.items ++ c.args.reader.bits = ap₂ (λ bs cs. bs ++ cs) (filled_all c.move_front.new.octets.items)
-    (sym (append-nil field) ∙ ap (λ bs. field ++ bs) (sym none) ∙ sym c.take_field-number.ensures.bits) ∙ c.move_front.ensures.bits in
+    (c.first_field-number.ensures ∙ take_all c.len-width.result c.move_front.new.self.bits (omega arith)) ∙ c.move_front.ensures.bits in
     subst (λ bs. AreFilledBy bs c.append_field.result c.append_field.new.octets.items) all c.append_field.ensures.bits

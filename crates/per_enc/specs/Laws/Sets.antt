@@ -20,10 +20,10 @@ use Rattle.per_core.specs.declared.encode_error.EncodeErrorKind.TheVariants.{Out
 use Rattle.per_core.specs.WritingFaults.{in_set}
 use Rattle.per_write.specs.Faults.{RefusesValue, Stands}
 use Rattle.per_enc.specs.Rules.{encoding_rules, noting}
-use Rattle.per_write.specs.State.{Presents, State, StateAppends}
+use Rattle.per_write.specs.WriterState.{Presents, WriterState, StateAppends}
 
 -- a fault of the SEQUENCE of a SET's components in order is one of the SET
-stands_in_set : (kind : EncodeErrorKind) (x : State) (ps : Parts) (marker : Bool) (qs : Parts)
+stands_in_set : (kind : EncodeErrorKind) (x : WriterState) (ps : Parts) (marker : Bool) (qs : Parts)
     (rs xs : List (Option Value))
     → Stands kind x (Schema.sequence listed (canonised ps) marker qs) (record_value (canonised_slots ps rs) xs)
     → Stands kind x (Schema.sequence by_tag ps marker qs) (record_value rs xs)
@@ -41,7 +41,8 @@ stands_in_set OutOfTurn x ps marker qs rs xs h = in_set rs xs h
 stands_in_set WrongKind x ps marker qs rs xs h = in_set rs xs h
 
 -- a SET is refused where the SEQUENCE is
-pub refused_set : (ps : Parts) (marker : Bool) (qs : Parts) (x : State) (rs xs : List (Option Value)) (e : EncodeError)
+pub refused_set : (ps : Parts) (marker : Bool) (qs : Parts) (x : WriterState) (rs xs : List (Option Value))
+    (e : EncodeError)
     → RefusesValue e x (Schema.sequence listed (canonised ps) marker qs) (record_value (canonised_slots ps rs) xs)
     → RefusesValue e x (Schema.sequence by_tag ps marker qs) (record_value rs xs)
 refused_set ps marker qs x rs xs e h = record {
@@ -51,7 +52,7 @@ refused_set ps marker qs x rs xs e h = record {
 }
 
 -- a SET is presented where the SEQUENCE is
-presented_set : (ps : Parts) (marker : Bool) (qs : Parts) (x y : State) (rs xs : List (Option Value))
+presented_set : (ps : Parts) (marker : Bool) (qs : Parts) (x y : WriterState) (rs xs : List (Option Value))
     → Presents x (Schema.sequence listed (canonised ps) marker qs) (record_value (canonised_slots ps rs) xs) y
     → Presents x (Schema.sequence by_tag ps marker qs) (record_value rs xs) y
 presented_set ps marker qs x y rs xs w = subst (λ m. StateAppends x m y)

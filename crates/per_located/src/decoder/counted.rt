@@ -1,4 +1,4 @@
-//! The calls of a decoder that knows where it stood when it refused, for types that are data.
+//! The calls of a decoder that knows where it was when it refused, for types that are data.
 
 use crate::decoder::{Located, Positioned};
 use crate::path::Step;

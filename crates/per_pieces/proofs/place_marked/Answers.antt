@@ -1,4 +1,4 @@
-use Rattle.per_pieces.specs.Places.{marked}
+use Rattle.per_pieces.specs.MarkPositions.{marked}
 use Rattle.per_pieces.proofs.Marking.{settled_alone}
 use Rattle.per_pieces.proofs.place_marked.Goals as goal
 

@@ -11,7 +11,7 @@ use rasn_below::types::{BitString, Codec, OctetString};
 use std::alloc::{AllocError, Global};
 use std::process::Abort;
 
-/// What stands at the front of an encoding, how many octets of `55` stand behind it, and what stands at its end.
+/// What is at the front of an encoding, how many octets of `55` stand after it, and what is at its end.
 type Long = (&'static [u8], usize, &'static [u8]);
 
 /// The octets of an encoding.

@@ -6,7 +6,7 @@ use Rattle.rasn_jer.proofs.Choosing.{alone}
 use Rattle.rasn_jer.proofs.Numbered.{numbered}
 use Rattle.rasn_jer.proofs.Printed.{is_read}
 use Rattle.rasn_jer.specs.Laws.Relations.{unrefused}
-use Rattle.rasn_jer.specs.Places.{is_full, State}
+use Rattle.rasn_jer.specs.Frames.{is_full, JsonState}
 use Rattle.rasn_jer.proofs.encode.Goals as goal
 
 never_err : {T E P : Type 0} (Q : E → Type 0) (r : Result T E) → OnErr r P → (P → ⊥) → IfErr r Q
@@ -38,7 +38,7 @@ returns-in-Err-clause-err g c = record {
   at = λ n l. (elim (c.in-Err.ensures.law.at n l) [
     | inl m ↦ inl m
     | inr z ↦ elim z [
-      | inl q ↦ absurd (unrefused c.in-Err.error c.new-encoder.result (ap (λ (x : State). x.failed) c.new-encoder.ensures) (ap (λ (x : State). is_full x.place) c.new-encoder.ensures) q)
+      | inl q ↦ absurd (unrefused c.in-Err.error c.new-encoder.result (ap (λ (x : JsonState). x.failed) c.new-encoder.ensures) (ap (λ (x : JsonState). is_full x.place) c.new-encoder.ensures) q)
       | inr q ↦ inr q
     ]
   ]);

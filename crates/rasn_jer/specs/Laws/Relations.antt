@@ -3,8 +3,8 @@ use Rattle.std.specs.Prelude.{◌≡◌, true, false}
 use Rattle.std.proofs.Common.{◌∙◌, ap, sym, inl, inr}
 use Rattle.rasn_traits.specs.Calls.{PresentsWell}
 use Rattle.rasn_traits.specs.Sets.{SetsWritten}
-use Rattle.rasn_jer.specs.Laws.Vacant.{none_in_vacant}
-use Rattle.rasn_jer.specs.Places.{is_full, State}
+use Rattle.rasn_jer.specs.Laws.EmptyGroups.{none_in_vacant}
+use Rattle.rasn_jer.specs.Frames.{is_full, JsonState}
 use Rattle.rasn_jer.specs.Rules.{IsRefused, jer_rules}
 use Rattle.rasn_jer.specs.Shown.{in_set, shows_ordered}
 use Rattle.rasn_jer.specs.declared.error.EncodeError.{EncodeError}
@@ -12,7 +12,7 @@ use Rattle.rasn_jer.specs.declared.error.EncodeError.TheVariants.{AlreadyFailed,
 use Rattle.rasn_jer.specs.declared.error.EncodeError.TheVariants.{VariantNotInChoice}
 
 -- nothing is refused where a value is awaited
-pub unrefused : (e : EncodeError) (x : State) → x.failed ≡ false → is_full x.place ≡ false → IsRefused e x → ⊥
+pub unrefused : (e : EncodeError) (x : JsonState) → x.failed ≡ false → is_full x.place ≡ false → IsRefused e x → ⊥
 unrefused NoJson x f p h = h
 unrefused OutOfMemory x f p h = h
 unrefused OutOfTurn x f p h = absurd (let t : true ≡ false = sym h ∙ p in cc)
@@ -29,7 +29,8 @@ presents_well = record {
   begin_room = λ x y e w m. m;
   add_room = λ x s v y e w m. m;
   vacant = λ x i s v e w g h r. elim r [
-    | inl q ↦ unrefused e i (ap (λ (z : State). z.failed) w.within) (ap (λ (z : State). is_full z.place) w.within) q
+    | inl q ↦ unrefused e i (ap (λ (z : JsonState). z.failed) w.within)
+        (ap (λ (z : JsonState). is_full z.place) w.within) q
     | inr q ↦ none_in_vacant e s v g h q
   ];
 }

@@ -1,5 +1,5 @@
 -- A code for tag trees, by which a proof tells them apart: a tree is written out in words, each of which makes a tree
--- of those behind it.
+-- of those after it.
 use Rattle.std.specs.Prelude.{◌≡◌, ℕ, zero, suc, List, [], ◌∷◌, refl}
 use Rattle.std.proofs.Common.{◌∙◌, ap}
 use Rattle.std.specs.Coded.{Coded, code_by, coded_ℕ, coded_list, coded×}

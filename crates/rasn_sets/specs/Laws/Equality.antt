@@ -12,7 +12,7 @@ module _ {K : Type 0} {eq : K → K → Bool} (laws : IsEquivalence eq) where
   times_congr (y ∷ xs) q x e = λ i. if laws.congr q x y e i then suc
       (times_congr xs q x e i) else times_congr xs q x e i
 
-  -- a member of no list of those that are looked at stands nowhere there
+  -- a member of no list of those that are looked at is nowhere there
   looked_at : (xs ys ls : List K) → stand_alike eq xs ys ls ≡ true → (q : K)
       → (times eq q xs ≡ times eq q ys) ⊎ (times eq q ls ≡ 0)
   looked_at xs ys [] h q = inr refl

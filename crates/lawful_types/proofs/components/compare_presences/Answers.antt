@@ -1,4 +1,4 @@
-use Rattle.lawful_types.proofs.Oks.{then_all}
+use Rattle.lawful_types.proofs.OkAnswers.{then_all}
 use Rattle.lawful_types.proofs.Presences.{same_default}
 use Rattle.lawful_types.proofs.components.compare_presences.Goals as goal
 

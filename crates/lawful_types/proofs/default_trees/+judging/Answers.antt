@@ -4,7 +4,7 @@ use Rattle.std.specs.Prelude.{option_map}
 use Rattle.rasn_dynamic.specs.declared.types.DefaultValue.TheVariants.{Null}
 use Rattle.rasn_dynamic.specs.Types.{schema_at, tree_slot, tree_value}
 use Rattle.rasn_dynamic.proofs.DefaultTrees.{elements_stated}
-use Rattle.lawful_types.specs.Keeps.{is_right, is_right_slot, tree_levels}
+use Rattle.lawful_types.specs.TypeRules.{is_right, is_right_slot, tree_levels}
 use Rattle.lawful_types.proofs.Pairwise.{paired_begun, paired_ended, paired_failed, paired_passed, paired_uneven}
 use Rattle.lawful_types.proofs.Passing.{fails_at, passes_more}
 use Rattle.lawful_types.proofs.RightTrees

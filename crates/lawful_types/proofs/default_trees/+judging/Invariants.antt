@@ -2,7 +2,7 @@ use Rattle.std.proofs.Common.{◌≡◌, ◌+◌, ◌≤◌, ℕ, take, true}
 use Rattle.rasn_schema.specs.Lawful.{all_pass}
 use Rattle.rasn_schema.specs.Lists.{deepest}
 use Rattle.rasn_dynamic.specs.Types.{schema_at, tree_slot, tree_value}
-use Rattle.lawful_types.specs.Keeps.{is_right, is_right_slot, tree_levels}
+use Rattle.lawful_types.specs.TypeRules.{is_right, is_right_slot, tree_levels}
 use Rattle.lawful_types.proofs.Pairwise.{PairedTo}
 use Rattle.lawful_types.proofs.default_trees.+judging.Given as goal
 

@@ -1,5 +1,5 @@
 use Rattle.std.proofs.Common.{◌+◌, arith}
-use Rattle.lawful_types.specs.Keeps.{tree_levels}
+use Rattle.lawful_types.specs.TypeRules.{tree_levels}
 use Rattle.lawful_types.proofs.default_trees.is_default_tree_at.Goals as goal
 
 pub returns : goal.returns

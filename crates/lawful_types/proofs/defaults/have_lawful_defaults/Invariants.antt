@@ -1,6 +1,6 @@
 use Rattle.std.proofs.Common.{◌≡◌, true, take}
 use Rattle.rasn_schema.specs.Lawful.{all_pass}
-use Rattle.lawful_types.specs.Keeps.{has_lawful_default}
+use Rattle.lawful_types.specs.TypeRules.{has_lawful_default}
 use Rattle.lawful_types.proofs.defaults.have_lawful_defaults.Given as goal
 
 abbrev pub invariant-loop-component : goal.invariant-loop-component

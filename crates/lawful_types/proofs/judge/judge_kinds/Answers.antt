@@ -1,6 +1,6 @@
 use Rattle.std.proofs.Common.{◌≡◌, Some}
 use Rattle.std.specs.Prelude.{slice_get}
-use Rattle.lawful_types.specs.Keeps.{is_lawful_kind}
+use Rattle.lawful_types.specs.TypeRules.{is_lawful_kind}
 use Rattle.lawful_types.proofs.Lawful.{unlawful}
 use Rattle.lawful_types.proofs.Passing.{passes_more, stands_at}
 use Rattle.lawful_types.proofs.judge.judge_kinds.Goals as goal

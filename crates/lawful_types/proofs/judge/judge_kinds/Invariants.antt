@@ -1,6 +1,6 @@
 use Rattle.std.proofs.Common.{◌≡◌, true, take}
 use Rattle.rasn_schema.specs.Lawful.{all_pass}
-use Rattle.lawful_types.specs.Keeps.{is_lawful_kind}
+use Rattle.lawful_types.specs.TypeRules.{is_lawful_kind}
 use Rattle.lawful_types.proofs.judge.judge_kinds.Given as goal
 
 abbrev pub invariant-loop-place : goal.invariant-loop-place

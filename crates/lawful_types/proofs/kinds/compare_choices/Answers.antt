@@ -1,7 +1,7 @@
 use Rattle.std.proofs.Common.{◌≡◌, arith, false}
 use Rattle.std.specs.Prelude.{is_some}
 use Rattle.lawful_types.specs.OneLevel.{AreNewerAlternatives}
-use Rattle.lawful_types.proofs.Oks.{then}
+use Rattle.lawful_types.proofs.OkAnswers.{then}
 use Rattle.lawful_types.proofs.Fronts.{alternatives_more}
 use Rattle.lawful_types.proofs.Parts.{choice_newer}
 use Rattle.lawful_types.proofs.kinds.compare_choices.Goals as goal

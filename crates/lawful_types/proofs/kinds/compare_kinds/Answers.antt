@@ -1,5 +1,5 @@
-use Rattle.lawful_types.proofs.Oks.{then}
-use Rattle.lawful_types.proofs.Within.{containing_newer, kind_newer}
+use Rattle.lawful_types.proofs.OkAnswers.{then}
+use Rattle.lawful_types.proofs.ContainingTypes.{containing_newer, kind_newer}
 use Rattle.lawful_types.proofs.kinds.compare_kinds.Goals as goal
 
 pub returns-in-Containing-older-clause-newer : goal.returns-in-Containing-older-clause-newer

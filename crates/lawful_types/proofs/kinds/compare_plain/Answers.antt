@@ -1,6 +1,6 @@
-use Rattle.lawful_types.proofs.Oks.{then, then_both}
+use Rattle.lawful_types.proofs.OkAnswers.{then, then_both}
 use Rattle.lawful_types.proofs.Parts.{list_newer, set_newer}
-use Rattle.lawful_types.proofs.Within.{date_newer, open_newer}
+use Rattle.lawful_types.proofs.ContainingTypes.{date_newer, open_newer}
 use Rattle.lawful_types.proofs.kinds.compare_plain.Goals as goal
 
 pub returns-in-Date-Date-clause-newer : goal.returns-in-Date-Date-clause-newer

@@ -1,7 +1,7 @@
 use Rattle.std.proofs.Common.{◌≡◌, arith, false}
 use Rattle.std.specs.Prelude.{is_some}
 use Rattle.lawful_types.specs.OneLevel.{AreNewerComponents}
-use Rattle.lawful_types.proofs.Oks.{then}
+use Rattle.lawful_types.proofs.OkAnswers.{then}
 use Rattle.lawful_types.proofs.Fronts.{components_more}
 use Rattle.lawful_types.proofs.Parts.{record_newer}
 use Rattle.lawful_types.proofs.kinds.compare_records.Goals as goal

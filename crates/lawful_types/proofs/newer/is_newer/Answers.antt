@@ -1,6 +1,6 @@
 use Rattle.lawful_types.proofs.Closed.{closed_type}
 use Rattle.lawful_types.proofs.Fronts.{listed_more}
-use Rattle.lawful_types.proofs.Oks.{then}
+use Rattle.lawful_types.proofs.OkAnswers.{then}
 use Rattle.lawful_types.proofs.newer.is_newer.Goals as goal
 
 pub returns : goal.returns

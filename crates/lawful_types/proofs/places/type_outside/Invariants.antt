@@ -1,6 +1,6 @@
 use Rattle.std.proofs.Common.{◌≡◌, true, length, take}
 use Rattle.rasn_schema.specs.Lawful.{all_pass}
-use Rattle.lawful_types.specs.Inside.{is_inside}
+use Rattle.lawful_types.specs.PlacesInside.{is_inside}
 use Rattle.lawful_types.proofs.places.type_outside.Given as goal
 
 abbrev pub invariant-loop-place : goal.invariant-loop-place

@@ -1,6 +1,6 @@
 use Rattle.per_core.specs.Versions.{unchanged}
 use Rattle.lawful_types.proofs.Leaves.{bit_strings, named_bits, numbers, octet_strings}
-use Rattle.lawful_types.proofs.Oks.{then}
+use Rattle.lawful_types.proofs.OkAnswers.{then}
 use Rattle.lawful_types.proofs.simple.compare_simple.Goals as goal
 
 pub returns-in-Boolean-Boolean : goal.returns-in-Boolean-Boolean

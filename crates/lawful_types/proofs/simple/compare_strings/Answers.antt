@@ -2,7 +2,7 @@ use denote.Enum.Bare.{same_true}
 use Rattle.std.proofs.Common.{◌≡◌, refl, Bool, true, false, not}
 use Rattle.rasn_dynamic.specs.contracts.types.CharacterType.{the_type}
 use Rattle.lawful_types.proofs.Leaves.{strings}
-use Rattle.lawful_types.proofs.Oks.{then}
+use Rattle.lawful_types.proofs.OkAnswers.{then}
 use Rattle.lawful_types.proofs.simple.compare_strings.Goals as goal
 
 not_differing : (b : Bool) → false ≡ not b → b ≡ true

@@ -1,6 +1,6 @@
 use Rattle.std.proofs.Common.{◌≡◌, ◌∷◌, ◌++◌, ◌&&◌, sym, ◌∙◌, ap, false}
 use Rattle.rasn_schema.specs.Lawful.{are_distinct}
-use Rattle.lawful_types.specs.Keeps.{tags_of}
+use Rattle.lawful_types.specs.TypeRules.{tags_of}
 use Rattle.lawful_types.proofs.tags.are_distinct.Goals as goal
 
 pub returns-then-not-is_new_in_both : goal.returns-then-not-is_new_in_both

@@ -1,6 +1,6 @@
 use Rattle.std.proofs.Common.{◌≡◌, ◌++◌, length}
 use Rattle.rasn_schema.specs.Lawful.{are_distinct}
-use Rattle.lawful_types.specs.Keeps.{tags_of}
+use Rattle.lawful_types.specs.TypeRules.{tags_of}
 use Rattle.lawful_types.proofs.tags.are_distinct.Given as goal
 
 abbrev pub invariant-loop-first : goal.invariant-loop-first

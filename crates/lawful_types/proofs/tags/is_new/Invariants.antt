@@ -1,7 +1,7 @@
 use Rattle.std.proofs.Common.{◌≡◌, true, take}
 use Rattle.rasn_schema.specs.Structures.{tag_of}
 use Rattle.rasn_schema.specs.Lawful.{is_new}
-use Rattle.lawful_types.specs.Keeps.{tags_of}
+use Rattle.lawful_types.specs.TypeRules.{tags_of}
 use Rattle.lawful_types.proofs.tags.is_new.Given as goal
 
 abbrev pub invariant-loop-alternative : goal.invariant-loop-alternative

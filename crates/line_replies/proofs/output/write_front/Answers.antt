@@ -10,7 +10,7 @@ moves_front all done rest n e =
     e ∙ ap (λ l. done ++ l) (sym (take-append-drop n rest)) ∙ sym (append_assoc done (take n rest) (drop n rest))
     ∙ ap (λ l. (done ++ take n rest) ++ l) (sym (take_rest rest n))
 
--- what was taken of the rest is written behind the front that was; what is taken up again leaves all as it was
+-- what was taken of the rest is written after the front that was; what is taken up again leaves all as it was
 pub loop-preserved : goal.loop-preserved
 loop-preserved g c =
     let (done, split, appended) = c.loop.invariant in

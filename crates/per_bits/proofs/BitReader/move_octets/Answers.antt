@@ -4,8 +4,8 @@ use Rattle.rasn_types.specs.Bits.{unpack}
 use Rattle.per_bits.proofs.Readers.{bits_are, left_is, ok_unless}
 use Rattle.per_bits.proofs.BitReader.move_octets.Goals as goal
 
-pub append_octets_behind-requires-clause-room : goal.append_octets_behind-requires-clause-room
-append_octets_behind-requires-clause-room g c =
+pub append_octets_after-requires-clause-room : goal.append_octets_after-requires-clause-room
+append_octets_after-requires-clause-room g c =
     let left = left_is c.self.inside.skip c.self.inside.len c.self.inside.octets.now c.args.self.now.bits (bits_are c.self.view_is) c.self.invariant in
     omega (arith, c.requires.room)
 
@@ -20,5 +20,5 @@ returns-clause-bits g c =
     let old = unpack c.args.octets.now.items in
     let count = 8 * (c.self.inside.len / 8) in
     let front = sym (take-take count c.self.inside.len (drop c.self.inside.skip (unpack c.self.inside.octets.now)) (omega arith)) ∙ ap (take count) ((bits_are c.self.view_is) ∙ taken.ok) ∙ take_at c.unwrap.result.bits c.take.new.self.bits count taken.count in
-    ap (λ bs. bs ++ c.take.new.self.bits) (c.append_octets_behind.ensures.bits ∙ ap (λ bs. old ++ bs) front)
+    ap (λ bs. bs ++ c.take.new.self.bits) (c.append_octets_after.ensures.bits ∙ ap (λ bs. old ++ bs) front)
     ∙ append_assoc old c.unwrap.result.bits c.take.new.self.bits ∙ ap (λ bs. old ++ bs) (sym taken.ok)

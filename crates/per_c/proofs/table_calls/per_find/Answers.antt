@@ -1,6 +1,6 @@
 use Rattle.std.proofs.Common.{rules, ◌≡◌, ◌≢◌, Some, None}
 use Rattle.per_c.specs.declared.refusal.Refusal.TheVariants.{NoTypes, UnknownType}
-use Rattle.per_c.proofs.Held.{from_none, from_some}
+use Rattle.per_c.proofs.HandleContents.{from_none, from_some}
 use Rattle.per_c.proofs.table_calls.per_find.Goals as goal
 
 pub returns-in_default-clause-refused : goal.returns-in_default-clause-refused

@@ -3,7 +3,7 @@ use Rattle.rasn_dynamic.specs.Types.{schema_at}
 use Rattle.rasn_dynamic.specs.declared.types.Types.{Types}
 use Rattle.rasn_schema.specs.Lawful.{IsLawfulType}
 use Rattle.per_c.specs.declared.refusal.Refusal.TheVariants.{AlreadyLoaded, BadSchema}
-use Rattle.per_c.proofs.Held.{loaded}
+use Rattle.per_c.proofs.HandleContents.{loaded}
 use Rattle.per_c.proofs.table_calls.per_load.Goals as goal
 
 pub returns-then-types-clause-refused : goal.returns-then-types-clause-refused

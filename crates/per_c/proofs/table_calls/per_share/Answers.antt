@@ -1,6 +1,6 @@
 use Rattle.std.proofs.Common.{rules, ◌≡◌, ◌≢◌, Some, None}
 use Rattle.per_c.specs.declared.refusal.Refusal.TheVariants.{AlreadyLoaded, NoTypes}
-use Rattle.per_c.proofs.Held.{from_none, from_some, loaded}
+use Rattle.per_c.proofs.HandleContents.{from_none, from_some, loaded}
 use Rattle.per_c.proofs.table_calls.per_share.Goals as goal
 
 pub returns-then-other-clause-refused : goal.returns-then-other-clause-refused

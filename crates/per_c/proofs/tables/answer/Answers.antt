@@ -3,7 +3,7 @@ use Rattle.std.specs.Arc.{arc_value}
 use Rattle.rasn_dynamic.specs.declared.types.Types.{Types}
 use Rattle.per_c.specs.Tables.{Answers, IsRefusal, Refuses}
 use Rattle.per_c.specs.declared.handle.Table.{Table}
-use Rattle.per_c.proofs.Held.{from_some, ok_as, turned_down}
+use Rattle.per_c.proofs.HandleContents.{from_some, ok_as, turned_down}
 use Rattle.per_c.proofs.tables.answer.Goals as goal
 
 pub returns-clause-ok : goal.returns-clause-ok

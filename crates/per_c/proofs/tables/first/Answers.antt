@@ -4,7 +4,7 @@ use Rattle.rasn_dynamic.specs.declared.types.Types.{Types}
 use Rattle.per_c.specs.Tables.{IsRefusal}
 use Rattle.per_messages.specs.Messages.{AreWithoutFirst, IsFirst}
 use Rattle.per_c.specs.declared.handle.Table.{Table}
-use Rattle.per_c.proofs.Held.{from_some, ok_as, turned_down}
+use Rattle.per_c.proofs.HandleContents.{from_some, ok_as, turned_down}
 use Rattle.per_c.proofs.tables.first.Goals as goal
 
 pub returns-clause-ok : goal.returns-clause-ok

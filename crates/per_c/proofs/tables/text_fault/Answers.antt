@@ -3,7 +3,7 @@ use Rattle.std.specs.Arc.{arc_value}
 use Rattle.rasn_dynamic.specs.declared.types.Types.{Types}
 use Rattle.per_c.specs.Tables.{IsTextFaultBy}
 use Rattle.per_c.specs.declared.handle.Table.{Table}
-use Rattle.per_c.proofs.Held.{from_some}
+use Rattle.per_c.proofs.HandleContents.{from_some}
 use Rattle.per_c.proofs.tables.text_fault.Goals as goal
 
 pub returns-in-Ok-clause-ok : goal.returns-in-Ok-clause-ok

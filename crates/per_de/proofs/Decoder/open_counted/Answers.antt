@@ -6,6 +6,7 @@ use Rattle.rasn_schema.specs.Structures.{presence_bits}
 use Rattle.rasn_schema.specs.Schemas.{count}
 use Rattle.rasn_traits.proofs.Optionals.{bits_counted}
 use Rattle.per_de.proofs.Additions.{shapes_counted}
+use Rattle.per_decoding.specs.Turns.{awaiting}
 use Rattle.per_de.proofs.InTurn.{behaves_err, behaves_ok, record_awaits, record_live, record_opened, record_unopened, still}
 use Rattle.per_de.proofs.Decoder.open_counted.Goals as goal
 
@@ -40,8 +41,8 @@ returns g c =
       in_turn = λ ps bits many.
           let h = c.in_ok-scope.ensures.to_read ps bits in
           record {
-            law = record_opened ps g.C.Constructed.additions g.C.Constructed.IS_EXTENSIBLE c.args.self.now c.begin_value.new.self c.open_record.new.self c.set_turn.new.self
-                c.in_ok-scope.scope c.turn-turn.result _ c.in_ok-begin_value.ensures.noted c.turn-turn.ensures c.set_turn.ensures (λ n. fields n ∙ sym (many n)) h.law;
+            law = record_opened awaiting ps g.C.Constructed.additions g.C.Constructed.IS_EXTENSIBLE c.args.self.now c.begin_value.new.self c.open_record.new.self c.set_turn.new.self
+                c.in_ok-scope.scope c.turn-turn.result _ c.in_ok-begin_value.ensures.noted c.turn-turn.ensures c.set_turn.ensures (λ n. ap awaiting (fields n ∙ sym (many n))) h.law;
             counts = record_awaits ps g.C.Constructed.additions g.C.Constructed.IS_EXTENSIBLE c.begin_value.new.self c.open_record.new.self c.set_turn.new.self c.in_ok-scope.scope _ _ _ live c.set_turn.ensures
                 (λ n. fields n ∙ sym (many n)) (λ n. bits_are n ∙ sym (bits n)) adds_are h.law;
             behaves = behaves_ok c.args.self.now c.begin_value.new.self c.open_record.new.self _ _ _ c.in_ok-begin_value.ensures.ok c.in_ok-begin_value.ensures.noted h.behaves.kept c.set_turn.ensures;

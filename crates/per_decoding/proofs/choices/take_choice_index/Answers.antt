@@ -3,7 +3,7 @@ use Rattle.std.proofs.lemmas.Result.{IfOk-weaker, IfErr-weaker}
 use Rattle.rasn_schema.specs.Enumerations.{addeds_of, is_extensible}
 use Rattle.per_decoding.specs.ChoiceIndexes.{index_of}
 use Rattle.per_core.specs.IndexFaults.{count_of}
-use Rattle.per_read.specs.State.{settings_of}
+use Rattle.per_read.specs.ReaderState.{settings_of}
 use Rattle.per_read.proofs.Calls.{passes_on}
 use Rattle.per_decoding.proofs.Indexes.{index_missing, index_there, no_extension, place_faulty, places_index}
 use Rattle.per_decoding.proofs.Enumerations.{of_extension}

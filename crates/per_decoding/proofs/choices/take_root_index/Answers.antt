@@ -2,11 +2,11 @@ use Rattle.std.proofs.Common.{◌≡◌, ◌∙◌, ◌<◌, ◌^◌, arith, ref
 use Rattle.std.proofs.lemmas.Result.{IfOk-weaker}
 use Rattle.rasn_schema.specs.Enumerations.{addeds_of, is_extensible}
 use Rattle.per_decoding.specs.ChoiceIndexes.{index_of}
-use Rattle.per_read.specs.State.{settings_of}
+use Rattle.per_read.specs.ReaderState.{settings_of}
 use Rattle.per_read.proofs.Calls.{answers, if_some}
 use Rattle.per_decoding.proofs.Enumerations.{no_place_past, no_root_added, no_root_bit, no_root_place}
 use Rattle.per_decoding.proofs.Indexes.{index_there, unknown_past}
-use Rattle.per_decoding.proofs.Short.{if_none}
+use Rattle.per_decoding.proofs.ShortNumbers.{if_none}
 use Rattle.per_decoding.proofs.choices.take_root_index.Goals as goal
 
 pub returns-clause-took : goal.returns-clause-took

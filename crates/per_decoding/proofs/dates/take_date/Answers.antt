@@ -1,6 +1,6 @@
 use Rattle.std.proofs.Common.{◌∙◌}
 use Rattle.std.proofs.lemmas.Result.{IfErr-weaker}
-use Rattle.per_read.specs.State.{settings_of}
+use Rattle.per_read.specs.ReaderState.{settings_of}
 use Rattle.per_read.proofs.Calls.{passes_on}
 use Rattle.per_read.proofs.Refusals.{faulty_map}
 use Rattle.per_decoding.proofs.DatesRead.{day_fault, known_found, month_fault, no_day, no_years, year_fault}

@@ -1,7 +1,7 @@
 use Rattle.std.proofs.Common.{◌∙◌, ◌<◌, ◌^◌, arith}
 use Rattle.std.proofs.lemmas.Result.{IfOk-weaker, IfErr-weaker}
 use Rattle.per_core.specs.IndexFaults.{count_of}
-use Rattle.per_read.specs.State.{settings_of}
+use Rattle.per_read.specs.ReaderState.{settings_of}
 use Rattle.per_read.proofs.Calls.{passes_on}
 use Rattle.per_decoding.proofs.Enumerations.{item_missing, item_there, no_extension, of_extension, of_places, place_faulty}
 use Rattle.per_decoding.proofs.enumerated.take_enumerated.Goals as goal

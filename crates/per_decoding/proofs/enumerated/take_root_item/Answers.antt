@@ -1,9 +1,9 @@
 use Rattle.std.proofs.Common.{◌≡◌, ◌∙◌, ◌<◌, ◌^◌, arith, refl, rules, true, false, Some, Ok}
 use Rattle.std.proofs.lemmas.Result.{IfOk-weaker}
-use Rattle.per_read.specs.State.{settings_of}
+use Rattle.per_read.specs.ReaderState.{settings_of}
 use Rattle.per_read.proofs.Calls.{answers, if_some}
 use Rattle.per_decoding.proofs.Enumerations.{item_there, missing_past, no_place_past, no_root_added, no_root_bit, no_root_place}
-use Rattle.per_decoding.proofs.Short.{if_none}
+use Rattle.per_decoding.proofs.ShortNumbers.{if_none}
 use Rattle.per_decoding.proofs.enumerated.take_root_item.Goals as goal
 use Rattle.per_decoding.proofs.enumerated.take_root_item.Goals.{in_default-via-in-Ok+then-take_extension_bit, in_default-via-in_default}
 

@@ -1,5 +1,5 @@
 use Rattle.std.proofs.Common.{sym}
-use Rattle.per_read.specs.State.{settings_of}
+use Rattle.per_read.specs.ReaderState.{settings_of}
 use Rattle.per_read.proofs.Calls.{answers, passes_on}
 use Rattle.per_decoding.proofs.Enumerations.{root_form, root_said}
 use Rattle.per_read.proofs.Forms.{as_form, no_form}

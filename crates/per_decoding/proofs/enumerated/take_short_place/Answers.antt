@@ -1,6 +1,6 @@
 use Rattle.std.proofs.Common.{◌<◌, ◌^◌, arith, refl, sym}
 use Rattle.per_core.specs.Basic.{constrained_form}
-use Rattle.per_read.specs.State.{settings_of}
+use Rattle.per_read.specs.ReaderState.{settings_of}
 use Rattle.per_decoding.proofs.Enumerations.{no_place_held, no_short_place, root_form, short_place}
 use Rattle.per_read.proofs.Forms.{as_form}
 use Rattle.per_read.proofs.InPlace.{as_index}

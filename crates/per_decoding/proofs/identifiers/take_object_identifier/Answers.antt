@@ -1,6 +1,6 @@
 use Rattle.std.proofs.Common.{◌∙◌, inr, ap, sym}
 use Rattle.rasn_types.specs.Contents.{is_identifier}
-use Rattle.per_read.specs.State.{settings_of}
+use Rattle.per_read.specs.ReaderState.{settings_of}
 use Rattle.per_read.proofs.Calls.{refuses, passes_on}
 use Rattle.per_decoding.proofs.Moments.{no_object, none_of_identifier, octets_identifier}
 use Rattle.per_read.proofs.Refusals.{faulty_map}

@@ -1,5 +1,5 @@
 use Rattle.rasn_constraints.specs.Constraints.{bounds_of}
-use Rattle.per_read.specs.State.{settings_of}
+use Rattle.per_read.specs.ReaderState.{settings_of}
 use Rattle.per_read.proofs.Calls.{takes_last, passes_on, begins, ended}
 use Rattle.per_decoding.proofs.Marks.{no_bit, in_root, past_root, faulty_root, faulty_past}
 use Rattle.per_decoding.proofs.integers.take_extensible_integer.Goals as goal

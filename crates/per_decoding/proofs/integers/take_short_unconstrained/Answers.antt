@@ -3,7 +3,7 @@ use Rattle.std.specs.Int.{w128}
 use Rattle.std.proofs.lemmas.Int.{to_z-of_z}
 use Rattle.rasn_constraints.specs.Bounds.{holds}
 use Rattle.per_read.proofs.Unbounded.{out_of_range_no_number}
-use Rattle.per_decoding.proofs.Short.{no_octets_no_short, no_whole_no_short}
+use Rattle.per_decoding.proofs.ShortNumbers.{no_octets_no_short, no_whole_no_short}
 use Rattle.per_decoding.proofs.integers.take_short_unconstrained.Goals as goal
 
 pub returns-in_err-octets-clause-none : goal.returns-in_err-octets-clause-none

@@ -2,8 +2,8 @@ use Rattle.std.proofs.Common.{◌∙◌, refl, sym, rules, FitsSigned}
 use Rattle.std.specs.Int.{w128}
 use Rattle.std.proofs.lemmas.Int.{to_z-of_z}
 use Rattle.rasn_constraints.specs.Constraints.{bounds_of}
-use Rattle.per_decoding.proofs.Fits.{starts, ends, misfit_none}
-use Rattle.per_decoding.proofs.Short.{if_none, no_field_no_short, no_number_no_short}
+use Rattle.per_decoding.proofs.FittingNumbers.{starts, ends, misfit_none}
+use Rattle.per_decoding.proofs.ShortNumbers.{if_none, no_field_no_short, no_number_no_short}
 use Rattle.per_decoding.proofs.integers.take_short_within.Goals as goal
 
 pub returns-in_err-number-clause-none : goal.returns-in_err-number-clause-none

@@ -1,9 +1,9 @@
 use Rattle.std.proofs.lemmas.Result.{IfOk-weaker, IfErr-weaker}
 use Rattle.rasn_constraints.specs.Constraints.{bounds_of}
-use Rattle.per_read.specs.State.{settings_of}
+use Rattle.per_read.specs.ReaderState.{settings_of}
 use Rattle.per_read.proofs.Calls.{passes_on}
 use Rattle.per_read.proofs.Refusals.{faulty_map}
-use Rattle.per_decoding.proofs.Fits.{starts, ends, fit_number, misfit_faulty, no_number, form_number}
+use Rattle.per_decoding.proofs.FittingNumbers.{starts, ends, fit_number, misfit_faulty, no_number, form_number}
 use Rattle.per_decoding.proofs.integers.take_within.Goals as goal
 
 pub returns-in_err-number : goal.returns-in_err-number

@@ -1,5 +1,5 @@
 use Rattle.std.proofs.Common.{◌≡◌, subst, Some}
-use Rattle.per_decoding.specs.Laws.Additions.{back_of, read_of}
+use Rattle.per_decoding.proofs.Scoping.Additions.{back_of, read_of}
 use Rattle.per_decoding.specs.State.{Spells}
 use Rattle.per_decoding.proofs.laws.addition_is_what_stands_in_its_open_type.Goals as goal
 

@@ -1,4 +1,4 @@
-use Rattle.per_decoding.specs.Laws.InTurn.{cant_end}
+use Rattle.per_decoding.proofs.Scoping.InTurn.{cant_end}
 use Rattle.per_decoding.proofs.laws.another_amount_is_not_complete.Goals as goal
 
 pub returns : goal.returns

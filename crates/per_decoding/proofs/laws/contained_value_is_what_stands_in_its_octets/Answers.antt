@@ -1,4 +1,4 @@
-use Rattle.per_decoding.specs.Laws.Contents.{contained_back, contained_read}
+use Rattle.per_decoding.proofs.Scoping.Contents.{contained_back, contained_read}
 use Rattle.per_decoding.proofs.laws.contained_value_is_what_stands_in_its_octets.Goals as goal
 
 pub returns : goal.returns

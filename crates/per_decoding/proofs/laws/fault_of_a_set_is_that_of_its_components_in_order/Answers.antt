@@ -1,5 +1,5 @@
 use Rattle.per_core.specs.ReadingFaults.{in_set}
-use Rattle.per_decoding.specs.Laws.Sets.{fault_in_turn}
+use Rattle.per_decoding.proofs.Scoping.Sets.{fault_in_turn}
 use Rattle.per_decoding.proofs.laws.fault_of_a_set_is_that_of_its_components_in_order.Goals as goal
 
 pub returns : goal.returns

@@ -2,10 +2,10 @@ use Rattle.std.proofs.Common.{refl, subst}
 use Rattle.rasn_schema.specs.Schemas.{count}
 use Rattle.per_core.specs.Basic.{ExtensionBit}
 use Rattle.per_core.specs.Spellings.{Took}
-use Rattle.per_core.proofs.Took.{then_took}
-use Rattle.per_decoding.specs.Laws.Records.{flags_bits}
+use Rattle.per_core.proofs.TakenInTurn.{then_took}
+use Rattle.per_decoding.proofs.Scoping.Records.{flags_bits}
 use Rattle.per_decoding.specs.Scopes.{outside_record}
-use Rattle.per_decoding.specs.Laws.Scopes.{took_record}
+use Rattle.per_decoding.proofs.Scoping.Scopes.{took_record}
 use Rattle.per_decoding.specs.State.{State, settings_of}
 use Rattle.per_core.specs.AdditionFaults.{extension_of}
 use Rattle.per_decoding.proofs.laws.record_can_be_opened.Goals as goal

@@ -1,7 +1,7 @@
 use Rattle.std.proofs.Common.{sym, subst}
 use Rattle.rasn_schema.specs.Structures.{record_value, extended}
-use Rattle.per_decoding.specs.Laws.Relations.{reads_well}
-use Rattle.per_decoding.specs.Laws.Scopes.{back_of, read_of}
+use Rattle.per_decoding.proofs.Scoping.Relations.{reads_well}
+use Rattle.per_decoding.proofs.Scoping.Scopes.{back_of, read_of}
 use Rattle.per_decoding.specs.State.{Spells}
 use Rattle.per_decoding.proofs.laws.record_is_what_stands_in_its_scope.Goals as goal
 

@@ -1,7 +1,7 @@
-use Rattle.per_core.proofs.Took.{took_map}
+use Rattle.per_core.proofs.TakenInTurn.{took_map}
 use Rattle.per_core.proofs.SetReadings.{in_order}
-use Rattle.per_decoding.specs.Laws.Sets.{sets_well}
-use Rattle.per_decoding.specs.Laws.Spelled.{spelled}
+use Rattle.per_decoding.proofs.Scoping.Sets.{sets_well}
+use Rattle.per_decoding.proofs.Scoping.Spelled.{spelled}
 use Rattle.per_decoding.proofs.laws.set_is_read_as_its_components_in_order.Goals as goal
 
 pub returns : goal.returns

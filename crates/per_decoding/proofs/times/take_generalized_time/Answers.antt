@@ -1,6 +1,6 @@
 use Rattle.std.proofs.Common.{◌∙◌, inr, ap, sym}
 use Rattle.rasn_types.specs.Contents.{is_time, generalized}
-use Rattle.per_read.specs.State.{settings_of}
+use Rattle.per_read.specs.ReaderState.{settings_of}
 use Rattle.per_read.proofs.Calls.{refuses, passes_on}
 use Rattle.per_decoding.proofs.Moments.{fails_unless, no_time, none_of_time, time_kind}
 use Rattle.per_read.proofs.Refusals.{faulty_map}

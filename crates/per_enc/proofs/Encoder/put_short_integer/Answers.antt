@@ -6,7 +6,7 @@ use Rattle.rasn_constraints.specs.Constraints.{bounds_in, is_marked}
 use Rattle.rasn_constraints.specs.declared.constraints.Bounded.{Bounded}
 use Rattle.rasn_constraints.specs.declared.constraints.Extensible.{Extensible}
 use Rattle.rasn_schema.specs.Schemas.{Schema}
-use Rattle.per_write.specs.State.{Presents}
+use Rattle.per_write.specs.WriterState.{Presents}
 use Rattle.per_enc.proofs.Noting.{puts_noted}
 use Rattle.per_enc.proofs.Presenting.{between_presented, unbounded_presented}
 use Rattle.per_enc.proofs.Encoder.put_short_integer.Goals as goal

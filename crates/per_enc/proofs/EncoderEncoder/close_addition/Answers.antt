@@ -1,10 +1,10 @@
 use Rattle.std.proofs.Common.{ap, refl, ◌∙◌, Some}
 use Rattle.std.proofs.lemmas.Result.{err_from_is_err_and}
-use Rattle.per_write.specs.State.{State}
+use Rattle.per_write.specs.WriterState.{WriterState}
 use Rattle.per_pieces.specs.Turns.{awaits, is_complete}
-use Rattle.per_enc.proofs.Around.{addition_closed}
-use Rattle.per_enc.proofs.Given.{closed}
-use Rattle.per_enc.proofs.Inside.{value_inside}
+use Rattle.per_enc.proofs.AroundSets.{addition_closed}
+use Rattle.per_enc.proofs.GivenAdditions.{closed}
+use Rattle.per_enc.proofs.NoOpenSet.{value_inside}
 use Rattle.per_enc.proofs.Noting.{behaves_begun}
 use Rattle.per_enc.proofs.Turns.{addition_untimely, behaves_unclosed, not_unclosed, unclosed_untimely, unfailed_in_addition}
 use Rattle.per_enc.proofs.EncoderEncoder.close_addition.Goals as goal

@@ -4,7 +4,7 @@ use Rattle.rasn_types.specs.Values.{alternative}
 use Rattle.per_pieces.specs.Turns.{awaits, is_complete}
 use Rattle.per_enc.specs.Rules.{noting}
 use Rattle.per_enc.proofs.PlacedChoices.{choice_closed, closes_well}
-use Rattle.per_enc.proofs.Inside.{value_inside}
+use Rattle.per_enc.proofs.NoOpenSet.{value_inside}
 use Rattle.per_enc.proofs.Noting.{behaves_begun, written_noted}
 use Rattle.per_enc.proofs.Turns.{behaves_unclosed, not_unclosed, one_untimely, placed_opened_well, unclosed_untimely}
 use Rattle.per_enc.proofs.EncoderEncoder.close_alternative.Goals as goal

@@ -6,10 +6,10 @@ use Rattle.per_core.specs.Counts.{open_bits}
 use Rattle.per_pieces.specs.Pieces.{Pieces, placed_bits}
 use Rattle.per_pieces.specs.Turns.{awaits, is_complete}
 use Rattle.per_write.specs.Faults.{IsMemory}
-use Rattle.per_write.specs.State.{Puts, State, view}
+use Rattle.per_write.specs.WriterState.{Puts, WriterState, view}
 use Rattle.per_enc.specs.Rules.{noting}
 use Rattle.per_enc.proofs.Contents.{contents_closed}
-use Rattle.per_enc.proofs.Inside.{value_inside}
+use Rattle.per_enc.proofs.NoOpenSet.{value_inside}
 use Rattle.per_enc.proofs.Noting.{behaves_begun, written_noted}
 use Rattle.per_enc.proofs.Turns.{behaves_unclosed, contents_opened_well, not_unclosed, one_untimely, unclosed_untimely}
 use Rattle.per_enc.proofs.EncoderEncoder.close_contents.Goals as goal
@@ -36,11 +36,11 @@ returns g c =
     let result = c.put_open_pieces.result in
     let outside = c.close_unplaced-contents.ensures.outside in
     let puts : Puts IsMemory (open_bits (variant_of j.codec) (view j 0)) (record j { pieces = c.args.outside.0.pieces; scope = c.args.outside.0.scope }) result y =
-    subst (λ (z : State). Puts IsMemory (open_bits (variant_of z.codec) (view j 0)) z result y) outside
+    subst (λ (z : WriterState). Puts IsMemory (open_bits (variant_of z.codec) (view j 0)) z result y) outside
     (subst (λ (p : Pieces). Puts IsMemory (open_bits (variant_of n.codec) (Some (placed_bits p.list 0))) n result y) c.close_unplaced-contents.ensures.taken c.put_open_pieces.ensures) in
     rw (← m) (record {
       law = λ x i s v h w. written_noted x (record { writer = y; set = c.args.outside.1 }) (Schema.containing s) v result
           (contents_closed (noting x).writer i.writer j y c.args.outside.0 s v result h.opened (value_inside i _ s v h.inside w).0 puts) h.waits;
       untimely = λ x i h. let o = contents_opened_well x i c.args.outside h in one_untimely i _ result h.inside o.presences o.additions complete;
-      behaves = behaves_begun begun c.put_open_pieces.ensures.fails (c.put_open_pieces.ensures.kept ∙ ap (λ (z : State). z.codec) outside);
+      behaves = behaves_begun begun c.put_open_pieces.ensures.fails (c.put_open_pieces.ensures.kept ∙ ap (λ (z : WriterState). z.codec) outside);
     })

@@ -6,9 +6,9 @@ use Rattle.rasn_schema.specs.Normal.{settle}
 use Rattle.rasn_schema.specs.Schemas.{group}
 use Rattle.rasn_traits.proofs.Optionals.{bits_counted}
 use Rattle.per_pieces.specs.Turns.{awaits, is_complete}
-use Rattle.per_enc.proofs.Around.{addition_closed}
-use Rattle.per_enc.proofs.Given.{family_closed, required_counted, shapes_counted}
-use Rattle.per_enc.proofs.Inside.{value_inside}
+use Rattle.per_enc.proofs.AroundSets.{addition_closed}
+use Rattle.per_enc.proofs.GivenAdditions.{family_closed, required_counted, shapes_counted}
+use Rattle.per_enc.proofs.NoOpenSet.{value_inside}
 use Rattle.per_enc.proofs.Noting.{behaves_begun}
 use Rattle.per_enc.proofs.Turns.{addition_untimely, behaves_unclosed, not_unclosed, unclosed_untimely, unfailed_in_addition}
 use Rattle.per_enc.proofs.EncoderEncoder.close_group.Goals as goal

@@ -1,7 +1,7 @@
 use Rattle.std.proofs.Common.{refl, sym, ◌≡◌, ◌∙◌, true, false}
 use Rattle.std.proofs.lemmas.Result.{err_from_is_err_and}
 use Rattle.per_enc.specs.Rules.{noting}
-use Rattle.per_enc.proofs.Around.{element_awaited}
+use Rattle.per_enc.proofs.AroundSets.{element_awaited}
 use Rattle.per_enc.proofs.Noting.{behaves_begun}
 use Rattle.per_enc.proofs.EncoderEncoder.next_element_in_turn.Goals as goal
 

@@ -1,7 +1,7 @@
 use Rattle.std.proofs.Common.{inl, inr, refl, Ok}
 use Rattle.std.proofs.lemmas.Result.{err_from_is_err_and}
-use Rattle.per_enc.proofs.Around.{addition_opened}
-use Rattle.per_enc.proofs.Given.{opened}
+use Rattle.per_enc.proofs.AroundSets.{addition_opened}
+use Rattle.per_enc.proofs.GivenAdditions.{opened}
 use Rattle.per_enc.proofs.Noting.{behaves_begun}
 use Rattle.per_enc.proofs.EncoderEncoder.open_addition.Goals as goal
 

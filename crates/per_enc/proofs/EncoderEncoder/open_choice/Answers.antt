@@ -6,7 +6,7 @@ use Rattle.rasn_traits.specs.Choices.{OpenedChoice}
 use Rattle.per_write.specs.Components.{Encoding}
 use Rattle.per_write.specs.Rules.{encoder_rules}
 use Rattle.per_enc.specs.AlternativeCounts.{OpensChoice}
-use Rattle.per_enc.proofs.Around.{choice_opened}
+use Rattle.per_enc.proofs.AroundSets.{choice_opened}
 use Rattle.per_enc.proofs.ChoiceScopes.{added_counted, opens_choice}
 use Rattle.per_enc.proofs.Noting.{behaves_begun, behaves_refused, noting_codec}
 use Rattle.per_enc.proofs.Presenting.{refuses_again}

@@ -1,8 +1,8 @@
 use Rattle.std.proofs.Common.{ap, inl, inr, ◌∙◌, length}
 use Rattle.std.proofs.lemmas.Result.{err_from_is_err_and}
 use Rattle.per_write.specs.Components.{Encoding}
-use Rattle.per_enc.specs.Records.{behind_marker}
-use Rattle.per_enc.proofs.Given.{shapes_counted}
+use Rattle.per_enc.specs.Records.{after_marker}
+use Rattle.per_enc.proofs.GivenAdditions.{shapes_counted}
 use Rattle.per_enc.proofs.Noting.{behaves_begun, behaves_refused, noting_codec}
 use Rattle.per_enc.proofs.Presenting.{refuses_again}
 use Rattle.per_enc.proofs.SetCalls.{fields_counted, set_opened}
@@ -14,7 +14,7 @@ returns g c =
     let m = c.self.view_is ∙ c.in_ok-outer.ensures.inside in
     record {
       law = set_opened C.parts C.IS_EXTENSIBLE C.additions c.args.self.now _ c.open_record.new.self c.open_components.new.self c.in_ok-scope.scope c.in_ok-outer.outer c.in_ok-set.set c.len.result c.addition_count.result m c.in_ok-outer.ensures.waits c.in_ok-scope.ensures
-          (λ n. c.addition_count.ensures ∙ ap (behind_marker C.IS_EXTENSIBLE) (ap length (C.extends.described n) ∙ shapes_counted 0 (C.additions n)))
+          (λ n. c.addition_count.ensures ∙ ap (after_marker C.IS_EXTENSIBLE) (ap length (C.extends.described n) ∙ shapes_counted 0 (C.additions n)))
           c.in_ok-set.ensures (λ n. c.len.ensures ∙ ap length (c.FIELDS.ensures ∙ C.described n) ∙ fields_counted 0 (C.parts n)) C.extends.marked;
       behaves = behaves_begun c.in_ok-outer.ensures.ok tt (c.in_ok-set.ensures.kept ∙ c.in_ok-scope.ensures.kept ∙ ap (λ (z : Encoding). z.writer.codec) m ∙ noting_codec c.args.self.now);
     }

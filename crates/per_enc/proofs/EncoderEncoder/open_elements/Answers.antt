@@ -5,7 +5,7 @@ use Rattle.rasn_traits.specs.Lists.{ListOpened}
 use Rattle.per_write.specs.Components.{Encoding}
 use Rattle.per_write.specs.Lists.{IsOpenList}
 use Rattle.per_write.specs.Rules.{encoder_rules}
-use Rattle.per_enc.proofs.Around.{list_opened, list_refused}
+use Rattle.per_enc.proofs.AroundSets.{list_opened, list_refused}
 use Rattle.per_enc.proofs.Noting.{behaves_begun, behaves_refused, noting_codec}
 use Rattle.per_enc.proofs.Presenting.{refuses_again}
 use Rattle.per_enc.proofs.EncoderEncoder.open_elements.Goals as goal

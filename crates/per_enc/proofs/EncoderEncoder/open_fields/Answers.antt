@@ -8,9 +8,9 @@ use Rattle.rasn_traits.proofs.Optionals.{bits_counted}
 use Rattle.per_write.specs.Components.{Encoding}
 use Rattle.per_write.specs.Rules.{encoder_rules}
 use Rattle.per_pieces.specs.Turns.{uncounted}
-use Rattle.per_enc.specs.Records.{behind_marker, Opens}
-use Rattle.per_enc.proofs.Around.{sequence_opened}
-use Rattle.per_enc.proofs.Given.{shapes_counted}
+use Rattle.per_enc.specs.Records.{after_marker, Opens}
+use Rattle.per_enc.proofs.AroundSets.{sequence_opened}
+use Rattle.per_enc.proofs.GivenAdditions.{shapes_counted}
 use Rattle.per_enc.proofs.Noting.{behaves_begun, behaves_refused, noting_codec}
 use Rattle.per_enc.proofs.Presenting.{refuses_again}
 use Rattle.per_enc.proofs.Records.{opens_record}
@@ -25,7 +25,7 @@ returns g c =
           (subst (λ (z : Encoding). OpenedToWrite encoder_rules Opens listed C.parts C.IS_EXTENSIBLE C.additions z.writer (Ok c.in_ok-fields.fields) c.open_record.new.self) m
           (opens_record C.parts C.IS_EXTENSIBLE C.additions _ _ c.self.inside.writer _ (Ok c.in_ok-fields.fields)
           (λ n. c.number_of_optional_and_default_fields-optional.ensures ∙ ap (count_by may_be_absent) (c.FIELDS.ensures ∙ C.described n) ∙ bits_counted 0 (C.parts n))
-          (λ n. c.addition_count.ensures ∙ ap (behind_marker C.IS_EXTENSIBLE) (ap length (C.extends.described n) ∙ shapes_counted 0 (C.additions n))) C.extends.marked c.in_ok-fields.ensures));
+          (λ n. c.addition_count.ensures ∙ ap (after_marker C.IS_EXTENSIBLE) (ap length (C.extends.described n) ∙ shapes_counted 0 (C.additions n))) C.extends.marked c.in_ok-fields.ensures));
       behaves = behaves_begun c.in_ok-set.ensures.ok tt (c.in_ok-fields.ensures.kept ∙ ap (λ (z : Encoding). z.writer.codec) m ∙ noting_codec c.args.self.now);
     }
 

@@ -5,7 +5,7 @@ use Rattle.rasn_traits.specs.Lists.{ListOpened}
 use Rattle.per_write.specs.Components.{Encoding}
 use Rattle.per_write.specs.Lists.{IsOpenList}
 use Rattle.per_write.specs.Rules.{encoder_rules}
-use Rattle.per_write.specs.State.{State}
+use Rattle.per_write.specs.WriterState.{WriterState}
 use Rattle.per_enc.specs.Rules.{noting}
 use Rattle.per_enc.specs.Scopes.{closed_off}
 use Rattle.per_enc.proofs.ListsInTurn.{list_awaits, list_opened, list_refused}
@@ -17,12 +17,12 @@ pub returns : goal.returns
 returns g c =
     let m = c.self.view_is ∙ c.in_ok-set.ensures.inside in
     let off : c.enter_alternative-scope.new.self ≡ closed_off (noting c.args.self.now).writer = c.enter_alternative-scope.ensures.inside ∙ ap (λ (z : Encoding). closed_off z.writer) m in
-    let h = subst (λ (z : State). ListOpened encoder_rules IsOpenList (size_of c.args.constraints.now) (is_size_marked c.args.constraints.now) c.args.count z (Ok c.in_ok-rest.rest) c.open_list.new.writer) off c.in_ok-rest.ensures.law in
+    let h = subst (λ (z : WriterState). ListOpened encoder_rules IsOpenList (size_of c.args.constraints.now) (is_size_marked c.args.constraints.now) c.args.count z (Ok c.in_ok-rest.rest) c.open_list.new.writer) off c.in_ok-rest.ensures.law in
     record {
       opens = record {
         law = list_opened (size_of c.args.constraints.now) (is_size_marked c.args.constraints.now) c.args.count c.args.self.now (record { writer = c.open_list.new.writer; set = c.in_list.result }) c.in_ok-rest.rest c.enter_alternative-scope.result c.in_ok-set.set
             (c.enter_alternative-scope.ensures.waits ∙ ap (λ (z : Encoding). z.writer.scope) m) c.in_ok-set.ensures.waits c.in_list.ensures h;
-        behaves = behaves_begun c.in_ok-set.ensures.ok tt (c.in_ok-rest.ensures.behaves.kept ∙ ap (λ (z : State). z.codec) off ∙ noting_codec c.args.self.now);
+        behaves = behaves_begun c.in_ok-set.ensures.ok tt (c.in_ok-rest.ensures.behaves.kept ∙ ap (λ (z : WriterState). z.codec) off ∙ noting_codec c.args.self.now);
       };
       counts = list_awaits (size_of c.args.constraints.now) (is_size_marked c.args.constraints.now) c.args.count (noting c.args.self.now).writer (record { writer = c.open_list.new.writer; set = c.in_list.result }) c.in_ok-rest.rest h c.in_list.ensures;
     }
@@ -46,8 +46,8 @@ returns-in_err-rest g c =
     rw (p.1, p.2) (record {
       opens = record {
         law = list_refused (size_of c.args.constraints.now) (is_size_marked c.args.constraints.now) c.args.count c.args.self.now _ c.open_list.new.writer (record { writer = c.open_list.new.writer; set = c.self.inside.set })
-            (subst (λ (z : State). ListOpened encoder_rules IsOpenList (size_of c.args.constraints.now) (is_size_marked c.args.constraints.now) c.args.count z (Err c.in_err-rest.field-0.0) c.open_list.new.writer) off c.in_err-rest.ensures.law);
-        behaves = behaves_begun c.in_ok-set.ensures.ok c.in_err-rest.ensures.behaves.fails (c.in_err-rest.ensures.behaves.kept ∙ ap (λ (z : State). z.codec) off ∙ noting_codec c.args.self.now);
+            (subst (λ (z : WriterState). ListOpened encoder_rules IsOpenList (size_of c.args.constraints.now) (is_size_marked c.args.constraints.now) c.args.count z (Err c.in_err-rest.field-0.0) c.open_list.new.writer) off c.in_err-rest.ensures.law);
+        behaves = behaves_begun c.in_ok-set.ensures.ok c.in_err-rest.ensures.behaves.fails (c.in_err-rest.ensures.behaves.kept ∙ ap (λ (z : WriterState). z.codec) off ∙ noting_codec c.args.self.now);
       };
       counts = tt;
     })

@@ -5,7 +5,7 @@ use Rattle.rasn_traits.specs.Bags.{BagOpened}
 use Rattle.per_write.specs.Components.{Encoding}
 use Rattle.per_enc.specs.Bags.{IsOpenBag}
 use Rattle.per_write.specs.Rules.{encoder_rules}
-use Rattle.per_enc.proofs.Around.{bag_opened, bag_refused}
+use Rattle.per_enc.proofs.AroundSets.{bag_opened, bag_refused}
 use Rattle.per_enc.proofs.Noting.{behaves_begun, behaves_refused, noting_codec}
 use Rattle.per_enc.proofs.Presenting.{refuses_again}
 use Rattle.per_enc.proofs.EncoderEncoder.open_members.Goals as goal

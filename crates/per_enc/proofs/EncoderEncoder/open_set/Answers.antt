@@ -10,9 +10,9 @@ use Rattle.rasn_traits.proofs.Optionals.{bits_counted}
 use Rattle.per_write.specs.Components.{Encoding}
 use Rattle.per_write.specs.Rules.{encoder_rules}
 use Rattle.per_pieces.specs.Turns.{awaits, counts}
-use Rattle.per_enc.specs.Records.{behind_marker, Opens}
-use Rattle.per_enc.proofs.Around.{sequence_opened}
-use Rattle.per_enc.proofs.Given.{shapes_counted}
+use Rattle.per_enc.specs.Records.{after_marker, Opens}
+use Rattle.per_enc.proofs.AroundSets.{sequence_opened}
+use Rattle.per_enc.proofs.GivenAdditions.{shapes_counted}
 use Rattle.per_enc.proofs.Noting.{behaves_begun, behaves_refused, noting_codec}
 use Rattle.per_enc.proofs.Presenting.{refuses_again}
 use Rattle.per_enc.proofs.Records.{opens_record}
@@ -28,7 +28,7 @@ returns g c =
           (subst (λ (z : Encoding). OpenedToWrite encoder_rules Opens listed (canonised_at C.parts) C.IS_EXTENSIBLE C.additions z.writer (Ok c.in_ok-scope.scope) c.open_record.new.self) m
           (opens_record (canonised_at C.parts) C.IS_EXTENSIBLE C.additions _ _ c.self.inside.writer _ (Ok c.in_ok-scope.scope)
           (λ n. c.number_of_optional_and_default_fields-bits.ensures ∙ ap (count_by may_be_absent) (c.FIELDS-fields.ensures ∙ C.described n) ∙ bits_counted 0 (C.parts n) ∙ sym (bits_ordered (C.parts n)))
-          (λ n. c.addition_count-added.ensures ∙ ap (behind_marker C.IS_EXTENSIBLE) (ap length (C.extends.described n) ∙ shapes_counted 0 (C.additions n))) C.extends.marked c.in_ok-scope.ensures));
+          (λ n. c.addition_count-added.ensures ∙ ap (after_marker C.IS_EXTENSIBLE) (ap length (C.extends.described n) ∙ shapes_counted 0 (C.additions n))) C.extends.marked c.in_ok-scope.ensures));
       behaves = behaves_begun c.in_ok-set.ensures.ok tt (c.in_ok-scope.ensures.kept ∙ ap (λ (z : Encoding). z.writer.codec) m ∙ noting_codec c.args.self.now);
     }
 

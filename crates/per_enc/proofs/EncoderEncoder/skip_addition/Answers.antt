@@ -1,7 +1,7 @@
 use Rattle.std.proofs.Common.{inr, refl}
 use Rattle.std.proofs.lemmas.Result.{err_from_is_err_and}
-use Rattle.per_enc.proofs.Around.{addition_skipped}
-use Rattle.per_enc.proofs.Given.{skipped}
+use Rattle.per_enc.proofs.AroundSets.{addition_skipped}
+use Rattle.per_enc.proofs.GivenAdditions.{skipped}
 use Rattle.per_enc.proofs.Noting.{behaves_begun}
 use Rattle.per_enc.proofs.EncoderEncoder.skip_addition.Goals as goal
 

@@ -5,7 +5,7 @@ use Rattle.per_core.specs.Counts.{open_bits, small}
 use Rattle.per_core.specs.Writers.{just, ◌▹◌}
 use Rattle.per_pieces.specs.Pieces.{placed_bits}
 use Rattle.per_write.specs.Faults.{IsMemory}
-use Rattle.per_write.specs.State.{Puts, StateAppends}
+use Rattle.per_write.specs.WriterState.{Puts, StateAppends}
 use Rattle.per_enc.proofs.Placing.{two_put}
 use Rattle.per_enc.proofs.choices.put_added_alternative.Goals as goal
 

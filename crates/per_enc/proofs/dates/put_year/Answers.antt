@@ -4,7 +4,7 @@ use Rattle.std.proofs.lemmas.Result.{on_ok_weaker}
 use Rattle.rasn_types.specs.Variants.{variant_of}
 use Rattle.per_core.specs.Writers.{Writer}
 use Rattle.per_write.specs.Faults.{IsMemory}
-use Rattle.per_write.specs.State.{Puts, StateAppends}
+use Rattle.per_write.specs.WriterState.{Puts, StateAppends}
 use Rattle.per_enc.proofs.DatesWritten.{in_first, in_second, in_third, in_none, wrote_number}
 use Rattle.per_enc.proofs.dates.put_year.Goals as goal
 

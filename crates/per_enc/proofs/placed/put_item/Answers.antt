@@ -2,7 +2,7 @@ use Rattle.std.proofs.Common.{subst}
 use Rattle.rasn_types.specs.Variants.{variant_of}
 use Rattle.per_core.specs.Writers.{Writer}
 use Rattle.per_write.specs.Faults.{IsMemory}
-use Rattle.per_write.specs.State.{Puts}
+use Rattle.per_write.specs.WriterState.{Puts}
 use Rattle.per_enc.proofs.AtPlaces.{item_front}
 use Rattle.per_enc.proofs.placed.put_item.Goals as goal
 

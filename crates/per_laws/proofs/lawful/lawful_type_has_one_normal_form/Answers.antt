@@ -1,5 +1,5 @@
 use Rattle.per_laws.proofs.lawful.lawful_type_has_one_normal_form.Goals as goal
-use Rattle.per_laws.proofs.Given
+use Rattle.per_laws.proofs.LawfulTrees
 
 pub returns : goal.returns
-returns c = Given.one_normal_form
+returns c = LawfulTrees.one_normal_form

@@ -1,5 +1,5 @@
 use Rattle.per_laws.proofs.lawful.lawful_type_is_newer_than_itself.Goals as goal
-use Rattle.per_laws.proofs.Itself
+use Rattle.per_laws.proofs.VersionOfItself
 
 pub returns : goal.returns
-returns c = Itself.newer_than_itself
+returns c = VersionOfItself.newer_than_itself

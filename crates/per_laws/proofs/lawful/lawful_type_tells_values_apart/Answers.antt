@@ -1,5 +1,5 @@
 use Rattle.per_laws.proofs.lawful.lawful_type_tells_values_apart.Goals as goal
-use Rattle.per_laws.proofs.Given
+use Rattle.per_laws.proofs.LawfulTrees
 
 pub returns : goal.returns
-returns c = Given.told_apart
+returns c = LawfulTrees.told_apart

@@ -1,5 +1,5 @@
 use Rattle.per_laws.proofs.lawful.lawful_types_are_versions_where_one_succeeds_the_other.Goals as goal
-use Rattle.per_laws.proofs.Itself.{newer_than_itself}
+use Rattle.per_laws.proofs.VersionOfItself.{newer_than_itself}
 use Rattle.per_laws.proofs.Successors.{successors_are_newer}
 
 pub returns : goal.returns

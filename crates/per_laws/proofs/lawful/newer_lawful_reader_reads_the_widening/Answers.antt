@@ -1,5 +1,5 @@
 use Rattle.per_laws.proofs.lawful.newer_lawful_reader_reads_the_widening.Goals as goal
-use Rattle.per_laws.proofs.Given
+use Rattle.per_laws.proofs.LawfulTrees
 
 pub returns : goal.returns
-returns c = Given.newer_reader_reads
+returns c = LawfulTrees.newer_reader_reads

@@ -1,5 +1,5 @@
 use Rattle.per_laws.proofs.lawful.newer_lawful_type_reads.Goals as goal
-use Rattle.per_laws.proofs.Given
+use Rattle.per_laws.proofs.LawfulTrees
 
 pub returns : goal.returns
-returns c = Given.newer_reads
+returns c = LawfulTrees.newer_reads

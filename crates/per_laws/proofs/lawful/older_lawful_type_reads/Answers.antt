@@ -1,5 +1,5 @@
 use Rattle.per_laws.proofs.lawful.older_lawful_type_reads.Goals as goal
-use Rattle.per_laws.proofs.Given
+use Rattle.per_laws.proofs.LawfulTrees
 
 pub returns : goal.returns
-returns c = Given.older_reads
+returns c = LawfulTrees.older_reads

@@ -1,5 +1,5 @@
 use Rattle.per_laws.proofs.levels.deep_family_unfolds.Goals as goal
-use Rattle.per_laws.proofs.Deeply
+use Rattle.per_laws.proofs.ShallowValues
 
 pub returns : goal.returns
-returns c = Deeply.deep_family_unfolds
+returns c = ShallowValues.deep_family_unfolds

@@ -1,5 +1,5 @@
 use Rattle.per_laws.proofs.levels.deeper_is_deep.Goals as goal
-use Rattle.per_laws.proofs.Deeply
+use Rattle.per_laws.proofs.ShallowValues
 
 pub returns : goal.returns
-returns c = Deeply.deeper_is_deep
+returns c = ShallowValues.deeper_is_deep

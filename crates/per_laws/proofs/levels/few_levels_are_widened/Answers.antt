@@ -1,5 +1,5 @@
 use Rattle.per_laws.proofs.levels.few_levels_are_widened.Goals as goal
-use Rattle.per_laws.proofs.FewVersions
+use Rattle.per_laws.proofs.VersionsAt128Levels
 
 pub returns : goal.returns
-returns c = FewVersions.few_levels_are_widened
+returns c = VersionsAt128Levels.few_levels_are_widened

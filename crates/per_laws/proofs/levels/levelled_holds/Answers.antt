@@ -1,5 +1,5 @@
 use Rattle.per_laws.proofs.levels.levelled_holds.Goals as goal
-use Rattle.per_laws.proofs.FewVersions
+use Rattle.per_laws.proofs.VersionsAt128Levels
 
 pub returns : goal.returns
-returns c = FewVersions.levelled_holds
+returns c = VersionsAt128Levels.levelled_holds

@@ -1,5 +1,5 @@
 use Rattle.per_laws.proofs.levels.meets_no_cut.Goals as goal
-use Rattle.per_laws.proofs.Deeply
+use Rattle.per_laws.proofs.ShallowValues
 
 pub returns : goal.returns
-returns c = Deeply.meets_no_cut
+returns c = ShallowValues.meets_no_cut

@@ -3,7 +3,7 @@ use Rattle.std.proofs.lemmas.Iterator.{YieldsList-from_slice}
 use Rattle.std.proofs.lemmas.Iterator.Search.{all_from_yields_List}
 use borrow.Author.Tests.{tests}
 use Rattle.rasn_dynamic.specs.declared.types.Kind.{Kind}
-use Rattle.rasn_dynamic_jer.specs.Apart.{is_kind_apart}
+use Rattle.rasn_dynamic_jer.specs.DistinctNames.{is_kind_apart}
 use Rattle.per_messages.proofs.apart.are_kinds_apart.Goals as goal
 
 pub returns : goal.returns

@@ -3,7 +3,7 @@ use Rattle.std.proofs.lemmas.Iterator.{YieldsList-from_slice}
 use Rattle.std.proofs.lemmas.Iterator.Search.{all_from_yields_List}
 use borrow.Author.Tests.{tests}
 use Rattle.rasn_dynamic.specs.declared.types.Row.{Row}
-use Rattle.rasn_dynamic_jer.specs.Apart.{is_row_apart}
+use Rattle.rasn_dynamic_jer.specs.DistinctNames.{is_row_apart}
 use Rattle.per_messages.proofs.apart.are_rows_apart.Goals as goal
 
 pub returns : goal.returns

@@ -1,5 +1,5 @@
 use Rattle.std.proofs.lemmas.Result.{err_from_is_err_and}
-use Rattle.per_messages.proofs.First.{is_first, shorter}
+use Rattle.per_messages.proofs.FrontOctets.{is_first, shorter}
 use Rattle.per_messages.proofs.Refused.{without_first}
 use Rattle.per_messages.proofs.calls.first_length.Goals as goal
 

@@ -1,6 +1,6 @@
 use Rattle.std.proofs.Common.{◌∙◌, ap, sym}
 use Rattle.per_pieces.specs.Pieces.{Pieces, bits_of}
-use Rattle.per_pieces.specs.Places.{places_of}
+use Rattle.per_pieces.specs.MarkPositions.{places_of}
 use Rattle.per_pieces.proofs.Marking.{bits_of_marked}
 use Rattle.per_pieces.proofs.Pieces.bits.Goals as goal
 

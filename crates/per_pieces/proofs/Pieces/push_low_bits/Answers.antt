@@ -2,7 +2,7 @@ use Rattle.std.proofs.Common.{◌∙◌, ap}
 use Rattle.std.proofs.lemmas.Result.{on_ok_weaker}
 use Rattle.per_bits.specs.Octets.{low_bits_of}
 use Rattle.per_pieces.specs.Pieces.{Pieces, with_bits}
-use Rattle.per_pieces.specs.Places.{places_of}
+use Rattle.per_pieces.specs.MarkPositions.{places_of}
 use Rattle.per_pieces.proofs.Marking.{grown, pieces_bits}
 use Rattle.per_pieces.proofs.Placed.{appends_bits}
 use Rattle.per_pieces.proofs.Pieces.push_low_bits.Goals as goal

@@ -1,13 +1,7 @@
-use Rattle.std.proofs.Common.{arith}
-use Rattle.per_pieces.proofs.Zeros.{more_zeros, no_zeros}
+use Rattle.std.proofs.Common.{◌∙◌, ℕ, ap, sym, false, replicate}
+use Rattle.per_pieces.specs.Pieces.{with_bits}
+use Rattle.per_pieces.proofs.Zeros.{with_none}
 use Rattle.per_pieces.proofs.Pieces.push_zeros.Goals as goal
 
-pub loop-left-init : goal.loop-left-init
-loop-left-init g c = record { written = no_zeros c.args.self.now c.args.count; within = omega arith }
-
-pub loop-left-preserved : goal.loop-left-preserved
-loop-left-preserved g c = record {
-  written = more_zeros c.args.self.now c.loop-left.self c.push_bits.new.self c.args.count c.loop-left.left c.min-width.result c.loop-left.invariant.within (omega (arith, c.min-width.ensures))
-      c.loop-left.invariant.written c.in_ok-push_bits.ensures.ok;
-  within = omega arith;
-}
+pub returns-then-count-eq0 : goal.returns-then-count-eq0
+returns-then-count-eq0 g c = with_none c.args.self.now ∙ ap (λ (n : ℕ). with_bits c.args.self.now (replicate n false)) (sym c.if-count-eq0.true)

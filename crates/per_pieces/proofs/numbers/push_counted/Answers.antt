@@ -1,12 +1,12 @@
 use Rattle.std.proofs.Common.{arith}
 use Rattle.std.proofs.lemmas.Result.{on_ok_weaker}
 use Rattle.rasn_types.specs.Variants.{variant_of}
-use Rattle.per_pieces.proofs.FewOctets.{appends_field, appends_octets}
+use Rattle.per_pieces.proofs.CountedOctets.{appends_field, appends_octets}
 use Rattle.per_pieces.proofs.numbers.push_counted.Goals as goal
 
 pub returns-then-octets-le6 : goal.returns-then-octets-le6
 returns-then-octets-le6 g c =
-    on_ok_weaker _ (appends_field (variant_of c.args.codec) _ _ _ c.args.octets c.args.number c.behind_count.result (omega arith) c.in_ok-push_padding.ensures c.behind_count.ensures)
+    on_ok_weaker _ (appends_field (variant_of c.args.codec) _ _ _ c.args.octets c.args.number c.after_count.result (omega arith) c.in_ok-push_padding.ensures c.after_count.ensures)
     c.push_bits.ensures.ok
 
 pub returns : goal.returns

@@ -1,8 +1,8 @@
 use Rattle.std.proofs.Common.{◌∙◌, arith, refl, sym}
 use Rattle.per_read.specs.Lists.{list_rule}
-use Rattle.per_read.specs.State.{settings_of}
+use Rattle.per_read.specs.ReaderState.{settings_of}
 use Rattle.per_read.proofs.Calls.{errs}
-use Rattle.per_read.proofs.Parts.{small_length}
+use Rattle.per_read.proofs.FragmentItems.{small_length}
 use Rattle.per_read.proofs.OpenLists.{amid_fragment, empty_length, none_length, says_length}
 use Rattle.per_read.proofs.Reader.begin_fragment.Goals as goal
 

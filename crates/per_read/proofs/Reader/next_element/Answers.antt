@@ -1,7 +1,7 @@
 use Rattle.std.proofs.Common.{◌≡◌, ◌<◌, ◌≤◌, ◌^◌, ◌+◌, inr, refl, suc, arith}
 use Rattle.per_core.proofs.Readings.{one_reading}
 use Rattle.per_read.specs.Lists.{list_rule}
-use Rattle.per_read.specs.State.{settings_of}
+use Rattle.per_read.specs.ReaderState.{settings_of}
 use Rattle.per_read.proofs.Calls.{errs}
 use Rattle.per_read.proofs.OpenLists.{amid_item, list_ends, list_miscounted, none_uncounted, uncounted}
 use Rattle.per_read.proofs.Reader.next_element.Goals as goal

@@ -1,7 +1,7 @@
 use Rattle.std.proofs.Common.{◌∙◌, refl, sym}
 use Rattle.rasn_constraints.specs.Constraints.{start_of, end_of}
 use Rattle.per_core.specs.Basic.{basic}
-use Rattle.per_read.specs.State.{settings_of}
+use Rattle.per_read.specs.ReaderState.{settings_of}
 use Rattle.per_read.proofs.Calls.{errs}
 use Rattle.per_read.proofs.OfLists.{of_list_count}
 use Rattle.per_read.proofs.Openings.{amid_counted, amid_free, leaves_all, none_counted}

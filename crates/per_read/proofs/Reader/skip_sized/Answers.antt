@@ -2,7 +2,7 @@ use Rattle.std.proofs.Common.{◌∙◌, ◌≡◌, ◌<◌, ◌^◌, arith, sym
 use Rattle.rasn_constraints.specs.Bounds.{allows}
 use Rattle.rasn_constraints.specs.Constraints.{start_of, end_of, size_between}
 use Rattle.per_core.specs.declared.items.Item.TheVariants.{Octet}
-use Rattle.per_read.specs.State.{settings_of}
+use Rattle.per_read.specs.ReaderState.{settings_of}
 use Rattle.per_read.proofs.Calls.{answers}
 use Rattle.per_read.proofs.Miscounts.{sized_ok}
 use Rattle.per_read.proofs.ShortOctets.{counted, none_below, none_sized_below, other_count, uncounted}

@@ -4,7 +4,7 @@ use Rattle.per_core.specs.Basic.{octet}
 use Rattle.per_core.specs.Counts.{octet_items}
 use Rattle.per_core.specs.Spellings.{When}
 use Rattle.per_core.proofs.ConstrainedLengths.{constrained_is, free_is}
-use Rattle.per_read.specs.State.{settings_of}
+use Rattle.per_read.specs.ReaderState.{settings_of}
 use Rattle.per_read.proofs.ShortOctets.{none_below}
 use Rattle.per_read.proofs.SizeForms.{none_as, under_constrained, under_free}
 use Rattle.per_read.proofs.Reader.skip_under_size.Goals as goal

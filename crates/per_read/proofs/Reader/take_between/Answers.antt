@@ -1,7 +1,7 @@
 use Rattle.std.proofs.lemmas.Int.{to_z-of_z}
-use Rattle.per_read.specs.State.{settings_of}
+use Rattle.per_read.specs.ReaderState.{settings_of}
 use Rattle.per_read.proofs.Calls.{answers, passes_on}
-use Rattle.per_read.proofs.Under.{above_took, between_took}
+use Rattle.per_read.proofs.NumbersUnderBounds.{above_took, between_took}
 use Rattle.per_read.proofs.OfFields.{as_many}
 use Rattle.per_read.proofs.Reader.take_between.Goals as goal
 

@@ -6,12 +6,12 @@ use Rattle.per_core.specs.Basic.{Counted, bit}
 use Rattle.per_core.specs.Counts.{bit_items}
 use Rattle.per_core.specs.Spellings.{Took}
 use Rattle.per_read.specs.Items.{bit_code}
-use Rattle.per_read.specs.State.{settings_of}
+use Rattle.per_read.specs.ReaderState.{settings_of}
 use Rattle.per_read.proofs.Calls.{answers, passes_on}
 use Rattle.per_read.proofs.Refusals.{faulty_map}
 use Rattle.per_read.proofs.Coded.{bits_took, none_of_bits}
 use Rattle.per_read.proofs.OneByOne.{bits_counted}
-use Rattle.per_read.proofs.Parts.{are_gathered}
+use Rattle.per_read.proofs.FragmentItems.{are_gathered}
 use Rattle.per_read.proofs.Reader.take_bit_string.Goals as goal
 
 pub returns-in_err-count : goal.returns-in_err-count

@@ -1,5 +1,5 @@
 use Rattle.std.proofs.Common.{◌+◌, ◌-◌, arith, sym}
-use Rattle.per_read.specs.State.{settings_of}
+use Rattle.per_read.specs.ReaderState.{settings_of}
 use Rattle.per_read.proofs.Calls.{answers, passes_on}
 use Rattle.per_read.proofs.SizeForms.{few_codes, few_counted, recoded, count_from, no_code_from}
 use Rattle.per_read.proofs.OfFields.{as_many}

@@ -4,7 +4,7 @@ use Rattle.per_core.specs.Spellings.{Settings, Took}
 use Rattle.rasn_types.specs.Bits.{Bits}
 use Rattle.per_core.specs.Lengths.{coded}
 use Rattle.per_core.specs.SizeFaults.{IsOfPaddingIf}
-use Rattle.per_read.specs.State.{settings_of}
+use Rattle.per_read.specs.ReaderState.{settings_of}
 use Rattle.per_core.specs.declared.decode_error.DecodeErrorKind.{DecodeErrorKind}
 use Rattle.per_read.proofs.Calls.{answers_items, passes_on_items}
 use Rattle.per_core.specs.Basic.{PaddingIf}

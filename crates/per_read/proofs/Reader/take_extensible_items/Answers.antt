@@ -1,5 +1,5 @@
 use Rattle.rasn_constraints.specs.Constraints.{size_between}
-use Rattle.per_read.specs.State.{settings_of}
+use Rattle.per_read.specs.ReaderState.{settings_of}
 use Rattle.per_read.proofs.Calls.{takes_last_items, passes_on_items, begins, ended}
 use Rattle.per_read.proofs.Miscounts.{no_bit, in_size, past_size, faulty_in, faulty_past}
 use Rattle.per_read.proofs.Reader.take_extensible_items.Goals as goal

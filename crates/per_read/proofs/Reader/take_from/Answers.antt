@@ -1,9 +1,9 @@
 use Rattle.std.proofs.lemmas.Int.{to_z-of_z}
-use Rattle.per_read.specs.State.{settings_of}
+use Rattle.per_read.specs.ReaderState.{settings_of}
 use Rattle.per_read.proofs.Calls.{answers, passes_on}
 use Rattle.per_read.proofs.Fields.{when_took}
 use Rattle.per_read.proofs.Refusals.{faulty_map}
-use Rattle.per_read.proofs.Under.{far_from, from_took}
+use Rattle.per_read.proofs.NumbersUnderBounds.{far_from, from_took}
 use Rattle.per_read.proofs.Reader.take_from.Goals as goal
 
 pub returns-in_err-offset : goal.returns-in_err-offset

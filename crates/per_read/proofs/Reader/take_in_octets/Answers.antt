@@ -1,5 +1,5 @@
 use Rattle.std.proofs.Common.{◌+◌, inl, inr}
-use Rattle.per_read.specs.State.{settings_of}
+use Rattle.per_read.specs.ReaderState.{settings_of}
 use Rattle.per_read.proofs.Calls.{takes_last, passes_on, too_short}
 use Rattle.per_read.proofs.Forms.{counted, no_count, no_counted}
 use Rattle.per_read.proofs.Reader.take_in_octets.Goals as goal

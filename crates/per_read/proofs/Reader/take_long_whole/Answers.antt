@@ -1,12 +1,12 @@
 use Rattle.std.proofs.Common.{◌≡◌, ◌<◌, inr, sym, arith, length}
 use Rattle.std.proofs.lemmas.Bool.Decides.{nat_tests}
-use Rattle.per_read.specs.State.{settings_of}
+use Rattle.per_read.specs.ReaderState.{settings_of}
 use Rattle.per_read.proofs.Calls.{answers, refuses, passes_on}
 use Rattle.per_read.proofs.OneByOne.{no_more}
 use Rattle.per_read.proofs.OfFields.{of_octets}
 use Rattle.per_read.proofs.Refusals.{faulty_map}
 use Rattle.per_read.proofs.Unbounded.{none_there}
-use Rattle.per_read.proofs.Under.{no_length_no_whole, no_octets_no_whole, octets_whole}
+use Rattle.per_read.proofs.NumbersUnderBounds.{no_length_no_whole, no_octets_no_whole, octets_whole}
 use Rattle.per_read.proofs.Reader.take_long_whole.Goals as goal
 
 pub returns-in_err-octets : goal.returns-in_err-octets

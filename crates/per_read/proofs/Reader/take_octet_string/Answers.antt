@@ -3,9 +3,9 @@ use Rattle.rasn_schema.specs.Forms.{size_of, is_size_marked}
 use Rattle.per_core.specs.Basic.{Counted, octet}
 use Rattle.per_core.specs.Counts.{octet_items}
 use Rattle.per_core.specs.Spellings.{Took}
-use Rattle.per_read.specs.State.{settings_of}
+use Rattle.per_read.specs.ReaderState.{settings_of}
 use Rattle.per_read.proofs.Calls.{answers, passes_on}
-use Rattle.per_read.proofs.Parts.{are_gathered}
+use Rattle.per_read.proofs.FragmentItems.{are_gathered}
 use Rattle.per_read.proofs.Reader.take_octet_string.Goals as goal
 
 pub returns-in_err-take_items : goal.returns-in_err-take_items

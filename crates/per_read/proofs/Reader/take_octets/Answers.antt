@@ -1,9 +1,9 @@
 use Rattle.std.proofs.Common.{sym, subst}
 use Rattle.per_core.specs.Basic.{Octets}
 use Rattle.per_core.specs.Spellings.{Took}
-use Rattle.per_read.specs.State.{settings_of}
+use Rattle.per_read.specs.ReaderState.{settings_of}
 use Rattle.per_read.proofs.Calls.{answers, passes_on}
-use Rattle.per_read.proofs.Parts.{are_gathered}
+use Rattle.per_read.proofs.FragmentItems.{are_gathered}
 use Rattle.per_read.proofs.Reader.take_octets.Goals as goal
 
 pub returns-in_err-take_unconstrained_items : goal.returns-in_err-take_unconstrained_items

@@ -1,6 +1,6 @@
 use Rattle.std.proofs.Common.{inl, inr}
-use Rattle.per_core.specs.Spellings.{Field}
-use Rattle.per_core.proofs.Took.{took_then}
+use Rattle.per_core.specs.Spellings.{BitField}
+use Rattle.per_core.proofs.TakenInTurn.{took_then}
 use Rattle.per_read.proofs.Calls.{passes_on, takes_last, too_short}
 use Rattle.per_read.proofs.Forms.{no_padded}
 use Rattle.per_read.proofs.Padding.{no_padding}
@@ -9,7 +9,7 @@ use Rattle.per_read.proofs.Reader.take_on_octet.Goals as goal
 pub returns-in_err-take_padding : goal.returns-in_err-take_padding
 returns-in_err-take_padding c =
     let h = c.in_err-take_padding.ensures in
-    passes_on _ _ c.from_residual.ensures.1 h.kept (inl h.err.0, no_padding (Field c.args.width) h.err.1)
+    passes_on _ _ c.from_residual.ensures.1 h.kept (inl h.err.0, no_padding (BitField c.args.width) h.err.1)
 
 pub returns : goal.returns
 returns c =

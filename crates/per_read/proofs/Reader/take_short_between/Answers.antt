@@ -3,7 +3,7 @@ use Rattle.std.proofs.lemmas.Int.{to_z-of_z}
 use Rattle.rasn_constraints.specs.Bounds.{above}
 use Rattle.per_core.specs.Spellings.{Took}
 use Rattle.per_read.specs.Numbers.{in_one_field}
-use Rattle.per_read.specs.State.{settings_of}
+use Rattle.per_read.specs.ReaderState.{settings_of}
 use Rattle.per_read.proofs.Fields.{when_took}
 use Rattle.per_read.proofs.Reader.take_short_between.Goals as goal
 

@@ -1,6 +1,6 @@
 use Rattle.std.proofs.Common.{◌+◌, ◌-◌, arith, refl, sym}
-use Rattle.per_core.proofs.Took.{took_map}
-use Rattle.per_read.specs.State.{settings_of}
+use Rattle.per_core.proofs.TakenInTurn.{took_map}
+use Rattle.per_read.specs.ReaderState.{settings_of}
 use Rattle.per_read.proofs.SizeForms.{few_codes, few_counted, recoded, count_from, no_code_from}
 use Rattle.per_read.proofs.Calls.{answers}
 use Rattle.per_read.proofs.Reader.take_short_count.Goals as goal

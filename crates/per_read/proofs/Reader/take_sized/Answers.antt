@@ -1,6 +1,6 @@
 use Rattle.std.proofs.Common.{inr, refl}
 use Rattle.rasn_constraints.specs.Constraints.{size_between}
-use Rattle.per_read.specs.State.{settings_of}
+use Rattle.per_read.specs.ReaderState.{settings_of}
 use Rattle.per_read.proofs.Calls.{answers_items, passes_on_items}
 use Rattle.per_read.proofs.Miscounts.{sized_ok, none_faulty, miscounted}
 use Rattle.per_read.proofs.Reader.take_sized.Goals as goal

@@ -1,12 +1,12 @@
 use Rattle.std.proofs.Common.{◌≡◌, ◌∙◌, ◌+◌, ◌*◌, ◌<◌, inr, refl, ap, arith, length, length-append, subst, ℕ}
 use Rattle.per_core.specs.Basic.{OneByOne}
 use Rattle.per_core.specs.Counts.{bits_of, counted_of}
-use Rattle.per_core.specs.Spellings.{Field}
-use Rattle.per_core.specs.FieldFaults.{in_items, in_length, too_many}
+use Rattle.per_core.specs.Spellings.{BitField}
+use Rattle.per_core.specs.BitFieldFaults.{in_items, in_length, too_many}
 use Rattle.per_read.specs.Items.{TookItems}
 use Rattle.per_read.proofs.Calls.{answers_items, passes_on_items}
 use Rattle.per_read.proofs.OfFields.{as_lacking}
-use Rattle.per_read.proofs.Parts.{small_length, items_go_on, items_end, no_items_length, no_items_short}
+use Rattle.per_read.proofs.FragmentItems.{small_length, items_go_on, items_end, no_items_length, no_items_short}
 use Rattle.per_read.proofs.Refusals.{faulty_map}
 use Rattle.per_read.proofs.Reader.take_unconstrained_items.Goals as goal
 
@@ -51,7 +51,7 @@ returns-in-Last g c =
     let e : c.in-Some.all ≡ c.loop-length.count + c.count-more.result = omega (arith, c.in-Some.ensures) in
     answers_items _ (b.kept ∙ t.kept ∙ h.1)
     (items_end h.0 (counted_of i) c.in-Some.all (rw h.1 at t.ok) c.in-Last.is c.count-more.ensures e (omega (arith, c.in-Some.ensures))
-    (subst (λ z. TookItems g.C.Collector.holds (OneByOne (Field (bits_of z))) c.count-more.result c.loop-length.items c.take_bare_items.new.items c.take_unconstrained_length.new.self.bits c.take_bare_items.new.self.bits) h.2 b.ok))
+    (subst (λ z. TookItems g.C.Collector.holds (OneByOne (BitField (bits_of z))) c.count-more.result c.loop-length.items c.take_bare_items.new.items c.take_unconstrained_length.new.self.bits c.take_bare_items.new.self.bits) h.2 b.ok))
 
 pub loop-length-smaller : goal.loop-length-smaller
 loop-length-smaller g c =
@@ -65,7 +65,7 @@ loop-length-preserved g c =
     let b = c.in_ok-take_bare_items.ensures in
     let e : c.in-Some.all ≡ c.loop-length.count + c.count-more.result = omega (arith, c.in-Some.ensures) in (
       rw e (items_go_on h.0 (rw h.1 at t.ok) c.in_default.is c.count-more.ensures
-          (subst (λ z. TookItems g.C.Collector.holds (OneByOne (Field (bits_of z))) c.count-more.result c.loop-length.items c.take_bare_items.new.items c.take_unconstrained_length.new.self.bits c.take_bare_items.new.self.bits) h.2 b.ok)),
+          (subst (λ z. TookItems g.C.Collector.holds (OneByOne (BitField (bits_of z))) c.count-more.result c.loop-length.items c.take_bare_items.new.items c.take_unconstrained_length.new.self.bits c.take_bare_items.new.self.bits) h.2 b.ok)),
       b.kept ∙ t.kept ∙ h.1,
       b.same ∙ h.2,
       omega (arith, b.few, h.3, e),

@@ -1,5 +1,5 @@
 use Rattle.std.proofs.Common.{inl, inr}
-use Rattle.per_core.proofs.Took.{took_then}
+use Rattle.per_core.proofs.TakenInTurn.{took_then}
 use Rattle.per_core.specs.Lengths.{CountOf}
 use Rattle.per_read.proofs.Calls.{passes_on, takes_last}
 use Rattle.per_read.proofs.Counts.{no_length}

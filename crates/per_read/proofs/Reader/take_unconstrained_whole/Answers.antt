@@ -1,11 +1,11 @@
 use Rattle.std.proofs.Common.{◌∙◌, ◌<◌, inr, arith, length, FitsSigned, to_z, of_z}
 use Rattle.std.specs.Int.{w128}
 use Rattle.std.proofs.lemmas.Int.{to_z-of_z}
-use Rattle.per_read.specs.State.{settings_of}
+use Rattle.per_read.specs.ReaderState.{settings_of}
 use Rattle.per_read.specs.declared.numbers.ReadNumber.TheVariants.{Held}
 use Rattle.per_read.proofs.Calls.{answers, from_start, passes_on}
 use Rattle.per_read.proofs.OfFields.{of_octets}
-use Rattle.per_read.proofs.Under.{no_length_no_whole, octets_whole}
+use Rattle.per_read.proofs.NumbersUnderBounds.{no_length_no_whole, octets_whole}
 use Rattle.per_read.proofs.Reader.take_unconstrained_whole.Goals as goal
 
 pub returns-in_err-octets : goal.returns-in_err-octets

@@ -2,7 +2,7 @@ use Rattle.std.proofs.Common.{◌∙◌, sym, refl, List, ℕ}
 use Rattle.rasn_constraints.specs.Constraints.{start_of, end_of}
 use Rattle.per_core.specs.Counts.{counted_of}
 use Rattle.per_core.specs.Lengths.{coded}
-use Rattle.per_read.specs.State.{settings_of}
+use Rattle.per_read.specs.ReaderState.{settings_of}
 use Rattle.per_read.proofs.Calls.{takes_last_items}
 use Rattle.per_read.proofs.OfFields.{of_constrained, of_free, says_as}
 use Rattle.per_read.proofs.Refusals.{faulty_map}

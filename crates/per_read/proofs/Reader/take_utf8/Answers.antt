@@ -4,7 +4,7 @@ use Rattle.rasn_types.specs.Contents.{utf8}
 use Rattle.rasn_types.proofs.Texts.{is_text-string_bytes, is_text-false}
 use Rattle.per_core.specs.Basic.{Octets}
 use Rattle.per_core.specs.Spellings.{Took}
-use Rattle.per_read.specs.State.{settings_of}
+use Rattle.per_read.specs.ReaderState.{settings_of}
 use Rattle.per_read.proofs.Calls.{answers, refuses, passes_on}
 use Rattle.per_read.proofs.Refusals.{faulty_map}
 use Rattle.per_read.proofs.Texts.{octets_text, none_of_text, text_took, no_text}

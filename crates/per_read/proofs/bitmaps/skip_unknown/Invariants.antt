@@ -1,5 +1,5 @@
 use Rattle.std.proofs.Common.{◌≡◌}
-use Rattle.per_read.specs.State.{settings_of}
+use Rattle.per_read.specs.ReaderState.{settings_of}
 use Rattle.per_read.proofs.Skipped.{SkippedSoFar}
 use Rattle.per_read.proofs.bitmaps.skip_unknown.Given as goal
 

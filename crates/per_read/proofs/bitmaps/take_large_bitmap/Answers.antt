@@ -1,14 +1,14 @@
 use Rattle.std.proofs.Common.{◌≡◌, ◌∙◌, ◌*◌, inl, inr, refl, ap, subst, arith}
 use Rattle.per_core.specs.Spellings.{Took}
 use Rattle.per_core.specs.AdditionFaults.{IsOfLargeBitmap}
-use Rattle.per_core.specs.FieldFaults.{in_items, in_length}
+use Rattle.per_core.specs.BitFieldFaults.{in_items, in_length}
 use Rattle.per_core.specs.Lengths.{LengthOf}
-use Rattle.per_read.specs.State.{settings_of}
+use Rattle.per_read.specs.ReaderState.{settings_of}
 use Rattle.per_core.specs.declared.lengths.Length.TheVariants.{Last}
 use Rattle.per_read.proofs.Calls.{answers, passes_on, refuses}
 use Rattle.per_read.proofs.OfFields.{as_lacking}
 use Rattle.per_read.proofs.Refusals.{faulty_map}
-use Rattle.per_read.proofs.Maps.{empty_bits, fragment_bits, large_bits, no_large_bits, no_length_no_bits, no_front_no_bits, unsized_bits}
+use Rattle.per_read.proofs.BitmapForms.{empty_bits, fragment_bits, large_bits, no_large_bits, no_length_no_bits, no_front_no_bits, unsized_bits}
 use Rattle.per_read.proofs.Pieces.{gathers}
 use Rattle.per_read.proofs.FrontItems.{last_front}
 use Rattle.per_read.proofs.bitmaps.take_large_bitmap.Goals as goal

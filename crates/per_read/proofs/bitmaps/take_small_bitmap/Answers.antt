@@ -1,7 +1,7 @@
 use Rattle.std.proofs.Common.{◌∙◌, inl, inr, arith}
 use Rattle.per_read.proofs.Calls.{answers, passes_on}
 use Rattle.per_read.proofs.Fields.{field_below}
-use Rattle.per_read.proofs.Maps.{no_small_bits, no_small_field, small_bits}
+use Rattle.per_read.proofs.BitmapForms.{no_small_bits, no_small_field, small_bits}
 use Rattle.per_read.proofs.FrontItems.{last_front}
 use Rattle.per_read.proofs.bitmaps.take_small_bitmap.Goals as goal
 

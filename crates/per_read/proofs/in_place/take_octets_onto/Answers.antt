@@ -1,9 +1,9 @@
 use Rattle.std.proofs.Common.{◌≡◌, ◌∙◌, ◌+◌, ◌*◌, ◌<◌, ap, refl, arith, length, length-append, subst, ℕ}
 use Rattle.per_core.specs.Counts.{octet_items}
-use Rattle.per_core.specs.FieldFaults.{in_items, in_length, too_many}
+use Rattle.per_core.specs.BitFieldFaults.{in_items, in_length, too_many}
 use Rattle.per_read.proofs.Calls.{answers_items, passes_on_items}
 use Rattle.per_read.proofs.OfFields.{as_lacking}
-use Rattle.per_read.proofs.Parts.{small_length, items_go_on, items_end, no_items_length, no_items_short}
+use Rattle.per_read.proofs.FragmentItems.{small_length, items_go_on, items_end, no_items_length, no_items_short}
 use Rattle.per_read.proofs.in_place.take_octets_onto.Goals as goal
 
 pub returns-in_err-length : goal.returns-in_err-length

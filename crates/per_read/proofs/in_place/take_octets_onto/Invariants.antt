@@ -1,7 +1,7 @@
 use Rattle.std.proofs.Common.{◌≡◌, length}
 use Rattle.per_read.specs.SmallNumbers.{MeansSince}
-use Rattle.per_read.specs.State.{settings_of}
-use Rattle.per_read.proofs.Parts.{ItemsSoFar}
+use Rattle.per_read.specs.ReaderState.{settings_of}
+use Rattle.per_read.proofs.FragmentItems.{ItemsSoFar}
 use Rattle.per_read.proofs.in_place.take_octets_onto.Given as goal
 
 abbrev pub invariant-loop-length : goal.invariant-loop-length

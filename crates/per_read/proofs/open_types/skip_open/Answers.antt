@@ -1,10 +1,10 @@
 use Rattle.std.proofs.Common.{◌≡◌, ◌∙◌, ◌+◌, ◌*◌, ◌<◌, refl, ap, arith, length, length-append, subst, ℕ}
 use Rattle.per_core.specs.Counts.{octet_items}
-use Rattle.per_core.proofs.Took.{took_map}
-use Rattle.per_core.specs.FieldFaults.{in_items, in_length, too_many}
+use Rattle.per_core.proofs.TakenInTurn.{took_map}
+use Rattle.per_core.specs.BitFieldFaults.{in_items, in_length, too_many}
 use Rattle.per_read.proofs.Calls.{answers, passes_on}
 use Rattle.per_read.proofs.OfFields.{as_lacking}
-use Rattle.per_read.proofs.Parts.{items_begin, items_end, items_go_on, no_items_length, no_items_short, small_length}
+use Rattle.per_read.proofs.FragmentItems.{items_begin, items_end, items_go_on, no_items_length, no_items_short, small_length}
 use Rattle.per_read.proofs.Opened.{no_open}
 use Rattle.per_read.proofs.Pieces.{Anything, skipped}
 use Rattle.per_read.proofs.Fronts.{no_front}

@@ -1,6 +1,6 @@
 use Rattle.std.proofs.Common.{◌≡◌, length}
-use Rattle.per_read.specs.State.{settings_of}
-use Rattle.per_read.proofs.Parts.{ItemsSoFar}
+use Rattle.per_read.specs.ReaderState.{settings_of}
+use Rattle.per_read.proofs.FragmentItems.{ItemsSoFar}
 use Rattle.per_read.proofs.Pieces.{Anything}
 use Rattle.per_read.proofs.open_types.skip_open.Given as goal
 

@@ -1,14 +1,14 @@
 use Rattle.std.proofs.Common.{◌∙◌, ◌*◌, inr, refl, ap, subst, arith}
 use Rattle.rasn_types.specs.Bits.{pack}
 use Rattle.per_core.specs.Spellings.{Took}
-use Rattle.per_core.specs.FieldFaults.{in_items, in_length}
+use Rattle.per_core.specs.BitFieldFaults.{in_items, in_length}
 use Rattle.per_core.specs.declared.lengths.Length.TheVariants.{Last}
 use Rattle.per_core.specs.Lengths.{LengthOf, count_of}
-use Rattle.per_read.specs.State.{settings_of}
+use Rattle.per_read.specs.ReaderState.{settings_of}
 use Rattle.per_read.proofs.Calls.{answers, passes_on}
-use Rattle.per_read.proofs.Parts.{small_length}
+use Rattle.per_read.proofs.FragmentItems.{small_length}
 use Rattle.per_read.proofs.Pieces.{no_length_no_octets, no_front_no_octets, octets_are, octets_in_place}
-use Rattle.per_read.specs.Stands.{LastTaken}
+use Rattle.per_read.specs.TakenPositions.{LastTaken}
 use Rattle.per_read.proofs.FrontItems.{last_front}
 use Rattle.per_read.proofs.open_types.take_open.Goals as goal
 

@@ -3,7 +3,7 @@ use Rattle.rasn_types.specs.Values.{truth, octets}
 use Rattle.rasn_schema.specs.Schemas.{Schema, group, optional, no_parts}
 use Rattle.per_core.specs.Basic.{basic_in, rules}
 use Rattle.per_core.specs.Canon.{bytes, canon}
-use Rattle.per_core.proofs.Within.{relax, just_within, then_within}
+use Rattle.per_core.proofs.WriterSpellings.{relax, just_within, then_within}
 use Rattle.per_core.proofs.Laws
 use Rattle.per_rows.specs.Build.{aper, numbered, all_required, with_all, octet_string, sized}
 use Rattle.per_rows.specs.Samples.{inner}

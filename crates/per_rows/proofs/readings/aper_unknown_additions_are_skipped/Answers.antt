@@ -3,7 +3,7 @@ use Rattle.rasn_types.specs.Values.{truth, octets}
 use Rattle.rasn_schema.specs.Schemas.{Schema, group, no_parts}
 use Rattle.per_core.specs.Basic.{basic_in, rules}
 use Rattle.per_core.specs.Canon.{canon}
-use Rattle.per_core.proofs.Within.{just_within, then_within}
+use Rattle.per_core.proofs.WriterSpellings.{just_within, then_within}
 use Rattle.per_rows.specs.Build.{aper, numbered, all_required, with_all}
 use Rattle.per_rows.specs.Samples.{inner}
 use Rattle.per_rows.proofs.Reading.{filled, as_record, with_bitmap, two_booleans, any_octets, in_open}

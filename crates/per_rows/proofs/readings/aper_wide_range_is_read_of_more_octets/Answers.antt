@@ -2,7 +2,7 @@ use Rattle.std.proofs.Common.{refl, lit<, [], ◌∷◌, pos}
 use Rattle.rasn_types.specs.Variants.{aligned}
 use Rattle.per_core.specs.Basic.{basic_in}
 use Rattle.per_core.specs.Canon.{canon}
-use Rattle.per_core.proofs.Within.{relax, then_within, field_within, padding_within}
+use Rattle.per_core.proofs.WriterSpellings.{relax, then_within, field_within, padding_within}
 use Rattle.per_rows.specs.Build.{aper}
 use Rattle.per_rows.proofs.Reading.{filled, ones_within}
 use Rattle.per_rows.proofs.readings.aper_wide_range_is_read_of_more_octets.Goals as goal

@@ -3,7 +3,7 @@ use Rattle.rasn_types.specs.Values.{truth}
 use Rattle.rasn_schema.specs.Schemas.{Schema, group, optional, no_parts}
 use Rattle.per_core.specs.Basic.{basic_in, rules}
 use Rattle.per_core.specs.Canon.{canon}
-use Rattle.per_core.proofs.Within.{just_within, when_within}
+use Rattle.per_core.proofs.WriterSpellings.{just_within, when_within}
 use Rattle.per_rows.specs.Build.{uper, numbered, all_required, octet_string, sized}
 use Rattle.per_rows.specs.Samples.{inner}
 use Rattle.per_rows.proofs.Reading.{filled, as_record, as_root, with_bitmap, two_booleans}

@@ -2,7 +2,7 @@ use Rattle.std.proofs.Common.{refl, lit<, [], ◌∷◌, false, Some}
 use Rattle.rasn_schema.specs.Schemas.{default, no_parts}
 use Rattle.per_core.specs.Basic.{basic_in, rules}
 use Rattle.per_core.specs.Canon.{canon}
-use Rattle.per_core.proofs.Within.{just_within, then_within, when_within}
+use Rattle.per_core.proofs.WriterSpellings.{just_within, then_within, when_within}
 use Rattle.per_rows.specs.Build.{uper, numbered}
 use Rattle.per_rows.specs.Samples.{nest, nested}
 use Rattle.per_rows.proofs.Reading.{filled, as_record, as_root}

@@ -4,7 +4,7 @@ use Rattle.rasn_constraints.specs.Bounds.{between}
 use Rattle.rasn_schema.specs.Schemas.{default, no_parts}
 use Rattle.per_core.specs.Basic.{basic_in, rules}
 use Rattle.per_core.specs.Canon.{canon}
-use Rattle.per_core.proofs.Within.{just_within, then_within}
+use Rattle.per_core.proofs.WriterSpellings.{just_within, then_within}
 use Rattle.per_rows.specs.Build.{uper, numbered, integer_in}
 use Rattle.per_rows.proofs.Reading.{filled, as_record, as_root, in_open, with_bitmap}
 use Rattle.per_rows.proofs.readings.uper_default_addition_is_read_where_it_is_written.Goals as goal

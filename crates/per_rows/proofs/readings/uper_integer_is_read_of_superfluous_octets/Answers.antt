@@ -1,7 +1,7 @@
 use Rattle.std.proofs.Common.{refl, lit<, [], ◌∷◌, pos}
 use Rattle.per_core.specs.Basic.{basic_in}
 use Rattle.per_core.specs.Canon.{canon}
-use Rattle.per_core.proofs.Within.{relax}
+use Rattle.per_core.proofs.WriterSpellings.{relax}
 use Rattle.per_core.proofs.Presenting.{octets_within}
 use Rattle.per_rows.specs.Build.{uper}
 use Rattle.per_rows.proofs.Reading.{filled}

@@ -5,7 +5,7 @@ use Rattle.per_core.specs.Counts.{octet_writers}
 use Rattle.per_core.specs.Basic.{basic_in, octet, OneByOne, Fragment}
 use Rattle.per_core.specs.Canon.{canon}
 use Rattle.per_core.proofs.Counting.{row_within}
-use Rattle.per_core.proofs.Within.{Within, relax, then_within, left_within, when_within, if_within, field_within, padding_within}
+use Rattle.per_core.proofs.WriterSpellings.{Within, relax, then_within, left_within, when_within, if_within, field_within, padding_within}
 use Rattle.per_rows.specs.Build.{uper}
 use Rattle.per_rows.proofs.Reading.{filled, in_two_octets}
 use Rattle.per_rows.proofs.readings.uper_length_is_read_in_any_form.Goals as goal

@@ -15,7 +15,7 @@ pub returns-clause-levels_128 : goal.returns-clause-levels_128
 unfolding bytes
 returns-clause-levels_128 c = Laws.written_is_read uper (nest 128) (nested 127) (replicate 15 0xff ++ 0xfe ∷ []) refl
 
--- the presence bit stands first
+-- the presence bit is first
 behind : {d : Bool} {g : Spelling} {p : ℕ} {b : Bits} (x : Then (Then (exactly (d ∷ [])) (exactly [])) g p b) → b ≡ d ∷ x.rest
 behind {d} x = x.joins ∙ ap (λ z. z ++ x.rest) (x.is_front.joins ∙ ap (λ z. z ++ x.is_front.rest) x.is_front.is_front ∙ ap (λ z. d ∷ z) x.is_front.is_rest)
 

@@ -3,7 +3,7 @@ use Rattle.rasn_types.specs.Values.{truth}
 use Rattle.rasn_schema.specs.Schemas.{Schema, optional, required, no_parts}
 use Rattle.per_core.specs.Basic.{basic_in, rules}
 use Rattle.per_core.specs.Canon.{canon}
-use Rattle.per_core.proofs.Within.{just_within, then_within, when_within}
+use Rattle.per_core.proofs.WriterSpellings.{just_within, then_within, when_within}
 use Rattle.per_rows.specs.Build.{uper, numbered}
 use Rattle.per_rows.proofs.Reading.{filled, as_record, as_root, in_open, with_bitmap}
 use Rattle.per_rows.proofs.readings.uper_short_bitmap_is_read.Goals as goal

@@ -3,7 +3,7 @@ use Rattle.rasn_types.specs.Values.{truth}
 use Rattle.rasn_schema.specs.Schemas.{Schema, no_parts}
 use Rattle.per_core.specs.Basic.{basic_in, rules}
 use Rattle.per_core.specs.Canon.{canon}
-use Rattle.per_core.proofs.Within.{just_within, then_within, when_within}
+use Rattle.per_core.proofs.WriterSpellings.{just_within, then_within, when_within}
 use Rattle.per_rows.specs.Build.{uper, zero_padded, numbered, all_required}
 use Rattle.per_rows.proofs.Reading.{filled, as_record, as_root, in_place, with_bitmap, any_octets}
 use Rattle.per_rows.proofs.readings.uper_skipped_addition_may_have_any_spare_bits.Goals as goal

@@ -3,7 +3,7 @@ use Rattle.rasn_types.specs.Values.{truth}
 use Rattle.rasn_schema.specs.Schemas.{Schema, optional, group, no_parts}
 use Rattle.per_core.specs.Basic.{basic_in, rules}
 use Rattle.per_core.specs.Canon.{bytes, canon}
-use Rattle.per_core.proofs.Within.{relax, just_within, then_within, when_within}
+use Rattle.per_core.proofs.WriterSpellings.{relax, just_within, then_within, when_within}
 use Rattle.per_core.proofs.Presenting.{octets_within}
 use Rattle.per_core.proofs.Laws
 use Rattle.per_rows.specs.Build.{uper, numbered, all_required, sequence_with, extended, record_with}

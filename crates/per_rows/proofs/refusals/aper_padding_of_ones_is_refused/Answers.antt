@@ -6,7 +6,7 @@ use Rattle.rasn_constraints.specs.Bounds.{between}
 use Rattle.per_core.specs.Writers.{pad}
 use Rattle.per_core.specs.Basic.{basic_in, fills, InOctets}
 use Rattle.per_core.specs.Canon.{canon}
-use Rattle.per_core.proofs.Agree.{fronts, cancel}
+use Rattle.per_core.proofs.SpellingsAgree.{fronts, cancel}
 use Rattle.per_rows.specs.Build.{aper, zero_padded, integer_in}
 use Rattle.per_rows.proofs.refusals.aper_padding_of_ones_is_refused.Goals as goal
 

@@ -7,12 +7,12 @@ use Rattle.per_core.specs.Writers.{just}
 use Rattle.per_core.specs.Counts.{bit_items}
 use Rattle.per_core.specs.Basic.{Rule, Root, IsBitmap, Record_in, Sized, bit, basic, basic_in, rules}
 use Rattle.per_core.specs.Canon.{canon}
-use Rattle.per_core.proofs.Agree.{Agree, weaken, then_agree, behind, no_yes}
+use Rattle.per_core.proofs.SpellingsAgree.{Agree, weaken, then_agree, behind, no_yes}
 use Rattle.per_core.proofs.Counting.{counted_within}
 use Rattle.per_core.proofs.LengthForms.{sized_agree, Zip-same}
 use Rattle.per_core.proofs.Records.{root_agree}
 use Rattle.per_core.proofs.Readings.{sames, same_kin, same_bits}
-use Rattle.per_core.proofs.Within.{just_within, then_within, when_within}
+use Rattle.per_core.proofs.WriterSpellings.{just_within, then_within, when_within}
 use Rattle.per_rows.specs.Build.{uper, aper, numbered, all_required}
 use Rattle.per_rows.specs.Samples.{with_group}
 use Rattle.per_rows.proofs.Reading.{filled, not_both, first, either_one, as_root, in_place}

@@ -4,7 +4,7 @@ use Rattle.rasn_types.specs.Values.{Value}
 use Rattle.rasn_constraints.specs.Bounds.{above, fits_i128}
 use Rattle.per_core.specs.Basic.{basic, basic_in, Octets}
 use Rattle.per_core.specs.Canon.{canon}
-use Rattle.per_core.proofs.Agree.{Agree}
+use Rattle.per_core.proofs.SpellingsAgree.{Agree}
 use Rattle.per_core.proofs.LengthForms.{same_octets}
 use Rattle.per_core.proofs.Presenting.{octets_within}
 use Rattle.per_rows.specs.Build.{uper, minus, integer_in, at_least}

@@ -2,7 +2,7 @@ use Rattle.std.proofs.Common.{refl, ap, lit<, [], ◌∷◌, length, pos, arith}
 use Rattle.rasn_types.specs.Values.{Value, whole}
 use Rattle.per_core.specs.Basic.{basic, basic_in, Octets}
 use Rattle.per_core.specs.Canon.{bytes, canon}
-use Rattle.per_core.proofs.Agree.{Agree}
+use Rattle.per_core.proofs.SpellingsAgree.{Agree}
 use Rattle.per_core.proofs.LengthForms.{same_octets}
 use Rattle.per_core.proofs.Presenting.{octets_within}
 use Rattle.per_rows.specs.Build.{uper, integer}

@@ -2,19 +2,19 @@ use Rattle.std.proofs.Common.{◌≡◌, refl, sym, ap, ◌∙◌, subst, lit<, 
 use Rattle.rasn_types.specs.Values.{Value, whole}
 use Rattle.rasn_constraints.specs.Bounds.{holds, above, between, unbounded}
 use Rattle.rasn_schema.specs.Schemas.{Schema}
-use Rattle.per_core.specs.Spellings.{Then, exactly, Field}
+use Rattle.per_core.specs.Spellings.{Then, exactly, BitField}
 use Rattle.per_core.specs.Basic.{basic, basic_in, IsNumber}
 use Rattle.per_core.specs.Canon.{bytes, canon}
-use Rattle.per_core.proofs.Agree.{Agree, behind, yes_no, field_agree}
+use Rattle.per_core.proofs.SpellingsAgree.{Agree, behind, yes_no, field_agree}
 use Rattle.per_core.proofs.Unique.{is_number_agree, fills_agree}
-use Rattle.per_core.proofs.Within.{just_within, then_within, field_within}
+use Rattle.per_core.proofs.WriterSpellings.{just_within, then_within, field_within}
 use Rattle.per_core.proofs.Laws
 use Rattle.per_rows.specs.Build.{uper, minus, integer_in, extensible_integer}
 use Rattle.per_rows.proofs.Reading.{filled, not_both, either_one}
 use Rattle.per_rows.proofs.refusals.uper_number_out_of_bounds_is_refused.Goals as goal
 
 -- four bits that are 15
-no_code : (z : ℤ) → Agree ⊥ (IsNumber uper (between (pos 1) (pos 10)) z) (Field 4 15)
+no_code : (z : ℤ) → Agree ⊥ (IsNumber uper (between (pos 1) (pos 10)) z) (BitField 4 15)
 unfolding canon
 no_code z = record {
   agree = λ p b c s t x y e.
@@ -22,10 +22,10 @@ no_code z = record {
       let r = (field_agree 4 (above (pos 1) z) 15).agree p b c s t n.spelled y e in absurd (omega (arith, r.0, n.below));
 }
 
-no_root_code : (v : Value) → Agree ⊥ (basic uper (extensible_integer (between (pos 1) (pos 10))) v) (Then (exactly (false ∷ [])) (Field 4 15))
+no_root_code : (v : Value) → Agree ⊥ (basic uper (extensible_integer (between (pos 1) (pos 10))) v) (Then (exactly (false ∷ [])) (BitField 4 15))
 unfolding basic_in
 no_root_code v = record {
-  agree = λ p b c s t x y e. (either_one (behind (false ∷ []) (no_code x.of)) (yes_no (IsNumber uper unbounded x.of) (Field 4 15))).agree p b c s t x.spelled.spelled y e;
+  agree = λ p b c s t x y e. (either_one (behind (false ∷ []) (no_code x.of)) (yes_no (IsNumber uper unbounded x.of) (BitField 4 15))).agree p b c s t x.spelled.spelled y e;
 }
 
 pub returns-clause-root_code : goal.returns-clause-root_code

@@ -5,13 +5,13 @@ use Rattle.rasn_schema.specs.Schemas.{Schema, Parts, optional, group}
 use Rattle.per_core.specs.Spellings.{Settings, Spelling, Then, exactly}
 use Rattle.per_core.specs.Basic.{Root, IsBitmap, Record_in, Additions_in, Octets, basic, basic_in, rules, fills}
 use Rattle.per_core.specs.Canon.{bytes, canon}
-use Rattle.per_core.proofs.Agree.{Agree, weaken, then_agree, behind, cancel, no_yes}
+use Rattle.per_core.proofs.SpellingsAgree.{Agree, weaken, then_agree, behind, cancel, no_yes}
 use Rattle.per_core.proofs.LengthForms.{same_octets}
 use Rattle.per_core.proofs.Records.{root_agree, bitmap_agree}
 use Rattle.per_core.proofs.Readings.{sames, same_kin, one_reading}
 use Rattle.per_core.proofs.Canonical.{canonical}
 use Rattle.per_core.proofs.Presenting.{octets_within}
-use Rattle.per_core.proofs.Within.{just_within, then_within, when_within}
+use Rattle.per_core.proofs.WriterSpellings.{just_within, then_within, when_within}
 use Rattle.per_rows.specs.Build.{uper, zero_padded, numbered, all_required, sequence_with, record_with}
 use Rattle.per_rows.specs.Samples.{with_group}
 use Rattle.per_rows.proofs.Reading.{filled, not_both, first, either_one, as_root, in_place, few, no_more}

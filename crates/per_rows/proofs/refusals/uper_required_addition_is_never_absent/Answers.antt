@@ -4,9 +4,9 @@ use Rattle.rasn_types.specs.Values.{Value}
 use Rattle.rasn_schema.specs.Schemas.{required}
 use Rattle.per_core.specs.Spellings.{Spelling, Then, exactly}
 use Rattle.per_core.specs.Basic.{Rule, Root, IsBitmap, Additions_in, Record_in, basic, basic_in, fills}
-use Rattle.per_core.proofs.Agree.{Agree, weaken, then_agree, behind}
+use Rattle.per_core.proofs.SpellingsAgree.{Agree, weaken, then_agree, behind}
 use Rattle.per_core.proofs.Records.{root_agree, bitmap_agree}
-use Rattle.per_core.proofs.Within.{just_within, then_within}
+use Rattle.per_core.proofs.WriterSpellings.{just_within, then_within}
 use Rattle.per_rows.specs.Build.{uper}
 use Rattle.per_rows.specs.Samples.{required_addition}
 use Rattle.per_rows.proofs.Reading.{filled, not_both, begins, as_root, few}

@@ -1,27 +1,27 @@
 use Rattle.std.proofs.Common.{◌≡◌, refl, sym, subst, lit<, ℕ, ◌++◌, [], ◌∷◌, List, length, replicate, true, false, arith, inl, inr}
 use Rattle.rasn_types.specs.Bits.{Bits}
 use Rattle.rasn_types.specs.Values.{Value, Side, root, added}
-use Rattle.per_core.specs.Spellings.{Then, Field, exactly}
+use Rattle.per_core.specs.Spellings.{Then, BitField, exactly}
 use Rattle.per_core.specs.Basic.{Choice, Item, Rule, Fills, Chosen, basic, basic_in, fills, rules, IsConstrainedWhole}
 use Rattle.per_core.specs.Versions.{alternatives_of}
 use Rattle.per_core.specs.Canon.{canon}
-use Rattle.per_core.proofs.Agree.{Agree, weaken, then_agree, field_agree, exactly_agree}
-use Rattle.per_core.proofs.Within.{just_within, then_within, field_within}
+use Rattle.per_core.proofs.SpellingsAgree.{Agree, weaken, then_agree, field_agree, exactly_agree}
+use Rattle.per_core.proofs.WriterSpellings.{just_within, then_within, field_within}
 use Rattle.per_rows.specs.Build.{uper}
 use Rattle.per_rows.specs.Samples.{x_y_or_z, one_alternative, one_color}
 use Rattle.per_rows.proofs.Reading.{filled, not_both, first, begins}
 use Rattle.per_rows.proofs.refusals.uper_unknown_index_is_refused.Goals as goal
 
 -- two bits of 3 are none of three places
-third : (i : ℕ) → Agree ⊥ (IsConstrainedWhole uper 3 i) (Field 2 3)
+third : (i : ℕ) → Agree ⊥ (IsConstrainedWhole uper 3 i) (BitField 2 3)
 unfolding canon
 third i = record { agree = λ p b c s t x y e. let r = (field_agree 2 i 3).agree p b c s t x.spelled y e in absurd (omega (arith, r.0, x.below)) }
 
-of_three : (rs adds : List Rule) → length rs ≡ 3 → (d : Side) (i : ℕ) (v : Value) → Agree ⊥ (Choice uper false rs adds d i v) (Then (exactly []) (Then (Field 2 3) (exactly [])))
-of_three rs adds l root i v = weaken (λ r. r.1) (then_agree (exactly_agree [] [] refl) (λ e. first (subst (λ n. Agree ⊥ (IsConstrainedWhole uper n i) (Field 2 3)) (sym l) (third i))))
+of_three : (rs adds : List Rule) → length rs ≡ 3 → (d : Side) (i : ℕ) (v : Value) → Agree ⊥ (Choice uper false rs adds d i v) (Then (exactly []) (Then (BitField 2 3) (exactly [])))
+of_three rs adds l root i v = weaken (λ r. r.1) (then_agree (exactly_agree [] [] refl) (λ e. first (subst (λ n. Agree ⊥ (IsConstrainedWhole uper n i) (BitField 2 3)) (sym l) (third i))))
 of_three rs adds l added i v = record { agree = λ p b c s t x y e. absurd x.is_front }
 
-no_fourth : (v : Value) → Agree ⊥ (basic uper x_y_or_z v) (Then (exactly []) (Then (Field 2 3) (exactly [])))
+no_fourth : (v : Value) → Agree ⊥ (basic uper x_y_or_z v) (Then (exactly []) (Then (BitField 2 3) (exactly [])))
 unfolding basic_in
 no_fourth v = record { agree = λ p b c s t x y e. (of_three (rules uper (alternatives_of x_y_or_z)) [] refl x.of.0 x.of.1 x.of.2).agree p b c s t x.spelled y e }
 

@@ -2,7 +2,7 @@ use Rattle.std.proofs.Common.{◌≡◌, suc, ◌+◌, ◌-◌, arith, length, r
 use Rattle.std.proofs.lemmas.Result.{IfOk-weaker, err_from_is_err_and}
 use Rattle.rasn_below.specs.Calls.{reads_no_more}
 use Rattle.rasn_below.proofs.Reading.{addition_reads_well, fails_addition}
-use Rattle.per_samples_b.proofs.Arrays.{kept_before, none_behind}
+use Rattle.per_samples_b.proofs.Arrays.{kept_before, none_after}
 use Rattle.per_samples_b.proofs.Truths.{truths_read}
 use Rattle.per_samples_b.proofs.additions.+decode_from.Goals as goal
 
@@ -10,7 +10,7 @@ pub returns-then-place-ge65-clause-read : goal.returns-then-place-ge65-clause-re
 returns-then-place-ge65-clause-read g t c =
     let none : 65 - c.args.place ≡ 0 = omega arith in
     let last : c.args.place ≡ length c.args.options = omega arith in
-    record { law = rw (none, last, none_behind c.args.options) reads_no_more; fails = search rules; kept = search rules }
+    record { law = rw (none, last, none_after c.args.options) reads_no_more; fails = search rules; kept = search rules }
 
 pub returns-in_err-option-clause-read : goal.returns-in_err-option-clause-read
 returns-in_err-option-clause-read g t c =

@@ -4,7 +4,7 @@ use Rattle.std.proofs.lemmas.Result.{on_ok_weaker}
 use Rattle.rasn_types.specs.Bits.{unpack}
 use Rattle.per_core.specs.Counts.{octet_writers}
 use Rattle.per_core.specs.Writers.{one_by_one, just}
-use Rattle.per_write.specs.State.{StateAppends}
+use Rattle.per_write.specs.WriterState.{StateAppends}
 use Rattle.per_pieces.proofs.Fragments.{octets_one_by_one}
 use Rattle.per_write.proofs.Writing.{wrote_same}
 use Rattle.per_write.proofs.Writer.put_bare_octets.Goals as goal

@@ -10,7 +10,7 @@ returns-in_ok-put_bit-in-true-true g c =
     let lower = c.start_and_end-lower.result.0 in
     let upper = c.start_and_end-lower.result.1 in
     record {
-      ok = on_ok_weaker _ (wrote_inside (λ (a : Variant). (g.I.Items.counted c.args.items.now).writers a) (g.I.Items.counted c.args.items.now).kind _ (record { least = lower; most = upper }) _ x c.put_bit.new.self c.put_sized.new.self
+      ok = on_ok_weaker _ (wrote_inside (λ (a : Variant). (g.I.ItemsToWrite.counted c.args.items.now).writers a) (g.I.ItemsToWrite.counted c.args.items.now).kind _ (record { least = lower; most = upper }) _ x c.put_bit.new.self c.put_sized.new.self
           (stated_mark c.args.size c.new.result c.unwrap_or-stated.result c.new.ensures.extensible c.unwrap_or-stated.ensures ∙ c.in-true-true.is-1)
           (stated_size c.args.size c.new.result c.unwrap_or-stated.result lower upper c.new.ensures.constraint c.unwrap_or-stated.ensures c.start_and_end-lower.ensures.start c.start_and_end-lower.ensures.end)
           (allowed_is c.unwrap_or-stated.result.constraint lower upper c.len-count.result _ true c.start_and_end-lower.ensures.start c.start_and_end-lower.ensures.end (c.len-count.ensures (variant_of x.codec)) (omega arith) c.in-true-true.ensures)
@@ -27,7 +27,7 @@ returns-in_ok-put_bit-in-false-true g c =
     let lower = c.start_and_end-lower.result.0 in
     let upper = c.start_and_end-lower.result.1 in
     record {
-      ok = on_ok_weaker _ (wrote_outside (λ (a : Variant). (g.I.Items.counted c.args.items.now).writers a) (g.I.Items.counted c.args.items.now).kind _ (record { least = lower; most = upper }) _ x c.put_bit-in-false-true.new.self c.put_unconstrained_items.new.self
+      ok = on_ok_weaker _ (wrote_outside (λ (a : Variant). (g.I.ItemsToWrite.counted c.args.items.now).writers a) (g.I.ItemsToWrite.counted c.args.items.now).kind _ (record { least = lower; most = upper }) _ x c.put_bit-in-false-true.new.self c.put_unconstrained_items.new.self
           (stated_mark c.args.size c.new.result c.unwrap_or-stated.result c.new.ensures.extensible c.unwrap_or-stated.ensures ∙ c.in-false-true.is-1)
           (stated_size c.args.size c.new.result c.unwrap_or-stated.result lower upper c.new.ensures.constraint c.unwrap_or-stated.ensures c.start_and_end-lower.ensures.start c.start_and_end-lower.ensures.end)
           (allowed_is c.unwrap_or-stated.result.constraint lower upper c.len-count.result _ false c.start_and_end-lower.ensures.start c.start_and_end-lower.ensures.end (c.len-count.ensures (variant_of x.codec)) (omega arith) c.in-false-true.ensures)

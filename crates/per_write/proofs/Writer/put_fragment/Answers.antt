@@ -8,7 +8,7 @@ pub returns : goal.returns
 returns g c =
     let x = c.args.self.now in
     record {
-      ok = on_ok_weaker _ (wrote_fragment (λ (a : Variant). (g.I.Items.counted c.args.items.now).writers a) x c.put_unconstrained_length.new.self c.put.new.writer c.args.start c.args.end c.requires.ordered (c.requires.within (variant_of x.codec)) c.in_ok-put_unconstrained_length.ensures.ok)
+      ok = on_ok_weaker _ (wrote_fragment (λ (a : Variant). (g.I.ItemsToWrite.counted c.args.items.now).writers a) x c.put_unconstrained_length.new.self c.put.new.writer c.args.start c.args.end c.requires.ordered (c.requires.within (variant_of x.codec)) c.in_ok-put_unconstrained_length.ensures.ok)
           c.put.ensures.ok;
       err = search rules;
       fails = search rules;

@@ -3,7 +3,7 @@ use Rattle.rasn_types.specs.Variants.{variant_of}
 use Rattle.per_core.specs.Counts.{open_bits, unconstrained_octets}
 use Rattle.per_core.specs.Writers.{Writer}
 use Rattle.per_write.specs.Faults.{IsMemory}
-use Rattle.per_write.specs.State.{Puts}
+use Rattle.per_write.specs.WriterState.{Puts}
 use Rattle.per_write.proofs.BitmapsWritten.{empty_open, some_open}
 use Rattle.per_write.proofs.Writer.put_open_type.Goals as goal
 

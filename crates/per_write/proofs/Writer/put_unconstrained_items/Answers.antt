@@ -16,7 +16,7 @@ loop-start-preserved g c =
     let n = c.len-count.result in
     let end : start + c.min.result / 16384 * 16384 ≡ start + first_fragment (n - start) = omega (arith, c.min.ensures) in
     record {
-      written = fragment_written (λ (a : Variant). (g.I.Items.counted c.args.items.now).writers a) x c.loop-start.self c.put_fragment.new.self start (start + c.min.result / 16384 * 16384) n
+      written = fragment_written (λ (a : Variant). (g.I.ItemsToWrite.counted c.args.items.now).writers a) x c.loop-start.self c.put_fragment.new.self start (start + c.min.result / 16384 * 16384) n
           (c.len-count.ensures (variant_of x.codec)) (omega arith) end c.loop-start.invariant.written c.in_ok-put_fragment.ensures.ok;
       within = omega arith;
     }
@@ -28,7 +28,7 @@ pub returns : goal.returns
 returns g c =
     let x = c.args.self.now in
     record {
-      ok = on_ok_weaker _ (last_written (λ (a : Variant). (g.I.Items.counted c.args.items.now).writers a) (g.I.Items.counted c.args.items.now).kind x c.loop-start.self c.put_fragment-2.new.self c.loop-start.start c.len-count.result
+      ok = on_ok_weaker _ (last_written (λ (a : Variant). (g.I.ItemsToWrite.counted c.args.items.now).writers a) (g.I.ItemsToWrite.counted c.args.items.now).kind x c.loop-start.self c.put_fragment-2.new.self c.loop-start.start c.len-count.result
           (c.len-count.ensures (variant_of x.codec)) (omega arith) c.loop-start.invariant.within (omega arith) c.loop-start.invariant.written)
           c.put_fragment-2.ensures.ok;
       err = search rules;

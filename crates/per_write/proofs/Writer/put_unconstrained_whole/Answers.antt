@@ -4,7 +4,7 @@ use Rattle.std.proofs.lemmas.Result.{IfOk-at_ok}
 use Rattle.rasn_types.specs.Variants.{variant_of}
 use Rattle.rasn_types.specs.Bits.{whole_bits}
 use Rattle.per_core.specs.Counts.{counted_octets}
-use Rattle.per_write.specs.State.{StateAppends}
+use Rattle.per_write.specs.WriterState.{StateAppends}
 use Rattle.per_write.proofs.Unbounded.{wrote_whole, wrote_number}
 use Rattle.per_write.proofs.Writer.put_unconstrained_whole.Goals as goal
 

@@ -2,7 +2,7 @@ use Rattle.std.proofs.Common.{◌≡◌, refl, false, suc, List, ◌∷◌, arit
 use Rattle.rasn_types.specs.Values.{Value}
 use Rattle.rasn_traits.specs.Lists.{ListForm}
 use Rattle.per_write.specs.Lists.{IsOpenList, count_left}
-use Rattle.per_write.specs.State.{State}
+use Rattle.per_write.specs.WriterState.{WriterState}
 use Rattle.per_write.proofs.Elements.{begins_beside, begins_left, element_next, fragment_begun_at, none_begun}
 use Rattle.per_write.proofs.lists.next_element.Goals as goal
 use Rattle.per_write.proofs.lists.next_element.Goals.{then-list-eq0+in_ok-list, else-list-eq0}
@@ -11,7 +11,7 @@ pub returns-in-Some : goal.returns-in-Some
 returns-in-Some g c =
     let l = c.args.list.now in
     let y = c.args.writer.now in
-    let goes_on : (f : ListForm) (x : State) (v : Value) (vs : List Value) → IsOpenList f x (v ∷ vs) l y → IsOpenList f x (v ∷ vs) c.if-list-eq0.list c.if-list-eq0.writer =
+    let goes_on : (f : ListForm) (x : WriterState) (v : Value) (vs : List Value) → IsOpenList f x (v ∷ vs) l y → IsOpenList f x (v ∷ vs) c.if-list-eq0.list c.if-list-eq0.writer =
     λ f x v vs h. elim c.if-list-eq0.branch [
       | then-list-eq0+in_ok-list w ↦ rw (w.writer-is, w.list-is) (fragment_begun_at f x y w.begin_fragment.new.writer v vs l w.in_ok-list.field-0 w.unwrap_or.result w.in_ok-list.ensures.stated w.if-list-eq0.true w.unwrap_or.ensures w.in_ok-list.ensures.ok h)
       | else-list-eq0 w ↦ rw (w.writer-is, w.list-is) h

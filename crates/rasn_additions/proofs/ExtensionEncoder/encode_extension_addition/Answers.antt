@@ -1,6 +1,6 @@
 use Rattle.std.proofs.Common.{rules, ◌≡◌, ◌∙◌, sym, ap, Some, option_map}
 use Rattle.std.proofs.lemmas.Result.{err_from_is_err_and}
-use Rattle.rasn_additions.proofs.Given.{value_refused, value_closed}
+use Rattle.rasn_additions.proofs.AdditionLaws.{value_refused, value_closed}
 use Rattle.rasn_additions.proofs.ExtensionEncoder.encode_extension_addition.Goals as goal
 
 pub returns-in_err-encode_with_tag_and_constraints : goal.returns-in_err-encode_with_tag_and_constraints

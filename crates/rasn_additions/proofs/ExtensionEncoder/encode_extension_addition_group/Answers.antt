@@ -1,6 +1,6 @@
 use Rattle.std.proofs.Common.{rules}
 use Rattle.std.proofs.lemmas.Result.{err_from_is_err_and}
-use Rattle.rasn_additions.proofs.Given.{group_closed, group_refused, group_surplus, record_is_group}
+use Rattle.rasn_additions.proofs.AdditionLaws.{group_closed, group_refused, group_surplus, record_is_group}
 use Rattle.rasn_additions.proofs.ExtensionEncoder.encode_extension_addition_group.Goals as goal
 
 pub returns-in_err-outside : goal.returns-in_err-outside

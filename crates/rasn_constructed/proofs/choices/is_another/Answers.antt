@@ -1,5 +1,5 @@
 use Rattle.rasn_types.specs.Values.{root}
-use Rattle.rasn_constructed.proofs.Chosen.{told_another}
+use Rattle.rasn_constructed.proofs.ChoiceTests.{told_another}
 use Rattle.rasn_constructed.proofs.choices.is_another.Goals as goal
 
 pub returns : goal.returns

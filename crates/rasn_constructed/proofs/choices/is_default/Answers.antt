@@ -1,4 +1,4 @@
-use Rattle.rasn_constructed.proofs.Chosen.{told_root}
+use Rattle.rasn_constructed.proofs.ChoiceTests.{told_root}
 use Rattle.rasn_constructed.proofs.choices.is_default.Goals as goal
 
 pub returns : goal.returns

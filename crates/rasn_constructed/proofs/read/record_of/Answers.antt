@@ -15,8 +15,8 @@ returns-in_err-close_fields g c =
     let a = subst (λ qs. ReadsFields g.D.Decoder.rules (root_parts cs n) qs c.open_fields.new.self (g.P.DecodeHoldingCells.contents c.in_ok-values.values) [] c.decode_cells.new.decoder)
     (sym (c.requires.components n).1) (plainly_read w) in
     record {
-      law = rw (p.1, p.2) (record_endless g.met.D.Decoder.lawful g.met.D.Decoder.scopes (root_parts cs) (has_marker cs.behind) (added_parts cs) o.0 o.1 _ _ _ a
-          (c.in_err-close_fields.ensures.law (inside_left g.met.D.Decoder.lawful g.met.D.Decoder.scopes (root_parts cs) (has_marker cs.behind) (added_parts cs) o.0 o.1 _ _ _ a)));
+      law = rw (p.1, p.2) (record_endless g.met.D.Decoder.lawful g.met.D.Decoder.fields (root_parts cs) (has_marker cs.behind) (added_parts cs) o.0 o.1 _ _ _ a
+          (c.in_err-close_fields.ensures.law (inside_left g.met.D.Decoder.lawful g.met.D.Decoder.fields (root_parts cs) (has_marker cs.behind) (added_parts cs) o.0 o.1 _ _ _ a)));
       behaves = search rules;
     }
 
@@ -29,8 +29,8 @@ returns g c =
     let a = subst (λ qs. ReadsFields g.D.Decoder.rules (root_parts cs n) qs c.open_fields.new.self (g.P.DecodeHoldingCells.contents c.in_ok-values.values) [] c.decode_cells.new.decoder)
     (sym (c.requires.components n).1) (plainly_read w) in
     record {
-      law = record_ended g.met.D.Decoder.lawful g.met.D.Decoder.scopes (root_parts cs) (has_marker cs.behind) (added_parts cs) o.0 o.1 _ _ _ _ a
-          (c.in_ok-close_fields.ensures.law (inside_left g.met.D.Decoder.lawful g.met.D.Decoder.scopes (root_parts cs) (has_marker cs.behind) (added_parts cs) o.0 o.1 _ _ _ a));
+      law = record_ended g.met.D.Decoder.lawful g.met.D.Decoder.fields (root_parts cs) (has_marker cs.behind) (added_parts cs) o.0 o.1 _ _ _ _ a
+          (c.in_ok-close_fields.ensures.law (inside_left g.met.D.Decoder.lawful g.met.D.Decoder.fields (root_parts cs) (has_marker cs.behind) (added_parts cs) o.0 o.1 _ _ _ a));
       behaves = search rules;
     }
 

@@ -1,6 +1,6 @@
 use Rattle.std.proofs.Common.{arith}
 use Rattle.rasn_record.specs.Lists.{both_within}
-use Rattle.rasn_record.proofs.Within.{deepest_within}
+use Rattle.rasn_record.proofs.LevelsWithin.{deepest_within}
 use Rattle.rasn_constructed.proofs.records.are_plain.Goals as goal
 
 pub are_all-requires-clause-depth : goal.are_all-requires-clause-depth

@@ -1,4 +1,4 @@
-use Rattle.rasn_defaults.proofs.Same.{next_bit, other_bit}
+use Rattle.rasn_defaults.proofs.SameValues.{next_bit, other_bit}
 use Rattle.rasn_defaults.proofs.bits.are_bits.Goals as goal
 
 pub returns-then-is_set-bit : goal.returns-then-is_set-bit

@@ -1,6 +1,6 @@
 use Rattle.std.proofs.Common.{◌∙◌}
 use Rattle.rasn_defaults.proofs.Named.{filled_bit}
-use Rattle.rasn_defaults.proofs.Same.{next_bit, other_bit}
+use Rattle.rasn_defaults.proofs.SameValues.{next_bit, other_bit}
 use Rattle.rasn_defaults.proofs.bits.are_filled_up.Goals as goal
 
 pub returns-then-is_set-bit : goal.returns-then-is_set-bit

@@ -1,6 +1,6 @@
 use Rattle.std.proofs.Common.{◌≡◌, drop}
 use Rattle.rasn_types.specs.Alphabets.{has}
-use Rattle.rasn_defaults.specs.Told.{are_all}
+use Rattle.rasn_defaults.specs.AtDefault.{are_all}
 use Rattle.rasn_defaults.proofs.texts.are_own.Given as goal
 
 -- whether the type has all characters that are left is whether it has all

@@ -1,4 +1,4 @@
-use Rattle.rasn_defaults.proofs.Kept.{kept_own}
+use Rattle.rasn_defaults.proofs.TestedCharacters.{kept_own}
 use Rattle.rasn_defaults.proofs.texts.string_of.Goals as goal
 
 pub push_octets-requires : goal.push_octets-requires

@@ -268,7 +268,7 @@ pub decode_record-returns-in_err-outside : goal.decode_record-returns-in_err-out
 decode_record-returns-in_err-outside g t c =
     let p = err_from_is_err_and c.from_residual.result c.from_residual.ensures.1 in
     let L = g.met.D.Decoder.lawful in
-    let K = g.met.D.Decoder.scopes in
+    let K = g.met.D.Decoder.fields in
     let ts = c.args.kinds.now in
     let r = c.args.sequence.now in
     let ps = parts_at in_root ts r.root.items in
@@ -281,7 +281,7 @@ pub decode_record-returns-in_err-root : goal.decode_record-returns-in_err-root
 decode_record-returns-in_err-root g t c =
     let p = err_from_is_err_and c.from_residual-in_err-root.result c.from_residual-in_err-root.ensures.1 in
     let L = g.met.D.Decoder.lawful in
-    let K = g.met.D.Decoder.scopes in
+    let K = g.met.D.Decoder.fields in
     let ts = c.args.kinds.now in
     let r = c.args.sequence.now in
     let ps = parts_at in_root ts r.root.items in
@@ -301,7 +301,7 @@ pub decode_record-returns-in_err-added : goal.decode_record-returns-in_err-added
 decode_record-returns-in_err-added g t c =
     let p = err_from_is_err_and c.from_residual-in_err-added.result c.from_residual-in_err-added.ensures.1 in
     let L = g.met.D.Decoder.lawful in
-    let K = g.met.D.Decoder.scopes in
+    let K = g.met.D.Decoder.fields in
     let ts = c.args.kinds.now in
     let r = c.args.sequence.now in
     let ps = parts_at in_root ts r.root.items in
@@ -322,7 +322,7 @@ pub decode_record-returns-in_err-close_fields_of : goal.decode_record-returns-in
 decode_record-returns-in_err-close_fields_of g t c =
     let p = err_from_is_err_and c.from_residual-in_err-close_fields_of.result c.from_residual-in_err-close_fields_of.ensures.1 in
     let L = g.met.D.Decoder.lawful in
-    let K = g.met.D.Decoder.scopes in
+    let K = g.met.D.Decoder.fields in
     let ts = c.args.kinds.now in
     let r = c.args.sequence.now in
     let ps = parts_at in_root ts r.root.items in
@@ -344,7 +344,7 @@ decode_record-returns-in_err-close_fields_of g t c =
 pub decode_record-close_fields_of-requires : goal.decode_record-close_fields_of-requires
 decode_record-close_fields_of-requires g t c =
     let L = g.met.D.Decoder.lawful in
-    let K = g.met.D.Decoder.scopes in
+    let K = g.met.D.Decoder.fields in
     let ts = c.args.kinds.now in
     let r = c.args.sequence.now in
     let ps = parts_at in_root ts r.root.items in
@@ -373,7 +373,7 @@ decode_record-close_fields_of-requires g t c =
 pub decode_record-returns : goal.decode_record-returns
 decode_record-returns g t c =
     let L = g.met.D.Decoder.lawful in
-    let K = g.met.D.Decoder.scopes in
+    let K = g.met.D.Decoder.fields in
     let ts = c.args.kinds.now in
     let r = c.args.sequence.now in
     let ps = parts_at in_root ts r.root.items in

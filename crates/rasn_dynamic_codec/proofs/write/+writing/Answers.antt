@@ -10,9 +10,9 @@ use Rattle.rasn_schema.specs.Normal.{normals}
 use Rattle.rasn_schema.specs.Schemas
 use Rattle.rasn_traits.specs.Scopes.{presents_fields}
 use Rattle.rasn_traits.proofs.Writing.{record_addition_refused, record_ended, record_root_refused}
-use Rattle.rasn_dynamic_codec.proofs.Given.{contents_closed, contents_refused, group_closed, group_refused, group_surplus, is_group_of, octets_refused, settled_written, value_closed, value_refused}
+use Rattle.rasn_dynamic_codec.proofs.AdditionLaws.{contents_closed, contents_refused, group_closed, group_refused, group_surplus, is_group_of, octets_refused, settled_written, value_closed, value_refused}
 use Rattle.rasn_dynamic_codec.proofs.Members.{awaits_member, bags}
-use Rattle.rasn_dynamic_codec.proofs.Elements.{awaits_element, before_element, behind_elements, closed, element_refused, lists, next_refused, opened, unopened}
+use Rattle.rasn_dynamic_codec.proofs.Elements.{awaits_element, before_element, after_elements, closed, element_refused, lists, next_refused, opened, unopened}
 use Rattle.rasn_traits.specs.Moments.{date_at}
 use Rattle.rasn_dynamic.specs.declared.values.Value.TheVariants.{rolls-Bag, rolls-Elements, rolls-Fields, rolls-Alternative}
 use Rattle.rasn_dynamic.specs.Types.{behind, contained_at, grouped, in_root, is_not_required, of_size, parts_at, plain_at, record_schema, required_in, schema_at, simple_schema, alternative_counts, choice_of}
@@ -237,7 +237,7 @@ pub encode_elements-next_element_in_turn-requires : goal.encode_elements-next_el
 encode_elements-next_element_in_turn-requires g t c = record { in_turn = before_element c.loop-value.invariant _ c.loop-value-test.true c.value-item.is }
 
 pub encode_elements-close_elements-requires : goal.encode_elements-close_elements-requires
-encode_elements-close_elements-requires g t c = record { in_turn = behind_elements c.loop-value.invariant c.loop-value-test.false }
+encode_elements-close_elements-requires g t c = record { in_turn = after_elements c.loop-value.invariant c.loop-value-test.false }
 
 pub encode_components-encode_component-requires : goal.encode_components-encode_component-requires
 encode_components-encode_component-requires g t c = grind (arith, common_steps, deepest_at c.args.values.now _ _ c.loop-index-test.true c.index-values-index.is)
@@ -474,7 +474,7 @@ pub encode_members-next_member_in_turn-requires : goal.encode_members-next_membe
 encode_members-next_member_in_turn-requires g t c = record { in_turn = before_element c.loop-value.invariant _ c.loop-value-test.true c.value-item.is }
 
 pub encode_members-close_members-requires : goal.encode_members-close_members-requires
-encode_members-close_members-requires g t c = record { in_turn = behind_elements c.loop-value.invariant c.loop-value-test.false }
+encode_members-close_members-requires g t c = record { in_turn = after_elements c.loop-value.invariant c.loop-value-test.false }
 
 pub encode_component-returns-in-Group : goal.encode_component-returns-in-Group
 encode_component-returns-in-Group g t c = λ q. rw c.in-Group.is c.encode_optional-in-Group.ensures

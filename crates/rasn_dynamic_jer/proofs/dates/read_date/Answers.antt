@@ -1,7 +1,7 @@
 use Rattle.std.proofs.Common.{◌∙◌, sym, ap, subst, List, ℕ, Option, option_map}
 use Rattle.std.specs.Option.{option_and_then}
 use Rattle.rasn_dynamic_jer.specs.Days.{date_told}
-use Rattle.rasn_dynamic_jer.specs.Told.{TellsValue}
+use Rattle.rasn_dynamic_jer.specs.FromJson.{TellsValue}
 use Rattle.rasn_dynamic_jer.proofs.dates.read_date.Goals as goal
 
 pub returns-in-Some : goal.returns-in-Some

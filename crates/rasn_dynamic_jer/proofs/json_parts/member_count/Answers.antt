@@ -1,6 +1,6 @@
 use Rattle.std.proofs.Common.{◌∙◌, sym, ap, option_map}
 use Rattle.json.specs.Value.{members_view}
-use Rattle.rasn_dynamic_jer.specs.Told.{member_count}
+use Rattle.rasn_dynamic_jer.specs.FromJson.{member_count}
 use Rattle.rasn_dynamic_jer.proofs.Parts.{keys_count}
 use Rattle.rasn_dynamic_jer.proofs.json_parts.member_count.Goals as goal
 

@@ -2,7 +2,7 @@ use Rattle.std.proofs.Common.{◌∙◌, List, ℕ, rules}
 use Rattle.std.proofs.lemmas.Iterator.{YieldsList-from_slice}
 use Rattle.std.proofs.lemmas.Iterator.Search.{all_from_yields_List}
 use borrow.Author.Tests.{tests}
-use Rattle.rasn_dynamic_jer.specs.Told.{is_member}
+use Rattle.rasn_dynamic_jer.specs.FromJson.{is_member}
 use Rattle.rasn_dynamic_jer.proofs.Parts.{keys_all}
 use Rattle.rasn_dynamic_jer.proofs.names.are_members.Goals as goal
 

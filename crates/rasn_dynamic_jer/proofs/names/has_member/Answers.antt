@@ -4,7 +4,7 @@ use Rattle.std.proofs.lemmas.Iterator.Search.{any_from_yields_List}
 use borrow.Author.Tests.{tests}
 use Rattle.rasn_dynamic.specs.declared.types.Component.{Component}
 use Rattle.json.specs.Value.{value_view}
-use Rattle.rasn_dynamic_jer.specs.Told.{own_member}
+use Rattle.rasn_dynamic_jer.specs.FromJson.{own_member}
 use Rattle.rasn_dynamic_jer.proofs.names.has_member.Goals as goal
 
 pub returns : goal.returns

@@ -4,7 +4,7 @@ use Rattle.std.proofs.lemmas.Iterator.Search.{any_from_yields_List}
 use borrow.Author.Tests.{tests}
 use Rattle.rasn_dynamic.specs.declared.types.Component.{Component}
 use Rattle.rasn_dynamic_jer.specs.Shown.{group_in}
-use Rattle.rasn_dynamic_jer.specs.Told.{is_addition}
+use Rattle.rasn_dynamic_jer.specs.FromJson.{is_addition}
 use Rattle.rasn_dynamic_jer.proofs.names.is_added.Goals as goal
 
 pub returns : goal.returns

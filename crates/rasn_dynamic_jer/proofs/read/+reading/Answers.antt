@@ -15,7 +15,7 @@ use Rattle.rasn_dynamic.specs.declared.types.Alternative.{Alternative}
 use Rattle.rasn_dynamic.specs.declared.types.Kind.{Kind}
 use Rattle.rasn_dynamic.specs.declared.types.Record.{Record}
 use Rattle.rasn_dynamic.specs.declared.types.Row.{Row}
-use Rattle.rasn_dynamic_jer.specs.Told.{addition_told, additions_told, alternative_told, chosen_told, components_told, group_told, has_member, members_told, one_told, slot_told, TellsSlot, TellsValue, TellsValues, told_at, told_by, told_in, items_told, values_told, octets_in, one_row_told, open_told, read_told, row_told}
+use Rattle.rasn_dynamic_jer.specs.FromJson.{addition_told, additions_told, alternative_told, chosen_told, components_told, group_told, has_member, members_told, one_told, slot_told, TellsSlot, TellsValue, TellsValues, told_at, told_by, told_in, items_told, values_told, octets_in, one_row_told, open_told, read_told, row_told}
 use Rattle.rasn_dynamic_jer.proofs.Gathered.{no_more, one_lacks, one_more}
 use Rattle.rasn_dynamic_jer.proofs.Parts.{items_each}
 use Rattle.rasn_dynamic_jer.proofs.Records.{all_fields, group_lacks, no_additions, no_group, no_root, not_members, not_one, not_one_row, one_member, value_slot, whole_group}

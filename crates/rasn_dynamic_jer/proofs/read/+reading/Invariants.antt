@@ -4,7 +4,7 @@ use Rattle.rasn_dynamic.specs.declared.types.Component.{Component}
 use Rattle.rasn_dynamic.specs.Values.{slot_of, value_of}
 use Rattle.json.specs.Value.{value_view}
 use Rattle.rasn_dynamic_jer.specs.Shown.{group_in}
-use Rattle.rasn_dynamic_jer.specs.Told.{addition_told, component_told, told_at}
+use Rattle.rasn_dynamic_jer.specs.FromJson.{addition_told, component_told, told_at}
 use Rattle.rasn_dynamic_jer.proofs.Gathered.{before}
 use Rattle.rasn_dynamic_jer.proofs.read.+reading.Given as goal
 

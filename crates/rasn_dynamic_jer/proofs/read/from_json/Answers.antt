@@ -3,7 +3,7 @@ use Rattle.std.proofs.lemmas.Result.{err_from_is_err_and}
 use Rattle.rasn_dynamic.specs.declared.types.Kind.{Kind}
 use Rattle.json.specs.Json.{max_depth}
 use Rattle.json.specs.Value.{value_view}
-use Rattle.rasn_dynamic_jer.specs.Told.{TellsValue, told_at, unread}
+use Rattle.rasn_dynamic_jer.specs.FromJson.{TellsValue, told_at, unread}
 use Rattle.rasn_dynamic_jer.proofs.Untold.{text_told}
 use Rattle.rasn_dynamic_jer.proofs.read.from_json.Goals as goal
 

@@ -1,6 +1,6 @@
 use Rattle.std.proofs.Common.{inr}
 use Rattle.rasn_types.specs.Contents.{generalized}
-use Rattle.rasn_dynamic_jer.specs.Told.{characters_told, time_told}
+use Rattle.rasn_dynamic_jer.specs.FromJson.{characters_told, time_told}
 use Rattle.rasn_dynamic_jer.proofs.TimesTold.{told_time, untold_text, untold_time}
 use Rattle.rasn_dynamic_jer.proofs.Untold.{untold_by}
 use Rattle.rasn_dynamic_jer.proofs.read_simple.generalized_time_of.Goals as goal

@@ -7,7 +7,7 @@ use Rattle.std.proofs.lemmas.Iterator.{YieldsList-from_chars}
 use Rattle.std.proofs.lemmas.Iterator.Consumers.{YieldsList-end, YieldsList-turn}
 use Rattle.std.proofs.lemmas.List.Folds.{list_all-append, list_all_at}
 use Rattle.rasn_types.specs.Values.{octets}
-use Rattle.rasn_dynamic_jer.specs.Told.{latin_told}
+use Rattle.rasn_dynamic_jer.specs.FromJson.{latin_told}
 use Rattle.rasn_dynamic_jer.proofs.Untold.{octets_slot}
 use Rattle.rasn_dynamic_jer.proofs.read_simple.latin_of.Goals as goal
 

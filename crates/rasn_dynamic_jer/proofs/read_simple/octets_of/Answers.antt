@@ -3,7 +3,7 @@ use Rattle.std.specs.Result.{result_ok}
 use Rattle.hex.specs.Hex.{decode_of}
 use Rattle.hex.specs.declared.error.FromHexError.{FromHexError}
 use Rattle.hex.specs.declared.error.FromHexError.TheVariants as HexErrors
-use Rattle.rasn_dynamic_jer.specs.Told.{IsUntold, octets_in}
+use Rattle.rasn_dynamic_jer.specs.FromJson.{IsUntold, octets_in}
 use Rattle.rasn_dynamic_jer.specs.declared.from_json_error.FromJsonError.{FromJsonError}
 use Rattle.rasn_dynamic_jer.specs.declared.from_json_error.FromJsonError.TheVariants.{OutOfMemory}
 use Rattle.rasn_dynamic_jer.proofs.read_simple.octets_of.Goals as goal

@@ -1,7 +1,7 @@
 use Rattle.std.proofs.Common.{◌∙◌, sym, ap, subst, List, ℕ, Option, option_map}
 use Rattle.json.specs.Value.{value_view}
 use Rattle.rasn_dynamic_jer.specs.Leaves.{fixed_by}
-use Rattle.rasn_dynamic_jer.specs.Told.{bits_told, fixed_told, TellsValue}
+use Rattle.rasn_dynamic_jer.specs.FromJson.{bits_told, fixed_told, TellsValue}
 use Rattle.rasn_dynamic_jer.proofs.read_simple.read_bits.Goals as goal
 
 pub returns-in-Some : goal.returns-in-Some

@@ -1,7 +1,7 @@
 use Rattle.std.proofs.Common.{◌∙◌, sym, ap, subst, List, ℕ, Option, option_map}
 use Rattle.std.specs.Option.{option_and_then}
 use Rattle.rasn_types.specs.Contents.{generalized}
-use Rattle.rasn_dynamic_jer.specs.Told.{time_told, TellsValue}
+use Rattle.rasn_dynamic_jer.specs.FromJson.{time_told, TellsValue}
 use Rattle.rasn_dynamic_jer.proofs.read_simple.read_generalized_time.Goals as goal
 
 pub returns-in-Some : goal.returns-in-Some

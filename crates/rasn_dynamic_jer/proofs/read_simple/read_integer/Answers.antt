@@ -1,6 +1,6 @@
 use Rattle.std.proofs.Common.{◌∙◌, sym, ap, subst, List, ℕ, Option, option_map}
 use Rattle.std.specs.Option.{option_and_then}
-use Rattle.rasn_dynamic_jer.specs.Told.{whole_told, TellsValue}
+use Rattle.rasn_dynamic_jer.specs.FromJson.{whole_told, TellsValue}
 use Rattle.rasn_dynamic_jer.proofs.read_simple.read_integer.Goals as goal
 
 pub returns-in-Some : goal.returns-in-Some

@@ -4,7 +4,7 @@ use Rattle.std.proofs.lemmas.Result.{err_from_is_err_and}
 use Rattle.rasn_types.specs.Values.{octets}
 use Rattle.json.specs.Find.{as_str}
 use Rattle.json.specs.Value.{value_view}
-use Rattle.rasn_dynamic_jer.specs.Told.{octets_in}
+use Rattle.rasn_dynamic_jer.specs.FromJson.{octets_in}
 use Rattle.rasn_dynamic_jer.proofs.Untold.{octets_slot, untold_by}
 use Rattle.rasn_dynamic_jer.proofs.read_simple.read_octets.Goals as goal
 

@@ -2,7 +2,7 @@ use Rattle.std.proofs.Common.{◌≡◌, ap, ◌∙◌, sym, subst, Some, inr, o
 use borrow.Author.Rules.{to_z-of_z_to}
 use Rattle.std.specs.Int.{w128}
 use Rattle.rasn_types.specs.Values.{whole}
-use Rattle.rasn_dynamic_jer.specs.Told.{whole_told}
+use Rattle.rasn_dynamic_jer.specs.FromJson.{whole_told}
 use Rattle.rasn_dynamic_jer.proofs.Digits.{whole_none, whole_some}
 use Rattle.rasn_dynamic_jer.proofs.Untold.{integer_slot}
 use Rattle.rasn_dynamic_jer.proofs.read_simple.whole_of.Goals as goal

@@ -1,7 +1,7 @@
 use Rattle.std.proofs.Common.{◌∙◌, ◌≤◌, ◌*◌, ap, refl, subst, length, sym, Err}
 use Rattle.std.proofs.lemmas.Result.{err_from_is_err_and}
-use Rattle.rasn_per.proofs.Answered.{read_front, unread_front, none_behind}
-use Rattle.rasn_per.proofs.Few.{few_in_front}
+use Rattle.rasn_per.proofs.Answered.{read_front, unread_front, none_after}
+use Rattle.rasn_per.proofs.ItemCounts.{few_in_front}
 use Rattle.rasn_per.proofs.Decoded.{begun_basically, left_within}
 use Rattle.rasn_per.proofs.complete.decode_front.Goals as goal
 
@@ -24,7 +24,7 @@ returns-in-Ok-clause-decoded g c =
 
 pub returns-clause-decoded : goal.returns-clause-decoded
 returns-clause-decoded g c =
-    none_behind c.args.options.codec (g.S.DecodeAs.schema c.args.schema.now) g.S.DecodeAs.value_of c.args.octets.now _
+    none_after c.args.options.codec (g.S.DecodeAs.schema c.args.schema.now) g.S.DecodeAs.value_of c.args.octets.now _
     (begun_basically c.args.options _ _ _ c.from_octets-decoder.ensures c.requires.levels c.requires.padding refl) c.in-Err.why _ _ _ _ _ (c.len.ensures ∙ ap length c.input.ensures.bits)
     c.refusal.ensures c.codec.ensures c.in_ok-value.ensures.law c.in-Err.ensures.none c.in-Err.ensures.why
 

@@ -3,7 +3,7 @@ use Rattle.std.specs.Result.{is_err}
 use Rattle.per_core.specs.Ends.{Ends, IsWhy}
 use Rattle.rasn_types.proofs.Reading.{are_octets}
 use Rattle.rasn_per.proofs.Answered.{read, unread, surplus}
-use Rattle.rasn_per.proofs.Few.{few}
+use Rattle.rasn_per.proofs.ItemCounts.{few}
 use Rattle.rasn_per.proofs.Decoded.{begun, full_octets}
 use Rattle.rasn_per.proofs.complete.decode_in.Goals as goal
 
@@ -26,16 +26,16 @@ returns-then-is_err-clause-decoded g c =
 pub ended-requires-clause-octets : goal.ended-requires-clause-octets
 ended-requires-clause-octets g c = full_octets _ _ _ c.from_octets.ensures.bits c.len-total.ensures
 
-pub returns-in-Ok-clause-decoded : goal.returns-in-Ok-clause-decoded
-returns-in-Ok-clause-decoded g c =
+pub returns-clause-decoded : goal.returns-clause-decoded
+returns-clause-decoded g c =
     let q = answered c.decode_as-decoded.result c.if-is_err.ensures.value in
     let h = rw q.1 at c.decode_as-decoded.ensures in
     rw q.1 (read c.args.options.codec c.args.options.zero_padding (g.S.DecodeAs.schema c.args.schema.now) g.S.DecodeAs.value_of c.args.octets.now _
     (begun c.args.options _ _ _ c.from_octets-decoder.ensures c.requires refl) _ _ _ (are_octets _ c.type_inv.octets) h.law
     (record { left = c.input.result.bits; total = c.len-total.result; ends = subst (λ z. Ends z c.input.result.bits c.len-total.result) c.needs_zero_padding.ensures c.in-Ok.ensures.ok; left_is = c.input.ensures.bits; total_is = c.len-total.ensures; all = c.from_octets.ensures.bits }))
 
-pub returns-clause-decoded : goal.returns-clause-decoded
-returns-clause-decoded g c =
+pub returns-in-Err-clause-decoded : goal.returns-in-Err-clause-decoded
+returns-in-Err-clause-decoded g c =
     let q = answered c.decode_as-decoded.result c.if-is_err.ensures.value in
     let h = rw q.1 at c.decode_as-decoded.ensures in
     surplus c.args.options.codec c.args.options.zero_padding (g.S.DecodeAs.schema c.args.schema.now) g.S.DecodeAs.value_of c.args.octets.now _
@@ -46,8 +46,8 @@ returns-clause-decoded g c =
 pub returns-then-is_err-clause-few : goal.returns-then-is_err-clause-few
 returns-then-is_err-clause-few g c = few c.args.options.codec (g.S.DecodeAs.schema c.args.schema.now) g.S.DecodeAs.value_of c.args.octets.now c.args.options.zero_padding _ (returns-then-is_err-clause-decoded g c)
 
-pub returns-in-Ok-clause-few : goal.returns-in-Ok-clause-few
-returns-in-Ok-clause-few g c = few c.args.options.codec (g.S.DecodeAs.schema c.args.schema.now) g.S.DecodeAs.value_of c.args.octets.now c.args.options.zero_padding _ (returns-in-Ok-clause-decoded g c)
-
 pub returns-clause-few : goal.returns-clause-few
 returns-clause-few g c = few c.args.options.codec (g.S.DecodeAs.schema c.args.schema.now) g.S.DecodeAs.value_of c.args.octets.now c.args.options.zero_padding _ (returns-clause-decoded g c)
+
+pub returns-in-Err-clause-few : goal.returns-in-Err-clause-few
+returns-in-Err-clause-few g c = few c.args.options.codec (g.S.DecodeAs.schema c.args.schema.now) g.S.DecodeAs.value_of c.args.octets.now c.args.options.zero_padding _ (returns-in-Err-clause-decoded g c)

@@ -1,4 +1,4 @@
-use Rattle.rasn_per.proofs.Few.{few}
+use Rattle.rasn_per.proofs.ItemCounts.{few}
 use Rattle.rasn_per.proofs.counts.decoded_items_are_few.Goals as goal
 
 pub returns : goal.returns

@@ -1,4 +1,4 @@
-use Rattle.rasn_per.proofs.Few.{few_in_front}
+use Rattle.rasn_per.proofs.ItemCounts.{few_in_front}
 use Rattle.rasn_per.proofs.counts.decoded_items_in_front_are_few.Goals as goal
 
 pub returns : goal.returns

@@ -1,4 +1,4 @@
-use Rattle.rasn_record.proofs.Within.{held_within}
+use Rattle.rasn_record.proofs.LevelsWithin.{held_within}
 use Rattle.rasn_record.proofs.write.extended.Goals as goal
 
 pub all-requires-clause-depth : goal.all-requires-clause-depth

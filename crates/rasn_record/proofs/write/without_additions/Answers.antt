@@ -1,4 +1,4 @@
-use Rattle.rasn_record.proofs.Within.{plain_within}
+use Rattle.rasn_record.proofs.LevelsWithin.{plain_within}
 use Rattle.rasn_record.proofs.write.without_additions.Goals as goal
 
 pub all-requires-clause-depth : goal.all-requires-clause-depth

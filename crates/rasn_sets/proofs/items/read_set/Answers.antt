@@ -2,7 +2,7 @@ use Rattle.std.proofs.Common.{refl}
 use Rattle.std.proofs.lemmas.Result.{err_from_is_err_and}
 use Rattle.rasn_sets.specs.Components.{GivesSet}
 use Rattle.rasn_sets.proofs.Ends.{made_ends}
-use Rattle.rasn_sets.proofs.Made.{set_made}
+use Rattle.rasn_sets.proofs.SetsMade.{set_made}
 use Rattle.rasn_sets.proofs.items.read_set.Goals as goal
 
 pub returns-in_err-items : goal.returns-in_err-items

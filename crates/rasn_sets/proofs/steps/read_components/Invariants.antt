@@ -3,7 +3,7 @@ use Rattle.rasn_sets.specs.Components.{GivesItem, KeepsEach}
 use Rattle.rasn_sets.specs.Turns.{FailsRoot, ReadsRoot}
 use Rattle.rasn_sets.proofs.steps.read_components.Given as goal
 
--- what is read of the fields left is read of all fields, behind what was read before
+-- what is read of the fields left is read of all fields, after what was read before
 abbrev pub invariant-loop-field : goal.invariant-loop-field
 invariant-loop-field g l =
     let r = g.D.Decoder.rules in

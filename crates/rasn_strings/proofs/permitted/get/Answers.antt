@@ -2,7 +2,7 @@ use Rattle.std.proofs.Common.{◌≡◌, ◌∙◌, sym, ap, ◌+◌, slice_get,
 use Rattle.rasn_types.specs.Alphabets.{restricted}
 use Rattle.rasn_strings.specs.Intervals.{expand}
 use Rattle.rasn_strings.specs.Walks.{from_on}
-use Rattle.rasn_strings.proofs.Walking.{begins, next_some, next_none, drop_behind, get_dropped, get_past}
+use Rattle.rasn_strings.proofs.Walking.{begins, next_some, next_none, drop_after, get_dropped, get_past}
 use Rattle.rasn_strings.proofs.permitted.get.Goals as goal
 
 pub loop-init : goal.loop-init
@@ -13,7 +13,7 @@ returns-in_err-at c = let t = c.loop-test.true in
     c.from_residual.ensures ∙ sym (get_past c.loop.counter c.args.index (restricted (expand c.args.own.now) c.args.permitted.now) (omega arith) (sym c.loop.invariant ∙ next_none c.args.own.now c.args.permitted.now c.loop.at c.in_err-at.ensures.value))
 
 pub loop-preserved : goal.loop-preserved
-loop-preserved c = sym (drop_behind c.loop.counter c.in_ok-at.field-0 (restricted (expand c.args.own.now) c.args.permitted.now) (from_on (c.in_ok-at.field-0 + 1) (restricted (expand c.args.own.now) c.args.permitted.now)) (sym c.loop.invariant ∙ (next_some c.args.own.now c.args.permitted.now c.loop.at c.in_ok-at.field-0 c.requires c.in_ok-at.ensures.value).left))
+loop-preserved c = sym (drop_after c.loop.counter c.in_ok-at.field-0 (restricted (expand c.args.own.now) c.args.permitted.now) (from_on (c.in_ok-at.field-0 + 1) (restricted (expand c.args.own.now) c.args.permitted.now)) (sym c.loop.invariant ∙ (next_some c.args.own.now c.args.permitted.now c.loop.at c.in_ok-at.field-0 c.requires c.in_ok-at.ensures.value).left))
 
 pub returns : goal.returns
 returns c = let t = c.loop-test.false in let u = c.loop.auto.counter-end in

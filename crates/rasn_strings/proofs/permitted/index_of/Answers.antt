@@ -4,7 +4,7 @@ use Rattle.rasn_strings.specs.Intervals.{expand}
 use Rattle.rasn_strings.specs.Walks.{from_on}
 use Rattle.rasn_strings.proofs.Ascending.{length-restricted}
 use Rattle.rasn_strings.proofs.IntervalsOf.{later, later-zero}
-use Rattle.rasn_strings.proofs.Walking.{begins, next_some, next_none, place_here, place_behind}
+use Rattle.rasn_strings.proofs.Walking.{begins, next_some, next_none, place_here, place_after}
 use Rattle.rasn_strings.proofs.permitted.index_of.Goals as goal
 
 pub loop-next-init : goal.loop-next-init
@@ -26,7 +26,7 @@ loop-next-smaller c = omega (arith, ap length (next_some c.args.own.now c.args.p
 pub loop-next-preserved : goal.loop-next-preserved
 loop-next-preserved c = let n = (next_some c.args.own.now c.args.permitted.now c.loop-next.at c.in-Some.next c.requires c.in-Some.ensures.value) in record {
   counted = omega (arith, ap length n.left);
-  passed = sym (place_behind c.loop-next.index c.args.character c.in-Some.next (from_on c.loop-next.at (restricted (expand c.args.own.now) c.args.permitted.now)) _ n.left c.if-next-character.false) ∙ c.loop-next.invariant.passed;
+  passed = sym (place_after c.loop-next.index c.args.character c.in-Some.next (from_on c.loop-next.at (restricted (expand c.args.own.now) c.args.permitted.now)) _ n.left c.if-next-character.false) ∙ c.loop-next.invariant.passed;
 }
 
 pub returns : goal.returns

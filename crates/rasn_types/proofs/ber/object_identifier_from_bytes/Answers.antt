@@ -1,7 +1,7 @@
 use Rattle.std.proofs.Common.{◌≡◌, refl, sym, ◌∙◌, ap, arith, inl, inr, true}
 use borrow.Author.Tests.{eqb-true, eqb-false}
 use Rattle.rasn_types.specs.Contents.{is_identifier}
-use Rattle.rasn_types.specs.Identifiers.{are_arcs, contents, limit_behind}
+use Rattle.rasn_types.specs.Identifiers.{are_arcs, contents, limit_after}
 use Rattle.rasn_types.proofs.ContentsRead.{is_identifier-contents, one_contents}
 use Rattle.rasn_types.proofs.Walking.{at_limit, begins, goes_on, ends, stops_at_limit, unfinished, finished}
 use Rattle.rasn_types.proofs.ber.object_identifier_from_bytes.Goals as goal
@@ -11,14 +11,14 @@ pub loop-octet-init : goal.loop-octet-init
 loop-octet-init c = rw c.new-arcs.ensures.items (begins c.args.octets.now)
 
 pub returns-in_default-clause-refused : goal.returns-in_default-clause-refused
-returns-in_default-clause-refused c = λ e. stops_at_limit c.args.octets.now c.loop-octet.arcs.items c.limit_of_next.result c.loop-octet.octet-index c.loop-octet.begun _ (c.limit_of_next.ensures ∙ ap limit_behind c.deref.ensures.value) c.loop-octet-test.true refl c.in_default.ensures c.loop-octet.invariant
+returns-in_default-clause-refused c = λ e. stops_at_limit c.args.octets.now c.loop-octet.arcs.items c.limit_of_next.result c.loop-octet.octet-index c.loop-octet.begun _ (c.limit_of_next.ensures ∙ ap limit_after c.deref.ensures.value) c.loop-octet-test.true refl c.in_default.ensures c.loop-octet.invariant
 
 pub loop-octet-preserved : goal.loop-octet-preserved
 loop-octet-preserved c = elim c.if-octet-lt128.branch [
   | then-octet-lt128+in_ok-push_arcs w ↦ rw (w.begun-is, w.arcs-is) (ends c.args.octets.now c.loop-octet.arcs.items w.push_arcs.new.arcs.items c.loop-octet.octet-index c.loop-octet.begun _ c.in-Some.number c.loop-octet-test.true refl w.if-octet-lt128.true
-      (at_limit c.loop-octet.arcs.items c.limit_of_next.result c.loop-octet.begun _ c.in-Some.number (c.limit_of_next.ensures ∙ ap limit_behind c.deref.ensures.value) c.in-Some.ensures) c.loop-octet.invariant w.in_ok-push_arcs.ensures.lawful w.in_ok-push_arcs.ensures.read)
+      (at_limit c.loop-octet.arcs.items c.limit_of_next.result c.loop-octet.begun _ c.in-Some.number (c.limit_of_next.ensures ∙ ap limit_after c.deref.ensures.value) c.in-Some.ensures) c.loop-octet.invariant w.in_ok-push_arcs.ensures.lawful w.in_ok-push_arcs.ensures.read)
   | else-octet-lt128 w ↦ rw (w.begun-is, w.arcs-is) (goes_on c.args.octets.now c.loop-octet.arcs.items c.loop-octet.octet-index c.loop-octet.begun _ c.in-Some.number c.loop-octet-test.true refl (c.type_inv.octets c.loop-octet.octet-index).fits w.if-octet-lt128.false
-      (at_limit c.loop-octet.arcs.items c.limit_of_next.result c.loop-octet.begun _ c.in-Some.number (c.limit_of_next.ensures ∙ ap limit_behind c.deref.ensures.value) c.in-Some.ensures) c.loop-octet.invariant)
+      (at_limit c.loop-octet.arcs.items c.limit_of_next.result c.loop-octet.begun _ c.in-Some.number (c.limit_of_next.ensures ∙ ap limit_after c.deref.ensures.value) c.in-Some.ensures) c.loop-octet.invariant)
 ]
 
 pub returns-then-is_empty-clause-refused : goal.returns-then-is_empty-clause-refused

@@ -1,5 +1,5 @@
 use Rattle.std.specs.Prelude.{length, take}
-use Rattle.schema_file.specs.Inside.{AlternativesAreInside}
+use Rattle.schema_file.specs.PlacesInside.{AlternativesAreInside}
 use Rattle.schema_file.proofs.judge.judge_alternatives.Given as goal
 
 abbrev pub invariant-loop-alternative : goal.invariant-loop-alternative

@@ -1,5 +1,5 @@
 use Rattle.std.specs.Prelude.{length, take}
-use Rattle.schema_file.specs.Inside.{ComponentsAreInside}
+use Rattle.schema_file.specs.PlacesInside.{ComponentsAreInside}
 use Rattle.schema_file.proofs.judge.judge_components.Given as goal
 
 abbrev pub invariant-loop-component : goal.invariant-loop-component

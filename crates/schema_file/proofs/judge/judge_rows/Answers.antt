@@ -2,7 +2,7 @@ use Rattle.std.proofs.Common.{◌<◌, length, subst}
 use Rattle.std.specs.List.{All}
 use Rattle.std.proofs.lemmas.List.{take_all}
 use Rattle.std.proofs.lemmas.List.Elements.{All-more}
-use Rattle.schema_file.specs.Inside.{RowsAreInside}
+use Rattle.schema_file.specs.PlacesInside.{RowsAreInside}
 use Rattle.schema_file.proofs.judge.judge_rows.Goals as goal
 
 pub loop-row-preserved : goal.loop-row-preserved

@@ -2,7 +2,7 @@ use Rattle.std.proofs.Common.{rules, length, subst}
 use Rattle.std.specs.List.{All}
 use Rattle.std.proofs.lemmas.List.{take_all}
 use Rattle.std.proofs.lemmas.List.Elements.{All-more}
-use Rattle.schema_file.specs.Inside.{KindIsInside}
+use Rattle.schema_file.specs.PlacesInside.{KindIsInside}
 use Rattle.schema_file.proofs.load.judge_all.Goals as goal
 
 pub loop-place-preserved : goal.loop-place-preserved

@@ -1,6 +1,6 @@
 use Rattle.std.specs.Prelude.{length, take}
 use Rattle.std.specs.List.{All}
-use Rattle.schema_file.specs.Inside.{KindIsInside}
+use Rattle.schema_file.specs.PlacesInside.{KindIsInside}
 use Rattle.schema_file.proofs.load.judge_all.Given as goal
 
 abbrev pub invariant-loop-place : goal.invariant-loop-place

@@ -1,6 +1,6 @@
 use Rattle.std.proofs.Common.{zero, suc}
 use Rattle.per_core.specs.Versions.{also, newer_sequence, no_more, unchanged}
-use Rattle.per_laws.specs.Named.{without_names}
+use Rattle.per_laws.specs.NamedBits.{without_names}
 use Rattle.versions_of_samples.proofs.forbidden.bits_stay_with_names_or_without.Goals as goal
 
 pub returns-clause-but_for_names : goal.returns-clause-but_for_names

@@ -1,4 +1,4 @@
-use Rattle.message_lines.proofs.Made.{unmade_text}
+use Rattle.message_lines.proofs.UnmadeOctets.{unmade_text}
 use Rattle.message_lines.proofs.replies.Messages.made.Goals as goal
 
 pub returns-in-Err-clause-err : goal.returns-in-Err-clause-err

@@ -1,4 +1,4 @@
-use Rattle.message_lines.proofs.Made.{of_fault}
+use Rattle.message_lines.proofs.UnmadeOctets.{of_fault}
 use Rattle.message_lines.proofs.replies.Messages.refused_text.Goals as goal
 
 pub returns-in-FromJson : goal.returns-in-FromJson

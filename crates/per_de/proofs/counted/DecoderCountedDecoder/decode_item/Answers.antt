@@ -1,5 +1,5 @@
 use Rattle.std.proofs.Common.{ap, ◌∙◌, length, refl, arith}
-use Rattle.per_read.specs.State.{State}
+use Rattle.per_read.specs.ReaderState.{ReaderState}
 use Rattle.per_de.proofs.AtPlaces.{reads_placed}
 use Rattle.per_de.proofs.Calls.{no_more_left, reads_freely}
 use Rattle.per_de.proofs.Enumerations.{no_item}
@@ -9,7 +9,7 @@ use Rattle.per_de.proofs.counted.DecoderCountedDecoder.decode_item.Goals as goal
 pub advance-requires : goal.advance-requires
 advance-requires c =
     let taken = rw c.in-Some.is at c.take_short_item-taken.ensures.took in
-    omega (arith, no_more_left taken.ok, c.len-left.ensures, ap length c.bits.ensures, ap (λ (x : State). length x.bits) c.reader-reader.ensures)
+    omega (arith, no_more_left taken.ok, c.len-left.ensures, ap length c.bits.ensures, ap (λ (x : ReaderState). length x.bits) c.reader-reader.ensures)
 
 pub returns : goal.returns
 returns c =

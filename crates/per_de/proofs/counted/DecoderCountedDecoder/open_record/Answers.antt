@@ -1,4 +1,6 @@
+use Rattle.std.proofs.Common.{ap}
 use Rattle.std.proofs.lemmas.Result.{err_from_is_err_and}
+use Rattle.per_decoding.specs.Turns.{awaiting}
 use Rattle.per_de.proofs.InTurn.{behaves_err, behaves_ok, deeper_noted, record_awaits, record_opened, record_unopened, still}
 use Rattle.per_de.proofs.counted.DecoderCountedDecoder.open_record.Goals as goal
 
@@ -24,8 +26,8 @@ returns c =
     let h = c.in_ok-scope.ensures in
     record {
       opened = λ ps marker adds many k. let l = h.opened ps marker adds k in record {
-        law = record_opened ps adds marker c.args.self.now c.begin_value.new.self c.enter_record.new.self c.set_turn.new.self
-            c.in_ok-scope.scope c.turn-turn.result _ c.in_ok-begin_value.ensures.noted c.turn-turn.ensures c.set_turn.ensures many l.law;
+        law = record_opened awaiting ps adds marker c.args.self.now c.begin_value.new.self c.enter_record.new.self c.set_turn.new.self
+            c.in_ok-scope.scope c.turn-turn.result _ c.in_ok-begin_value.ensures.noted c.turn-turn.ensures c.set_turn.ensures (λ n. ap awaiting (many n)) l.law;
         counts = record_awaits ps adds marker c.begin_value.new.self c.enter_record.new.self c.set_turn.new.self c.in_ok-scope.scope _ _ _
             (still c.args.self.now c.in_ok-begin_value.ensures.noted c.in_ok-begin_value.ensures.ok) c.set_turn.ensures many k.bits_are k.added_are l.law;
         behaves = behaves_ok c.args.self.now c.begin_value.new.self c.enter_record.new.self _ _ _ c.in_ok-begin_value.ensures.ok c.in_ok-begin_value.ensures.noted l.behaves.kept c.set_turn.ensures;

@@ -3,7 +3,7 @@ use Rattle.std.proofs.lemmas.Result.{err_from_is_err_and}
 use Rattle.per_core.specs.Canon.{ascending}
 use Rattle.per_enc.specs.Members.{writers_of}
 use Rattle.per_enc.specs.Bags.{OpenBag}
-use Rattle.per_write.specs.State.{State}
+use Rattle.per_write.specs.WriterState.{WriterState}
 use Rattle.per_enc.proofs.Opened.{all_kept, bag_closed, no_room, no_room_outside, out_of_turn, some_left}
 use Rattle.per_enc.proofs.bags.OpenBag.close.Goals as goal
 
@@ -27,8 +27,8 @@ returns-then-not-has_all g c =
       early = λ f x v vs h. inr (out_of_turn c.args.writer.now c.keep_member.new.writer _ c.keep_member.ensures.kept c.refuse.ensures.error);
       behaves = record {
         again = λ q. absurd (let r = c.requires in cc);
-        fails = ap (λ (s : State). s.failed) c.refuse.ensures.failed;
-        kept = ap (λ (s : State). s.codec) c.refuse.ensures.failed ∙ c.keep_member.ensures.kept;
+        fails = ap (λ (s : WriterState). s.failed) c.refuse.ensures.failed;
+        kept = ap (λ (s : WriterState). s.codec) c.refuse.ensures.failed ∙ c.keep_member.ensures.kept;
       };
     }
 
@@ -40,8 +40,8 @@ returns-in_err-unless_out_of_memory g c =
       early = λ f x v vs h. absurd (some_left f x v vs c.args.self c.args.writer.now h _ c.in_ok-keep_member.ensures.is (c.has_all.ensures.all c.if-not-has_all.false));
       behaves = record {
         again = λ q. absurd (let r = c.requires in cc);
-        fails = rw (p.1) (ap (λ (s : State). s.failed) c.in_err-unless_out_of_memory.ensures.fails);
-        kept = ap (λ (s : State). s.codec) c.in_err-unless_out_of_memory.ensures.fails ∙ c.keep_member.ensures.kept;
+        fails = rw (p.1) (ap (λ (s : WriterState). s.failed) c.in_err-unless_out_of_memory.ensures.fails);
+        kept = ap (λ (s : WriterState). s.codec) c.in_err-unless_out_of_memory.ensures.fails ∙ c.keep_member.ensures.kept;
       };
     }
 
@@ -56,6 +56,6 @@ returns g c =
       behaves = record {
         again = λ q. absurd (let r = c.requires in cc);
         fails = c.put_members.ensures.fails;
-        kept = c.put_members.ensures.kept ∙ ap (λ (s : State). s.codec) c.in_ok-unless_out_of_memory.ensures.kept ∙ c.keep_member.ensures.kept;
+        kept = c.put_members.ensures.kept ∙ ap (λ (s : WriterState). s.codec) c.in_ok-unless_out_of_memory.ensures.kept ∙ c.keep_member.ensures.kept;
       };
     }

@@ -1,6 +1,6 @@
 use Rattle.std.proofs.Common.{ap, ◌∙◌, rules, inl, inr}
 use Rattle.std.proofs.lemmas.Result.{err_from_is_err_and}
-use Rattle.per_write.specs.State.{State}
+use Rattle.per_write.specs.WriterState.{WriterState}
 use Rattle.per_enc.specs.Bags.{OpenBag}
 use Rattle.per_enc.proofs.Opened.{all_kept, member_awaited, no_room, no_room_outside, out_of_turn, some_left}
 use Rattle.per_enc.proofs.bags.OpenBag.next_member.Goals as goal
@@ -53,6 +53,6 @@ returns g c =
         late = λ f x h. absurd (all_kept f x c.args.self.now c.args.writer.now h _ c.in_ok-keep_member.ensures.is (c.has_all.ensures.some c.if-has_all.false));
         behaves = search rules;
       };
-      left = ap (λ (k : State). k.failed) c.in_ok-waiting.ensures.ok.same ∙ c.in_ok-waiting.ensures.ok.begun;
-      alone = ap (λ (k : State). k.scope) c.in_ok-waiting.ensures.ok.same;
+      left = ap (λ (k : WriterState). k.failed) c.in_ok-waiting.ensures.ok.same ∙ c.in_ok-waiting.ensures.ok.begun;
+      alone = ap (λ (k : WriterState). k.scope) c.in_ok-waiting.ensures.ok.same;
     }

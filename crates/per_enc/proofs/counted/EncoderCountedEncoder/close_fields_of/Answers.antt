@@ -2,8 +2,8 @@ use Rattle.std.proofs.Common.{refl}
 use Rattle.std.proofs.lemmas.Result.{err_from_is_err_and}
 use Rattle.per_pieces.specs.Turns.{uncounted}
 use Rattle.per_enc.specs.Rules.{noting}
-use Rattle.per_enc.proofs.Around.{sequence_closed}
-use Rattle.per_enc.proofs.Inside.{fields_inside}
+use Rattle.per_enc.proofs.AroundSets.{sequence_closed}
+use Rattle.per_enc.proofs.NoOpenSet.{fields_inside}
 use Rattle.per_enc.proofs.Records.{closes_record, not_failed_inside}
 use Rattle.per_enc.proofs.Noting.{behaves_begun}
 use Rattle.per_enc.proofs.counted.EncoderCountedEncoder.close_fields_of.Goals as goal

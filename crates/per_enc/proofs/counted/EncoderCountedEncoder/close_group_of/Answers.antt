@@ -3,9 +3,9 @@ use Rattle.std.proofs.lemmas.Result.{err_from_is_err_and}
 use Rattle.rasn_schema.specs.Normal.{settle}
 use Rattle.rasn_schema.specs.Schemas.{group}
 use Rattle.per_pieces.specs.Turns.{awaits, is_complete}
-use Rattle.per_enc.proofs.Around.{addition_closed}
+use Rattle.per_enc.proofs.AroundSets.{addition_closed}
 use Rattle.per_enc.proofs.Counting.{group_of_closed}
-use Rattle.per_enc.proofs.Inside.{value_inside}
+use Rattle.per_enc.proofs.NoOpenSet.{value_inside}
 use Rattle.per_enc.proofs.Noting.{behaves_begun}
 use Rattle.per_enc.proofs.Turns.{addition_untimely, behaves_unclosed, not_unclosed, unclosed_untimely, unfailed_in_addition}
 use Rattle.per_enc.proofs.counted.EncoderCountedEncoder.close_group_of.Goals as goal

@@ -3,8 +3,8 @@ use Rattle.std.proofs.lemmas.Result.{err_from_is_err_and}
 use Rattle.rasn_schema.specs.Schemas.{count}
 use Rattle.per_pieces.specs.Turns.{awaits, is_complete}
 use Rattle.per_enc.specs.Rules.{noting}
-use Rattle.per_enc.proofs.Around.{sequence_closed}
-use Rattle.per_enc.proofs.Inside.{fields_inside}
+use Rattle.per_enc.proofs.AroundSets.{sequence_closed}
+use Rattle.per_enc.proofs.NoOpenSet.{fields_inside}
 use Rattle.per_enc.proofs.Records.{closes_record}
 use Rattle.per_enc.proofs.Noting.{behaves_begun}
 use Rattle.per_enc.proofs.Turns.{all_came, behaves_unclosed, not_unclosed, record_untimely, unclosed_untimely, unfailed_in_record}

@@ -6,8 +6,8 @@ use Rattle.per_write.specs.Components.{Encoding}
 use Rattle.per_write.specs.Rules.{encoder_rules}
 use Rattle.per_pieces.specs.Turns.{uncounted}
 use Rattle.per_enc.specs.Records.{Opens}
-use Rattle.per_enc.proofs.Around.{sequence_opened}
-use Rattle.per_enc.proofs.Counting.{counted_behind, none_behind}
+use Rattle.per_enc.proofs.AroundSets.{sequence_opened}
+use Rattle.per_enc.proofs.Counting.{counted_after, none_after}
 use Rattle.per_enc.proofs.Noting.{behaves_begun, behaves_refused, noting_codec}
 use Rattle.per_enc.proofs.Presenting.{refuses_again}
 use Rattle.per_enc.proofs.Records.{opens_record}
@@ -22,8 +22,8 @@ returns g c =
         law = sequence_opened (λ n. uncounted) ps marker adds c.args.self.now (record { writer = c.open_record.new.self; set = c.self.inside.set }) c.in_ok-fields.fields c.in_ok-set.set c.in_ok-set.ensures.waits (λ n. ap (λ (z : Encoding). z.set) m)
             (subst (λ (z : Encoding). OpenedToWrite encoder_rules Opens listed ps marker adds z.writer (Ok c.in_ok-fields.fields) c.open_record.new.self) m
             (opens_record ps marker adds _ _ c.self.inside.writer _ (Ok c.in_ok-fields.fields) k.bits_are
-            (λ n. counted_behind c.args.additions marker (adds n) k.marked (k.added_are n))
-            (λ u n. none_behind c.args.additions marker (adds n) k.marked (k.added_are n) u) c.in_ok-fields.ensures));
+            (λ n. counted_after c.args.additions marker (adds n) k.marked (k.added_are n))
+            (λ u n. none_after c.args.additions marker (adds n) k.marked (k.added_are n) u) c.in_ok-fields.ensures));
         behaves = behaves;
       };
       behaves = behaves;

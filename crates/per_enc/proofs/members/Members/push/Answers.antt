@@ -1,5 +1,5 @@
 use Rattle.std.proofs.Common.{rules}
-use Rattle.per_enc.proofs.Keyed.{keyed_more}
+use Rattle.per_enc.proofs.SortedMembers.{keyed_more}
 use Rattle.per_enc.proofs.members.Members.push.Goals as goal
 
 pub invariant_of-self-2 : goal.invariant_of-self-2

@@ -1,5 +1,5 @@
 use Rattle.std.proofs.Common.{rules}
-use Rattle.per_enc.proofs.Keyed.{sorts_members}
+use Rattle.per_enc.proofs.SortedMembers.{sorts_members}
 use Rattle.per_enc.proofs.members.Members.sort.Goals as goal
 
 pub returns : goal.returns

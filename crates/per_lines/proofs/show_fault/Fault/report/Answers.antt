@@ -1,5 +1,5 @@
 use Rattle.std.proofs.Common.{inl, inr, subst, sym}
-use Rattle.per_lines.specs.Told.{IsToldAs}
+use Rattle.per_lines.specs.FaultTexts.{IsToldAs}
 use Rattle.per_lines.proofs.show_fault.Fault.report.Goals as goal
 use Rattle.per_lines.proofs.show_fault.Fault.report.Goals.{in-Ok, in-Err}
 

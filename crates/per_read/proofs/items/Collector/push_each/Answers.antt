@@ -4,7 +4,7 @@ use Rattle.rasn_types.specs.Bits.{to_bits}
 use Rattle.rasn_types.proofs.Bits.{length-to_bits}
 use Rattle.per_core.specs.Counts.{bits_of}
 use Rattle.per_core.specs.Basic.{OneByOne}
-use Rattle.per_core.specs.Spellings.{Field}
+use Rattle.per_core.specs.Spellings.{BitField}
 use Rattle.per_read.specs.Items.{TookItems}
 use Rattle.per_read.proofs.Fields.{field_below}
 use Rattle.per_read.proofs.OneByOne.{field_between, first_begin, first_end, first_go_on, one_more_left}
@@ -47,7 +47,7 @@ loop-preserved g c =
 pub returns-clause-ok : goal.returns-clause-ok
 returns-clause-ok g c =
     let e : c.width-width.result ≡ bits_of (g.Self.Collector.item c.args.self.now) = c.width-width.ensures ∙ ap bits_of c.item.ensures.item in
-    subst (λ (w : ℕ). TookItems g.Self.Collector.holds (OneByOne (Field w)) c.args.many c.args.self.now c.loop.self (to_bits c.args.length c.args.word) []) e
+    subst (λ (w : ℕ). TookItems g.Self.Collector.holds (OneByOne (BitField w)) c.args.many c.args.self.now c.loop.self (to_bits c.args.length c.args.word) []) e
     (first_end c.loop.invariant.first c.loop-test.false (sym (append-nil (to_bits c.args.length c.args.word))))
 
 pub returns-clause-count : goal.returns-clause-count

@@ -3,7 +3,7 @@ use Rattle.std.proofs.lemmas.List.{append-nil}
 use Rattle.per_bits.proofs.Readers.{ok_unless}
 use Rattle.per_core.specs.Counts.{bits_of}
 use Rattle.per_core.specs.Basic.{OneByOne}
-use Rattle.per_core.specs.Spellings.{Field}
+use Rattle.per_core.specs.Spellings.{BitField}
 use Rattle.per_read.specs.Items.{TookItems}
 use Rattle.per_read.proofs.OneByOne.{first_begin, first_end, first_go_far, word_left}
 use Rattle.per_read.proofs.items.Collector.push_items.Goals as goal
@@ -36,7 +36,7 @@ pub loop-done-preserved : goal.loop-done-preserved
 loop-done-preserved g c =
     let e : bits_of (g.Self.Collector.item c.loop-done.self) ≡ c.width-width.result = ap bits_of (c.loop-done.invariant.same ∙ sym c.item.ensures.item) ∙ sym c.width-width.ensures in
     let taken = rw c.unwrap-block.ensures at c.take.ensures in
-    let more = subst (λ (w : ℕ). TookItems g.Self.Collector.holds (OneByOne (Field w)) c.min-count.result c.loop-done.self c.push_block.new.self c.unwrap-block.result.bits []) e c.in_ok-push_block.ensures.ok in
+    let more = subst (λ (w : ℕ). TookItems g.Self.Collector.holds (OneByOne (BitField w)) c.min-count.result c.loop-done.self c.push_block.new.self c.unwrap-block.result.bits []) e c.in_ok-push_block.ensures.ok in
     record {
       first = first_go_far c.loop-done.invariant.first (omega arith) taken.ok taken.count more;
       same = c.in_ok-push_block.ensures.item ∙ c.loop-done.invariant.same;
@@ -46,7 +46,7 @@ loop-done-preserved g c =
 pub returns-clause-ok : goal.returns-clause-ok
 returns-clause-ok g c =
     let e : c.width-width.result ≡ bits_of (g.Self.Collector.item c.args.self.now) = c.width-width.ensures ∙ ap bits_of c.item.ensures.item in
-    subst (λ (w : ℕ). TookItems g.Self.Collector.holds (OneByOne (Field w)) c.args.many c.args.self.now c.loop-done.self c.args.bits.bits []) e
+    subst (λ (w : ℕ). TookItems g.Self.Collector.holds (OneByOne (BitField w)) c.args.many c.args.self.now c.loop-done.self c.args.bits.bits []) e
     (first_end c.loop-done.invariant.first (omega arith) (sym (append-nil c.args.bits.bits)))
 
 pub returns-clause-count : goal.returns-clause-count

@@ -5,7 +5,7 @@ use Rattle.rasn_types.specs.Bits.{to_bits}
 use Rattle.rasn_types.proofs.Bits.{length-to_bits}
 use Rattle.per_core.specs.Counts.{bits_of}
 use Rattle.per_core.specs.Basic.{OneByOne}
-use Rattle.per_core.specs.Spellings.{Field}
+use Rattle.per_core.specs.Spellings.{BitField}
 use Rattle.per_read.specs.Items.{TookItems}
 use Rattle.per_read.proofs.OneByOne.{first_begin, first_end, first_go_far, word_left}
 use Rattle.per_read.proofs.items.Collector.push_words.Goals as goal
@@ -42,7 +42,7 @@ loop-done-preserved g c =
     let e : bits_of (g.Self.Collector.item c.loop-done.self) ≡ c.width-width.result = ap bits_of (c.loop-done.invariant.same ∙ sym c.item.ensures.item) ∙ sym c.width-width.ensures in
     let length = c.width-width.result * c.min-count.result in
     let bits = to_bits length c.take_field-word.result in
-    let more = subst (λ (w : ℕ). TookItems g.Self.Collector.holds (OneByOne (Field w)) c.min-count.result c.loop-done.self c.push_each.new.self bits []) e c.in_ok-push_each.ensures.ok in
+    let more = subst (λ (w : ℕ). TookItems g.Self.Collector.holds (OneByOne (BitField w)) c.min-count.result c.loop-done.self c.push_each.new.self bits []) e c.in_ok-push_each.ensures.ok in
     record {
       first = first_go_far c.loop-done.invariant.first (omega arith) c.take_field-word.ensures.bits (length-to_bits length c.take_field-word.result) more;
       same = c.in_ok-push_each.ensures.item ∙ c.loop-done.invariant.same;
@@ -52,7 +52,7 @@ loop-done-preserved g c =
 pub returns-clause-ok : goal.returns-clause-ok
 returns-clause-ok g c =
     let e : c.width-width.result ≡ bits_of (g.Self.Collector.item c.args.self.now) = c.width-width.ensures ∙ ap bits_of c.item.ensures.item in
-    subst (λ (w : ℕ). TookItems g.Self.Collector.holds (OneByOne (Field w)) c.args.many c.args.self.now c.loop-done.self c.args.bits.bits []) e
+    subst (λ (w : ℕ). TookItems g.Self.Collector.holds (OneByOne (BitField w)) c.args.many c.args.self.now c.loop-done.self c.args.bits.bits []) e
     (first_end c.loop-done.invariant.first (omega arith) (sym (append-nil c.args.bits.bits)))
 
 pub returns-clause-count : goal.returns-clause-count

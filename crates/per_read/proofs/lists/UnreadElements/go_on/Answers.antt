@@ -1,7 +1,7 @@
 use Rattle.std.proofs.Common.{◌≡◌, ◌+◌, [], suc, arith, refl}
 use Rattle.per_core.proofs.Readings.{one_reading}
 use Rattle.per_read.specs.Lists.{list_rule}
-use Rattle.per_read.specs.State.{settings_of}
+use Rattle.per_read.specs.ReaderState.{settings_of}
 use Rattle.per_read.proofs.OpenLists.{amid_item}
 use Rattle.per_read.proofs.lists.UnreadElements.go_on.Goals as goal
 

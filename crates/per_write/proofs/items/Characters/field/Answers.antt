@@ -1,7 +1,7 @@
 use Rattle.std.specs.Prelude.{slice_get}
 use Rattle.std.proofs.Common.{◌≡◌, ◌∙◌, sym, subst, ℕ, ◌-◌, ◌*◌, ◌<◌, length, Option, Some, None, IfNone, arith, pow_pos}
 use Rattle.rasn_types.specs.Alphabets.{char_code, char_width}
-use Rattle.per_write.specs.Characters.{IsField, IsRefused}
+use Rattle.per_write.specs.Characters.{IsBitField, IsRefused}
 use Rattle.per_write.proofs.CharacterFields.{field_first, field_next}
 use Rattle.per_write.proofs.Steps.{character_foreign, character_refused, some_within}
 use Rattle.per_write.proofs.items.Characters.field.Goals as goal
@@ -42,4 +42,4 @@ pub returns-clause-some : goal.returns-clause-some
 returns-clause-some g c =
     let a = c.args.self.now.alphabet in
     let cs = g.S.StaticPermittedAlphabet.characters c.args.self.now.string.now in
-    subst (λ (i : ℕ). IsField a cs c.args.start i c.loop-index.number) (omega arith) c.loop-index.invariant.written
+    subst (λ (i : ℕ). IsBitField a cs c.args.start i c.loop-index.number) (omega arith) c.loop-index.invariant.written

@@ -5,7 +5,7 @@ use Rattle.rasn_schema.specs.Fields.{shape_of}
 use Rattle.rasn_schema.specs.Structures.{tag_of}
 use Rattle.rasn_traits.specs.AdditionsRead.{reads_further}
 use Rattle.rasn_traits.proofs.Reading.{addition_reads_well, fails_addition, fails_further}
-use Rattle.rasn_record.proofs.Behind.{behind-map}
+use Rattle.rasn_record.proofs.RestOfLists.{behind-map}
 use Rattle.rasn_additions.proofs.Trees.{first_tree_by-tag, unread_by}
 use Rattle.rasn_additions.proofs.added.CellDecodeAdditionCells.decode_addition_cells.Goals as goal
 

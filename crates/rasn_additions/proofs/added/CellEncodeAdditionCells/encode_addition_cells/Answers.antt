@@ -2,7 +2,7 @@ use Rattle.std.proofs.Common.{arith, rules}
 use Rattle.std.proofs.lemmas.Result.{err_from_is_err_and}
 use Rattle.rasn_schema.specs.Fields.{shape_of}
 use Rattle.rasn_additions.proofs.OneAddition.{addition_normal, addition_refused, addition_written}
-use Rattle.rasn_record.proofs.Behind.{behind-map}
+use Rattle.rasn_record.proofs.RestOfLists.{behind-map}
 use Rattle.rasn_additions.proofs.added.CellEncodeAdditionCells.encode_addition_cells.Goals as goal
 
 pub returns-in_err-encode_addition : goal.returns-in_err-encode_addition

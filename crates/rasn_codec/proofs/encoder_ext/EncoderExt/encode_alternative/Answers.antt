@@ -1,6 +1,6 @@
 use Rattle.std.proofs.Common.{◌≡◌, refl, rules, ℕ, suc, List, Option, Some, None, Result, Err, inl, inr, IsErrAnd}
 use Rattle.rasn_types.specs.Values.{Value, alternative, Side, root, added}
-use Rattle.rasn_schema.specs.Choices.{VariantShape, choices_of, one_level_in, place_of, variants_behind, variants_on}
+use Rattle.rasn_schema.specs.Choices.{VariantShape, choices_of, one_level_in, place_of, variants_after, variants_on}
 use Rattle.rasn_schema.specs.Structures.{alternative_in, tag_of}
 use Rattle.rasn_schema.specs.Schemas
 use Rattle.rasn_schema.specs.Schemas.{Schema}
@@ -20,12 +20,12 @@ at_place rules choice d (Some k) schema depth v x r y f = f k refl
 
 both : {E X : Type 0} (rules : EncoderRules E X) (choice : ℕ → Schema) (vs : List VariantShape) (xs : Option (List VariantShape)) (tag : Schemas.Tag) (schema : ℕ → Schema) (depth : ℕ) (v : Value) (x : X) (r : Result (Unit {0}) E) (y : X)
     → ((d : Side) (k : ℕ) → place_of tag (variants_on d vs xs) ≡ Some k → ((n : ℕ) → alternative_in (choice n) d k ≡ Some (schema n)) → Encodes rules (one_level_in choice) (suc depth) (alternative d k v) x r y)
-    → (place_of tag vs ≡ None → place_of tag (variants_behind xs) ≡ None → IsErrAnd r (RefusesUnknown rules choice schema depth v x))
+    → (place_of tag vs ≡ None → place_of tag (variants_after xs) ≡ None → IsErrAnd r (RefusesUnknown rules choice schema depth v x))
     → Behaves rules.already rules.failed rules.codec x r y
     → EncodesAlternative rules choice vs xs tag schema depth v x r y
 both rules choice vs xs tag schema depth v x r y f u b = record {
   before = at_place rules choice root (place_of tag vs) schema depth v x r y (f root);
-  behind = at_place rules choice added (place_of tag (variants_behind xs)) schema depth v x r y (f added);
+  behind = at_place rules choice added (place_of tag (variants_after xs)) schema depth v x r y (f added);
   unknown = u;
   behaves = b;
 }

@@ -1,6 +1,6 @@
 use Rattle.std.proofs.Common.{◌∙◌, rules}
 use Rattle.std.proofs.lemmas.Result.{err_from_is_err_and}
-use Rattle.rasn_codec.proofs.Elements.{awaits_element, before_element, behind_elements, closed, element_presented, element_refused, lists, next_refused, opened, unopened}
+use Rattle.rasn_codec.proofs.Elements.{awaits_element, before_element, after_elements, closed, element_presented, element_refused, lists, next_refused, opened, unopened}
 use Rattle.rasn_codec.proofs.encoder_ext.EncoderExt.encode_sequence_of.Goals as goal
 
 pub returns-in_err-list : goal.returns-in_err-list
@@ -39,7 +39,7 @@ pub next_element_in_turn-requires : goal.next_element_in_turn-requires
 next_element_in_turn-requires g c = record { in_turn = before_element c.loop-value.invariant _ c.loop-value-test.true c.value-item.is }
 
 pub close_elements-requires : goal.close_elements-requires
-close_elements-requires g c = record { in_turn = behind_elements c.loop-value.invariant c.loop-value-test.false }
+close_elements-requires g c = record { in_turn = after_elements c.loop-value.invariant c.loop-value-test.false }
 
 pub returns : goal.returns
 returns g c =

@@ -13,7 +13,7 @@ returns-then-is_err g c =
     let p = refused c.decode_components-decoded.result c.if-is_err.ensures.value in
     let f = rw p.1 at c.decode_components-decoded.ensures in
     record {
-      law = rw p.1 (record_failed g.met.D.Decoder.lawful g.met.D.Decoder.scopes (root_parts cs) (has_marker cs.behind) (added_parts cs) o.0 o.1
+      law = rw p.1 (record_failed g.met.D.Decoder.lawful g.met.D.Decoder.fields (root_parts cs) (has_marker cs.behind) (added_parts cs) o.0 o.1
           f.law);
       behaves = rw p.1 (search (rules, f.fails, f.kept));
     }
@@ -27,8 +27,8 @@ returns-in_err-close_fields g c =
     let a = rw q.1 at c.decode_components-decoded.ensures in
     let p = err_from_is_err_and c.from_residual-in_err-close_fields.result c.from_residual-in_err-close_fields.ensures.1 in
     record {
-      law = rw (p.1, p.2) (record_endless g.met.D.Decoder.lawful g.met.D.Decoder.scopes (root_parts cs) (has_marker cs.behind) (added_parts cs) o.0 o.1 _ _ _ a.law
-          (c.in_err-close_fields.ensures.law (inside_left g.met.D.Decoder.lawful g.met.D.Decoder.scopes (root_parts cs) (has_marker cs.behind) (added_parts cs) o.0 o.1 _ _ _ a.law)));
+      law = rw (p.1, p.2) (record_endless g.met.D.Decoder.lawful g.met.D.Decoder.fields (root_parts cs) (has_marker cs.behind) (added_parts cs) o.0 o.1 _ _ _ a.law
+          (c.in_err-close_fields.ensures.law (inside_left g.met.D.Decoder.lawful g.met.D.Decoder.fields (root_parts cs) (has_marker cs.behind) (added_parts cs) o.0 o.1 _ _ _ a.law)));
       behaves = search rules;
     }
 
@@ -40,8 +40,8 @@ returns g c =
     let q = answered c.decode_components-decoded.result c.if-is_err.ensures.value in
     let a = rw q.1 at c.decode_components-decoded.ensures in
     record {
-      law = rw q.1 (record_ended g.met.D.Decoder.lawful g.met.D.Decoder.scopes (root_parts cs) (has_marker cs.behind) (added_parts cs) o.0 o.1 _ _ _ _ a.law
-          (c.in_ok-close_fields.ensures.law (inside_left g.met.D.Decoder.lawful g.met.D.Decoder.scopes (root_parts cs) (has_marker cs.behind) (added_parts cs) o.0 o.1 _ _ _ a.law)));
+      law = rw q.1 (record_ended g.met.D.Decoder.lawful g.met.D.Decoder.fields (root_parts cs) (has_marker cs.behind) (added_parts cs) o.0 o.1 _ _ _ _ a.law
+          (c.in_ok-close_fields.ensures.law (inside_left g.met.D.Decoder.lawful g.met.D.Decoder.fields (root_parts cs) (has_marker cs.behind) (added_parts cs) o.0 o.1 _ _ _ a.law)));
       behaves = rw q.1 (search (rules, a.kept));
     }
 

@@ -1,4 +1,4 @@
-use Rattle.rasn_constructed.proofs.Told.{told_absent}
+use Rattle.rasn_constructed.proofs.RecordTests.{told_absent}
 use Rattle.rasn_constructed.proofs.components.AbsentComponentDefaultOption.is_field.Goals as goal
 
 pub returns : goal.returns

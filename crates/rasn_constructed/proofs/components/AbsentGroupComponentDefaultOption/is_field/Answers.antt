@@ -1,4 +1,4 @@
-use Rattle.rasn_constructed.proofs.Told.{told_absent_group}
+use Rattle.rasn_constructed.proofs.RecordTests.{told_absent_group}
 use Rattle.rasn_constructed.proofs.components.AbsentGroupComponentDefaultOption.is_field.Goals as goal
 
 pub returns : goal.returns

@@ -1,4 +1,4 @@
-use Rattle.rasn_constructed.proofs.Told.{told_group}
+use Rattle.rasn_constructed.proofs.RecordTests.{told_group}
 use Rattle.rasn_constructed.proofs.components.PresentGroupComponentDefaultOption.is_field.Goals as goal
 
 pub returns-in-Some : goal.returns-in-Some

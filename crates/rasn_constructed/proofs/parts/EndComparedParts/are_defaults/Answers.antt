@@ -1,4 +1,4 @@
-use Rattle.rasn_constructed.proofs.Told.{told_none}
+use Rattle.rasn_constructed.proofs.RecordTests.{told_none}
 use Rattle.rasn_constructed.proofs.parts.EndComparedParts.are_defaults.Goals as goal
 
 pub returns : goal.returns

@@ -1,4 +1,4 @@
-use Rattle.rasn_constructed.proofs.Told.{told_another, told_first}
+use Rattle.rasn_constructed.proofs.RecordTests.{told_another, told_first}
 use Rattle.rasn_constructed.proofs.parts.PartRefComparedParts.are_defaults.Goals as goal
 
 pub returns-then-is_field : goal.returns-then-is_field

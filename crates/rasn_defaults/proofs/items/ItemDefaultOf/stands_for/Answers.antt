@@ -1,5 +1,5 @@
 use Rattle.rasn_schema.specs.Normal.{normal}
-use Rattle.rasn_defaults.proofs.Same.{added_and_root, both_added, both_root, root_and_added}
+use Rattle.rasn_defaults.proofs.SameValues.{added_and_root, both_added, both_root, root_and_added}
 use Rattle.rasn_defaults.proofs.items.ItemDefaultOf.stands_for.Goals as goal
 
 pub returns-in-Root-Root : goal.returns-in-Root-Root

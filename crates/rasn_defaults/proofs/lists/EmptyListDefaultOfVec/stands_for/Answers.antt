@@ -1,5 +1,5 @@
 use Rattle.std.proofs.Common.{arith}
-use Rattle.rasn_defaults.proofs.Same.{same_empty}
+use Rattle.rasn_defaults.proofs.SameValues.{same_empty}
 use Rattle.rasn_defaults.proofs.lists.EmptyListDefaultOfVec.stands_for.Goals as goal
 
 pub returns : goal.returns

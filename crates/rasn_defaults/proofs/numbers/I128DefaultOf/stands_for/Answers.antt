@@ -1,7 +1,7 @@
 use Rattle.std.proofs.Common.{FitsSigned, rules}
 use mir.Syntax.{w128}
 use Rattle.rasn_schema.specs.Normal.{normal}
-use Rattle.rasn_defaults.proofs.Same.{same_signed}
+use Rattle.rasn_defaults.proofs.SameValues.{same_signed}
 use Rattle.rasn_defaults.proofs.numbers.I128DefaultOf.stands_for.Goals as goal
 
 pub returns : goal.returns

@@ -2,7 +2,7 @@ use Rattle.std.proofs.Common.{FitsSigned, ap, of_z, rules, to_z, to_z-of_z, ℤ,
 use mir.Syntax.{w128}
 use Rattle.rasn_types.specs.Values.{same, whole}
 use Rattle.rasn_schema.specs.Normal.{normal}
-use Rattle.rasn_defaults.proofs.Same.{same_whole}
+use Rattle.rasn_defaults.proofs.SameValues.{same_whole}
 use Rattle.rasn_defaults.proofs.numbers.I128DefaultOfInteger.stands_for.Goals as goal
 
 pub returns : goal.returns

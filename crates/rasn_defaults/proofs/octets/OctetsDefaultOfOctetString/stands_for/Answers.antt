@@ -1,5 +1,5 @@
 use Rattle.rasn_schema.specs.Normal.{normal}
-use Rattle.rasn_defaults.proofs.Same.{same_octets}
+use Rattle.rasn_defaults.proofs.SameValues.{same_octets}
 use Rattle.rasn_defaults.proofs.octets.OctetsDefaultOfOctetString.stands_for.Goals as goal
 
 pub returns : goal.returns

@@ -1,5 +1,5 @@
 use Rattle.std.proofs.Common.{rules}
-use Rattle.rasn_defaults.proofs.Kept.{kept_ia5}
+use Rattle.rasn_defaults.proofs.TestedCharacters.{kept_ia5}
 use Rattle.rasn_defaults.proofs.texts.TextDefaultOfIa5String.made.Goals as goal
 
 pub returns : goal.returns

@@ -1,8 +1,8 @@
 use Rattle.std.proofs.Common.{ltb}
 use Rattle.rasn_schema.specs.Normal.{normal}
-use Rattle.rasn_defaults.specs.Told.{kept}
-use Rattle.rasn_defaults.proofs.Kept.{kept_ia5}
-use Rattle.rasn_defaults.proofs.Same.{same_characters}
+use Rattle.rasn_defaults.specs.AtDefault.{kept}
+use Rattle.rasn_defaults.proofs.TestedCharacters.{kept_ia5}
+use Rattle.rasn_defaults.proofs.SameValues.{same_characters}
 use Rattle.rasn_defaults.proofs.texts.TextDefaultOfIa5String.stands_for.Goals as goal
 
 pub returns : goal.returns

@@ -1,7 +1,7 @@
 use Rattle.rasn_types.specs.Alphabets.{has, numeric}
 use Rattle.rasn_schema.specs.Normal.{normal}
-use Rattle.rasn_defaults.specs.Told.{kept}
-use Rattle.rasn_defaults.proofs.Same.{same_characters}
+use Rattle.rasn_defaults.specs.AtDefault.{kept}
+use Rattle.rasn_defaults.proofs.SameValues.{same_characters}
 use Rattle.rasn_defaults.proofs.texts.TextDefaultOfNumericString.stands_for.Goals as goal
 
 pub returns : goal.returns

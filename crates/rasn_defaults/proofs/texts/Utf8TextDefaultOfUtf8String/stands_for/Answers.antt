@@ -1,6 +1,6 @@
 use Rattle.std.specs.String.{string_bytes}
 use Rattle.rasn_schema.specs.Normal.{normal}
-use Rattle.rasn_defaults.proofs.Same.{same_octets}
+use Rattle.rasn_defaults.proofs.SameValues.{same_octets}
 use Rattle.rasn_defaults.proofs.texts.Utf8TextDefaultOfUtf8String.stands_for.Goals as goal
 
 pub returns : goal.returns

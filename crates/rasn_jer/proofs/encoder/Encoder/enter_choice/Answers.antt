@@ -1,6 +1,6 @@
 use Rattle.std.proofs.Common.{ap, ◌∙◌}
 use Rattle.std.proofs.lemmas.Result.{err_from_is_err_and}
-use Rattle.rasn_jer.specs.Places.{unfailed_at}
+use Rattle.rasn_jer.specs.Frames.{unfailed_at}
 use Rattle.rasn_jer.proofs.encoder.Encoder.enter_choice.Goals as goal
 
 pub returns : goal.returns

@@ -1,7 +1,7 @@
 use Rattle.std.proofs.Common.{◌≡◌, subst, List, ℕ}
 use Rattle.rasn_jer.proofs.Choosing.{addition_closed}
 use Rattle.rasn_jer.proofs.Writing.{unrefused_behaves}
-use Rattle.rasn_jer.specs.Places.{with_addition}
+use Rattle.rasn_jer.specs.Frames.{with_addition}
 use Rattle.rasn_jer.specs.Rules.{AddedSo}
 use Rattle.rasn_jer.proofs.Turns.{one_untimely}
 use Rattle.rasn_jer.proofs.encoder.EncoderEncoder.close_addition.Goals as goal

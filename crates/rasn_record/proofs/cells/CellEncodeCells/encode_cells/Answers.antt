@@ -1,7 +1,7 @@
 use Rattle.std.proofs.Common.{rules}
 use Rattle.std.proofs.lemmas.Result.{err_from_is_err_and}
 use Rattle.rasn_schema.specs.Fields.{shape_of}
-use Rattle.rasn_record.proofs.Behind.{behind-map}
+use Rattle.rasn_record.proofs.RestOfLists.{behind-map}
 use Rattle.rasn_record.proofs.Slots.{next_refused, next_written}
 use Rattle.rasn_record.proofs.cells.CellEncodeCells.encode_cells.Goals as goal
 

@@ -1,7 +1,7 @@
 use Rattle.std.proofs.Common.{rules, Err}
 use Rattle.std.proofs.lemmas.Result.{err_from_is_err_and}
 use Rattle.rasn_schema.specs.Fields.{shape_of}
-use Rattle.rasn_record.proofs.Behind.{behind_four, four-map}
+use Rattle.rasn_record.proofs.RestOfLists.{after_four, four-map}
 use Rattle.rasn_record.proofs.Slots.{next_refused, next_written}
 use Rattle.rasn_record.proofs.fours.FourCellsEncodeCells.encode_cells.Goals as goal
 
@@ -41,5 +41,5 @@ returns g c =
     let second = rw (c.behind-constraints_2.ensures) at c.in_ok-write_first-2.ensures.law in
     let third = rw (c.behind-constraints_3.ensures, c.behind-constraints_2.ensures) at c.in_ok-write_first-3.ensures.law in
     let fourth = rw (c.behind-constraints_4.ensures, c.behind-constraints_3.ensures, c.behind-constraints_2.ensures) at c.in_ok-write_first-4.ensures.law in
-    let next = rw (behind_four c.args.constraints.now c.behind-constraints_2.ensures c.behind-constraints_3.ensures c.behind-constraints_4.ensures c.behind-constraints_5.ensures, four-map shape_of c.args.fields.now c.behind-fields_2.ensures c.behind-fields_3.ensures c.behind-fields_4.ensures c.behind-fields_5.ensures) at c.encode_cells.ensures.law in
+    let next = rw (after_four c.args.constraints.now c.behind-constraints_2.ensures c.behind-constraints_3.ensures c.behind-constraints_4.ensures c.behind-constraints_5.ensures, four-map shape_of c.args.fields.now c.behind-fields_2.ensures c.behind-fields_3.ensures c.behind-fields_4.ensures c.behind-fields_5.ensures) at c.encode_cells.ensures.law in
     record { law = next_written g.met.E.Encoder.lawful _ _ _ _ _ _ _ _ _ _ (g.met.A.EncodeComponent.is_component c.args.self.now.first) first c.encode_cells.result c.encode_cells.new.encoder (next_written g.met.E.Encoder.lawful _ _ _ _ _ _ _ _ _ _ (g.met.B.EncodeComponent.is_component c.args.self.now.second) second c.encode_cells.result c.encode_cells.new.encoder (next_written g.met.E.Encoder.lawful _ _ _ _ _ _ _ _ _ _ (g.met.C.EncodeComponent.is_component c.args.self.now.third) third c.encode_cells.result c.encode_cells.new.encoder (next_written g.met.E.Encoder.lawful _ _ _ _ _ _ _ _ _ _ (g.met.D.EncodeComponent.is_component c.args.self.now.fourth) fourth c.encode_cells.result c.encode_cells.new.encoder next))); fails = search rules; kept = search rules }

@@ -1,6 +1,6 @@
 use Rattle.std.proofs.Common.{◌∙◌, rules}
 use Rattle.std.proofs.lemmas.Result.{err_from_is_err_and}
-use Rattle.rasn_codec.proofs.Elements.{before_element, behind_elements, closed, element_presented, element_refused, next_refused, opened, unopened}
+use Rattle.rasn_codec.proofs.Elements.{before_element, after_elements, closed, element_presented, element_refused, next_refused, opened, unopened}
 use Rattle.rasn_sets.proofs.Members.{awaits_member, bags}
 use Rattle.rasn_sets.proofs.codec.SetOfEncoder.encode_set_of.Goals as goal
 
@@ -40,7 +40,7 @@ pub next_member_in_turn-requires : goal.next_member_in_turn-requires
 next_member_in_turn-requires g c = record { in_turn = before_element c.loop-member.invariant _ c.loop-member-test.true c.member-item.is }
 
 pub close_members-requires : goal.close_members-requires
-close_members-requires g c = record { in_turn = behind_elements c.loop-member.invariant c.loop-member-test.false }
+close_members-requires g c = record { in_turn = after_elements c.loop-member.invariant c.loop-member-test.false }
 
 pub returns : goal.returns
 returns g c =

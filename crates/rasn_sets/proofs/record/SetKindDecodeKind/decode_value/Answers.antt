@@ -1,6 +1,6 @@
 use Rattle.std.proofs.Common.{sym}
 use Rattle.std.proofs.lemmas.Result.{err_from_is_err_and}
-use Rattle.rasn_sets.proofs.Around.{set_read_around}
+use Rattle.rasn_sets.proofs.SetLaws.{set_read_around}
 use Rattle.rasn_sets.proofs.record.SetKindDecodeKind.decode_value.Goals as goal
 
 pub returns-in_err-set : goal.returns-in_err-set

@@ -1,5 +1,5 @@
 use Rattle.std.proofs.Common.{sym}
-use Rattle.rasn_sets.proofs.Around.{set_written_around}
+use Rattle.rasn_sets.proofs.SetLaws.{set_written_around}
 use Rattle.rasn_sets.proofs.record.SetKindEncodeKind.encode_value.Goals as goal
 
 pub returns : goal.returns

@@ -7,7 +7,7 @@ use Rattle.rasn_types.specs.Alphabets.{has, has_all}
 use Rattle.rasn_strings.specs.Foreign.{IsFirstForeign}
 use Rattle.rasn_strings.proofs.strings.CharactersOf.from_str.Goals as goal
 
--- the character behind those of a type, if it isn't one, is the first foreign one
+-- the character after those of a type, if it isn't one, is the first foreign one
 foreign_at : (own text done : List ℕ) (next : ℕ) → done ≡ take (length done) text → (length done < length text) × (next ≡ get_or text (length done) next) → has_all own done ≡ true → has own next ≡ false → IsFirstForeign own text next (length done)
 foreign_at own text done next so_far turn all foreign =
     (slice_get_read text (length text) (length done) next refl turn.0 turn.1, (foreign, subst (λ (z : List ℕ). has_all own z ≡ true) so_far all))

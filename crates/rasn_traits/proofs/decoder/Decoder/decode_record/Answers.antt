@@ -9,7 +9,7 @@ returns-in_err-root g c =
     let w = rw (← c.requires.root (g.Self.Decoder.rules.levels c.open_fields.new.self)) at c.in_err-root.ensures.law in
     let p = err_from_is_err_and c.from_residual-in_err-root.result c.from_residual-in_err-root.ensures.1 in
     record {
-      law = rw (p.1, p.2) (record_root_failed g.met.Self.Decoder.lawful g.met.Self.Decoder.scopes g.C.Constructed.parts g.C.Constructed.IS_EXTENSIBLE g.C.Constructed.additions o.0 o.1 w);
+      law = rw (p.1, p.2) (record_root_failed g.met.Self.Decoder.lawful g.met.Self.Decoder.fields g.C.Constructed.parts g.C.Constructed.IS_EXTENSIBLE g.C.Constructed.additions o.0 o.1 w);
       behaves = search rules;
     }
 
@@ -20,7 +20,7 @@ returns-in_err-added g c =
     let v = rw (← c.requires.behind (g.Self.Decoder.rules.levels c.decode_parts.new.decoder)) at c.in_err-added.ensures.law in
     let p = err_from_is_err_and c.from_residual-in_err-added.result c.from_residual-in_err-added.ensures.1 in
     record {
-      law = rw (p.1, p.2) (record_addition_failed g.met.Self.Decoder.lawful g.met.Self.Decoder.scopes g.C.Constructed.parts g.C.Constructed.IS_EXTENSIBLE g.C.Constructed.additions o.0 o.1 _ _ w v);
+      law = rw (p.1, p.2) (record_addition_failed g.met.Self.Decoder.lawful g.met.Self.Decoder.fields g.C.Constructed.parts g.C.Constructed.IS_EXTENSIBLE g.C.Constructed.additions o.0 o.1 _ _ w v);
       behaves = search rules;
     }
 
@@ -29,11 +29,11 @@ returns-in_err-close_fields g c =
     let o = c.in_ok-outside.ensures.law in
     let w = rw (← c.requires.root (g.Self.Decoder.rules.levels c.open_fields.new.self)) at c.in_ok-root.ensures.law in
     let v = rw (← c.requires.behind (g.Self.Decoder.rules.levels c.decode_parts.new.decoder)) at c.in_ok-added.ensures.law in
-    let both = both_read g.met.Self.Decoder.lawful g.met.Self.Decoder.scopes g.C.Constructed.parts g.C.Constructed.IS_EXTENSIBLE g.C.Constructed.additions o.0 o.1 _ _ _ _ w v in
+    let both = both_read g.met.Self.Decoder.lawful g.met.Self.Decoder.fields g.C.Constructed.parts g.C.Constructed.IS_EXTENSIBLE g.C.Constructed.additions o.0 o.1 _ _ _ _ w v in
     let p = err_from_is_err_and c.from_residual-in_err-close_fields.result c.from_residual-in_err-close_fields.ensures.1 in
     record {
-      law = rw (p.1, p.2) (record_endless g.met.Self.Decoder.lawful g.met.Self.Decoder.scopes g.C.Constructed.parts g.C.Constructed.IS_EXTENSIBLE g.C.Constructed.additions o.0 o.1 _ _ _ both
-          (c.in_err-close_fields.ensures.law (inside_left g.met.Self.Decoder.lawful g.met.Self.Decoder.scopes g.C.Constructed.parts g.C.Constructed.IS_EXTENSIBLE g.C.Constructed.additions o.0 o.1 _ _ _ both)));
+      law = rw (p.1, p.2) (record_endless g.met.Self.Decoder.lawful g.met.Self.Decoder.fields g.C.Constructed.parts g.C.Constructed.IS_EXTENSIBLE g.C.Constructed.additions o.0 o.1 _ _ _ both
+          (c.in_err-close_fields.ensures.law (inside_left g.met.Self.Decoder.lawful g.met.Self.Decoder.fields g.C.Constructed.parts g.C.Constructed.IS_EXTENSIBLE g.C.Constructed.additions o.0 o.1 _ _ _ both)));
       behaves = search rules;
     }
 
@@ -42,10 +42,10 @@ returns g c =
     let o = c.in_ok-outside.ensures.law in
     let w = rw (← c.requires.root (g.Self.Decoder.rules.levels c.open_fields.new.self)) at c.in_ok-root.ensures.law in
     let v = rw (← c.requires.behind (g.Self.Decoder.rules.levels c.decode_parts.new.decoder)) at c.in_ok-added.ensures.law in
-    let both = both_read g.met.Self.Decoder.lawful g.met.Self.Decoder.scopes g.C.Constructed.parts g.C.Constructed.IS_EXTENSIBLE g.C.Constructed.additions o.0 o.1 _ _ _ _ w v in
+    let both = both_read g.met.Self.Decoder.lawful g.met.Self.Decoder.fields g.C.Constructed.parts g.C.Constructed.IS_EXTENSIBLE g.C.Constructed.additions o.0 o.1 _ _ _ _ w v in
     record {
-      law = record_ended g.met.Self.Decoder.lawful g.met.Self.Decoder.scopes g.C.Constructed.parts g.C.Constructed.IS_EXTENSIBLE g.C.Constructed.additions o.0 o.1 _ _ _ _ both
-          (c.in_ok-close_fields.ensures.law (inside_left g.met.Self.Decoder.lawful g.met.Self.Decoder.scopes g.C.Constructed.parts g.C.Constructed.IS_EXTENSIBLE g.C.Constructed.additions o.0 o.1 _ _ _ both));
+      law = record_ended g.met.Self.Decoder.lawful g.met.Self.Decoder.fields g.C.Constructed.parts g.C.Constructed.IS_EXTENSIBLE g.C.Constructed.additions o.0 o.1 _ _ _ _ both
+          (c.in_ok-close_fields.ensures.law (inside_left g.met.Self.Decoder.lawful g.met.Self.Decoder.fields g.C.Constructed.parts g.C.Constructed.IS_EXTENSIBLE g.C.Constructed.additions o.0 o.1 _ _ _ both));
       behaves = search rules;
     }
 
@@ -62,6 +62,6 @@ close_fields-requires g c =
         root = _;
         added = _;
         opened = o.1;
-        read = both_read g.met.Self.Decoder.lawful g.met.Self.Decoder.scopes g.C.Constructed.parts g.C.Constructed.IS_EXTENSIBLE g.C.Constructed.additions o.0 o.1 _ _ _ _ w v;
+        read = both_read g.met.Self.Decoder.lawful g.met.Self.Decoder.fields g.C.Constructed.parts g.C.Constructed.IS_EXTENSIBLE g.C.Constructed.additions o.0 o.1 _ _ _ _ w v;
       };
     }

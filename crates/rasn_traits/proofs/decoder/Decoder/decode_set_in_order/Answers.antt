@@ -27,11 +27,11 @@ returns-in_err-close_sequence-in-Ok g c =
       law = λ in_order placed owed.
           let w = rw c.in-Ok.is at (owed.keeps c.open_set.new.self c.scope.result c.scope.new.arg2 (sym o.0) gave) in
           rw (p.1, p.2) (set_refused g.met.Self.Decoder.sets g.C.Constructed.parts g.C.Constructed.IS_EXTENSIBLE g.C.Constructed.additions _ (record_endless g.met.Self.Decoder.lawful g.met.Self.Decoder.scopes (canonised_at g.C.Constructed.parts) g.C.Constructed.IS_EXTENSIBLE g.C.Constructed.additions o.0 o.1 _ _ _ w
-          (c.in_err-close_sequence-in-Ok.ensures.law (inside_left g.met.Self.Decoder.lawful g.met.Self.Decoder.scopes (canonised_at g.C.Constructed.parts) g.C.Constructed.IS_EXTENSIBLE g.C.Constructed.additions o.0 o.1 _ _ _ w))));
+          (c.in_err-close_sequence-in-Ok.ensures.ends.law (inside_left g.met.Self.Decoder.lawful g.met.Self.Decoder.scopes (canonised_at g.C.Constructed.parts) g.C.Constructed.IS_EXTENSIBLE g.C.Constructed.additions o.0 o.1 _ _ _ w))));
       swallowed = ends_before (search rules);
       again = search rules;
       fails = search rules;
-      kept = λ owed. c.close_sequence.ensures.behaves.kept ∙ owed.stays c.open_set.new.self c.scope.result c.scope.new.arg2 gave ∙ c.in_ok-outside.ensures.behaves.kept;
+      kept = λ owed. c.close_sequence.ensures.ends.behaves.kept ∙ owed.stays c.open_set.new.self c.scope.result c.scope.new.arg2 gave ∙ c.in_ok-outside.ensures.behaves.kept;
     }
 
 pub returns-in_ok-close_sequence-in-Ok : goal.returns-in_ok-close_sequence-in-Ok
@@ -43,11 +43,11 @@ returns-in_ok-close_sequence-in-Ok g c =
           let w = rw c.in-Ok.is at (owed.keeps c.open_set.new.self c.scope.result c.scope.new.arg2 (sym o.0) gave) in
           set_ended g.met.Self.Decoder.sets g.C.Constructed.parts g.C.Constructed.IS_EXTENSIBLE g.C.Constructed.additions _ _ _ _ _ o.0 (placed _ _)
           (record_ended g.met.Self.Decoder.lawful g.met.Self.Decoder.scopes (canonised_at g.C.Constructed.parts) g.C.Constructed.IS_EXTENSIBLE g.C.Constructed.additions o.0 o.1 _ _ _ _ w
-          (c.in_ok-close_sequence-in-Ok.ensures.law (inside_left g.met.Self.Decoder.lawful g.met.Self.Decoder.scopes (canonised_at g.C.Constructed.parts) g.C.Constructed.IS_EXTENSIBLE g.C.Constructed.additions o.0 o.1 _ _ _ w)));
-      swallowed = ends_left (rw c.in-Ok.is at gave) c.in_ok-close_sequence-in-Ok.ensures.behaves.again;
+          (c.in_ok-close_sequence-in-Ok.ensures.ends.law (inside_left g.met.Self.Decoder.lawful g.met.Self.Decoder.scopes (canonised_at g.C.Constructed.parts) g.C.Constructed.IS_EXTENSIBLE g.C.Constructed.additions o.0 o.1 _ _ _ w)));
+      swallowed = ends_left (rw c.in-Ok.is at gave) c.in_ok-close_sequence-in-Ok.ensures.ends.behaves.again;
       again = search rules;
       fails = search rules;
-      kept = λ owed. c.close_sequence.ensures.behaves.kept ∙ owed.stays c.open_set.new.self c.scope.result c.scope.new.arg2 gave ∙ c.in_ok-outside.ensures.behaves.kept;
+      kept = λ owed. c.close_sequence.ensures.ends.behaves.kept ∙ owed.stays c.open_set.new.self c.scope.result c.scope.new.arg2 gave ∙ c.in_ok-outside.ensures.behaves.kept;
     }
 
 pub returns-in-Err : goal.returns-in-Err

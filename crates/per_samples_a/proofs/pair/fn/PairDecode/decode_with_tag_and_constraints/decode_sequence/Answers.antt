@@ -4,7 +4,7 @@ use Rattle.std.proofs.Common.{rules, ◌∙◌}
 use Rattle.std.proofs.lemmas.Int.{to_z-of_z}
 use Rattle.std.proofs.lemmas.Result.{err_from_is_err_and}
 use Rattle.rasn_below.specs.Calls.{reads_required, reads_end}
-use Rattle.rasn_below.proofs.Reading.{fails_required, fails_behind, required_read}
+use Rattle.rasn_below.proofs.Reading.{fails_required, fails_after, required_read}
 use Rattle.per_samples_a.proofs.pair.fn.PairDecode.decode_with_tag_and_constraints.decode_sequence.Goals as goal
 
 pub returns-in_err-a : goal.returns-in_err-a
@@ -16,7 +16,7 @@ pub returns-in_err-b : goal.returns-in_err-b
 returns-in_err-b g c =
     let p = err_from_is_err_and c.from_residual-in_err-b.result c.from_residual-in_err-b.ensures.1 in
     record {
-      law = rw (p.1, p.2) (fails_behind g.met.D.Decoder.lawful (reads_required c.in_ok-a.ensures.law) (fails_required g.met.D.Decoder.lawful c.in_err-b.ensures.law));
+      law = rw (p.1, p.2) (fails_after g.met.D.Decoder.lawful (reads_required c.in_ok-a.ensures.law) (fails_required g.met.D.Decoder.lawful c.in_err-b.ensures.law));
       kept = c.in_err-b.ensures.behaves.kept ∙ c.in_ok-a.ensures.behaves.kept;
     }
 

@@ -1,5 +1,0 @@
-use Rattle.per_bits.proofs.LowBits.{OfOctets}
-use Rattle.per_bits.proofs.fields.field_of.Given as goal
-
-abbrev pub invariant-loop-octet : goal.invariant-loop-octet
-invariant-loop-octet l = OfOctets l.width l.octet-index l.field l.octets

@@ -1,0 +1,16 @@
+use Rattle.std.proofs.Common.{ap, ◌∙◌, length, refl, arith}
+use Rattle.per_read.specs.ReaderState.{ReaderState}
+use Rattle.per_de.proofs.Calls.{no_more_left, reads_freely}
+use Rattle.per_de.proofs.Enumerations.{no_item, reads_item}
+use Rattle.per_de.proofs.InTurn.{begun_freely, still}
+use Rattle.per_de.proofs.typed.DecoderDecoder.decode_enumerated.Goals as goal
+
+pub advance-requires : goal.advance-requires
+advance-requires g c =
+    let taken = rw c.in-Some.is at c.take_root_item-taken.ensures.took in
+    omega (arith, no_more_left taken.ok, c.len-left.ensures, ap length c.bits.ensures, ap (λ (x : ReaderState). length x.bits) c.reader-reader.ensures)
+
+pub returns : goal.returns
+returns g c =
+    let taken = rw c.in-Some.is at c.take_root_item-taken.ensures.took in
+    begun_freely _ c.in_ok-begin_value.ensures.noted (reads_freely c.begin_value.new.self _ _ (still c.args.self.now c.in_ok-begin_value.ensures.noted c.in_ok-begin_value.ensures.ok) (λ v. reads_item _ _ _ _ _) c.reader-reader.ensures taken (c.len-left.ensures ∙ ap length c.bits.ensures) (refl, c.advance.ensures) (λ k h. (h.0, no_item _ _ _ _ h.1)))

@@ -1,0 +1,13 @@
+pub mod Additions
+pub mod Bags
+pub mod Choices
+pub mod Contents
+pub mod Counted
+pub mod Errors
+pub mod InTurn
+pub mod Records
+pub mod Relations
+pub mod Scopes
+pub mod Sets
+pub mod Spelled
+pub mod Tails

@@ -1,5 +1,0 @@
-use Rattle.per_laws.proofs.additions.unknown_additions_stand_behind_all_else.Goals as goal
-use Rattle.per_laws.proofs.Skipped
-
-pub returns : goal.returns
-returns c = Skipped.unknown_behind

@@ -1,6 +1,0 @@
-use Rattle.rasn_types.specs.Values.{added}
-use Rattle.rasn_constructed.proofs.Chosen.{told_another}
-use Rattle.rasn_constructed.proofs.choices.is_another_behind.Goals as goal
-
-pub returns : goal.returns
-returns g c = told_another g.T.Alternatives.alternatives.0 _ (g.T.Alternatives.chosen c.args.of.now) added c.args.place _ c.requires.another
