@@ -1,7 +1,7 @@
 -- What one octet more, or one number more, makes of a word and of octets.
 use Rattle.std.proofs.Common.{Fits, w8, zero, suc, ◌≡◌, sym, ap, ap₂, ◌∙◌, subst, ℕ, ◌+◌, ◌-◌, ◌*◌, ◌/◌, ◌%◌, ◌^◌, ◌<◌, ◌≤◌, false, List, [], ◌∷◌, ◌++◌, length, take, drop, replicate, get_or, arith, pow_pos, pow-add, mod-eq_of_lt, mod-lt, append_assoc, append-nil, length-append, bit_or, mul_assoc, length-take}
 use Rattle.std.proofs.lemmas.List.{set_split, drop_all, drop_at, drop-drop, get_or-drop, length-drop, take_at, take-replicate, take_more, take_all, take-append-le, take-take, take-append-drop}
-use Rattle.std.proofs.lemmas.Nat.{mul-le, shl_whole, or_shifted, shl_below, shr_below, shr-shr, be_bytes_4}
+use Rattle.std.proofs.lemmas.Nat.{field_of, mul-le, shl_whole, shl-shr, or_shifted, shl_below, shr_below, shr-shr, be_bytes_4}
 use Rattle.std.proofs.Math.Seq.{take-append-add}
 use Rattle.std.proofs.Math.Nat.{add-mul}
 use Rattle.std.specs.Int.{w32, w64, to_be_bytes, from_be_bytes}
@@ -11,7 +11,7 @@ use Rattle.rasn_types.proofs.Bits.{length-to_bits, length-unpack, unpack-append,
 use Rattle.rasn_types.proofs.Packing.{unpack-take}
 use Rattle.per_bits.specs.Octets.{word_size, first_word, filled, AreFilledBy}
 use Rattle.per_bits.proofs.Readers.{filled_all}
-use Rattle.per_bits.proofs.Words.{word_size-is, to_bits-join, to_bits-zeros, unpack-bytes, octets_taken, first_word-short, inner-first_word, part_bits, unpack-drop}
+use Rattle.per_bits.proofs.Words.{word_size-is, to_bits-join, to_bits-zeros, unpack-bytes, octets_taken, first_word-short, inner-first_word, part_bits, to_bits-inner, unpack-drop}
 
 -- ---- a number below a power, and another after it
 
@@ -115,8 +115,22 @@ last_four n os qs h l e f i = to_bits-same word_size (moved % 2 ^ 64) moved (ap 
 
 -- ---- what `part` answers
 
-pub part_is : (s c w r : ℕ) (os : List ℕ) → s < 8 → c ≤ 56 → s + c ≤ 8 * length os → take (s + c) (to_bits word_size w) ≡ take (s + c) (first_word os) → r ≡ w / 2 / 2 ^ (63 - s - c) % 2 ^ c → to_bits c r ≡ take c (drop s (unpack os))
-part_is s c w r os h f l e i = to_bits-same c r (w / 2 ^ (64 - s - c)) (ap (λ (m : ℕ). m % 2 ^ c) i ∙ mod-eq_of_lt (mod-lt (w / 2 / 2 ^ (63 - s - c)) (pow_pos c)) ∙ ap (λ (m : ℕ). m % 2 ^ c) (shr-shr w 1 (63 - s - c) ∙ ap (λ (m : ℕ). w / 2 ^ m) (omega arith))) ∙ part_bits s c w os (omega arith) l e
+-- c bits of a word after the first s, which are moved up, and then down as a field
+pub moved_field : (s c w r : ℕ) → s < 8 → c ≤ 56 → r ≡ w * 2 ^ s % 2 ^ 64 / 2 / 2 ^ (63 - c) → r ≡ w / 2 ^ (64 - s - c) % 2 ^ c
+moved_field s c w r h f e = e ∙ shr-shr (w * 2 ^ s % 2 ^ 64) 1 (63 - c) ∙ ap₂ (λ (m n : ℕ). w * 2 ^ s % 2 ^ m / 2 ^ n) (let i : 64 ≡ c + (64 - c) = omega arith in i) (let i : 1 + (63 - c) ≡ 64 - c = omega arith in i)
+    ∙ field_of (w * 2 ^ s) c (64 - c) ∙ ap (λ (m : ℕ). w * 2 ^ s / 2 ^ m % 2 ^ c) (let i : 64 - c ≡ s + (64 - s - c) = omega arith in i)
+    ∙ ap (λ (m : ℕ). m % 2 ^ c) (sym (shr-shr (w * 2 ^ s) s (64 - s - c)) ∙ ap (λ (m : ℕ). m / 2 ^ (64 - s - c)) (shl-shr w s))
+
+pub moved_below : (s c w r : ℕ) → s < 8 → c ≤ 56 → r ≡ w * 2 ^ s % 2 ^ 64 / 2 / 2 ^ (63 - c) → r < 2 ^ c
+moved_below s c w r h f e = let m = mod-lt (w / 2 ^ (64 - s - c)) (pow_pos c) in omega (arith, moved_field s c w r h f e, m)
+
+pub part_is : (s c w r : ℕ) (os : List ℕ) → s < 8 → c ≤ 56 → s + c ≤ 8 * length os → take (s + c) (to_bits word_size w) ≡ take (s + c) (first_word os) → r ≡ w * 2 ^ s % 2 ^ 64 / 2 / 2 ^ (63 - c) → to_bits c r ≡ take c (drop s (unpack os))
+part_is s c w r os h f l e i = to_bits-same c r (w / 2 ^ (64 - s - c)) (ap (λ (m : ℕ). m % 2 ^ c) (moved_field s c w r h f i) ∙ mod-eq_of_lt (mod-lt (w / 2 ^ (64 - s - c)) (pow_pos c))) ∙ part_bits s c w os (omega arith) l e
+
+-- the first bits of a word that octets have
+pub front_is : (s w r : ℕ) (os : List ℕ) → s < 8 → to_bits word_size w ≡ first_word os → r ≡ w * 2 ^ s % 2 ^ 64 / 2 ^ 8 → to_bits 56 r ≡ take 56 (drop s (first_word os))
+front_is s w r os h e i = to_bits-same 56 r (w / 2 ^ (8 - s)) (ap (λ (m : ℕ). m % 2 ^ 56) (moved_field s 56 w r h (omega arith) (i ∙ sym (shr-shr (w * 2 ^ s % 2 ^ 64) 1 7))) ∙ mod-eq_of_lt (mod-lt (w / 2 ^ (64 - s - 56)) (pow_pos 56)) ∙ ap (λ (m : ℕ). w / 2 ^ m % 2 ^ 56) (let j : 64 - s - 56 ≡ 8 - s = omega arith in j))
+    ∙ sym (to_bits-inner s 56 (8 - s) w) ∙ ap (λ (m : ℕ). take 56 (drop s (to_bits m w))) (let j : s + (56 + (8 - s)) ≡ word_size = omega (arith, word_size-is) in j) ∙ ap (λ bs. take 56 (drop s bs)) e
 
 -- ---- one number more
 

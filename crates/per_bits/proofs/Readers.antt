@@ -1,14 +1,16 @@
 -- The bits that a reader has left, and the bits that octets are filled with.
 use Rattle.std.proofs.Common.{◌≡◌, refl, sym, ap, ap₂, ◌∙◌, ℕ, ◌+◌, ◌-◌, ◌*◌, ◌/◌, ◌%◌, ◌≤◌, ◌<◌, false, IsTrue, nat_eq, eqb-true, eq-eqb, List, [], ◌++◌, length, take, drop, replicate, arith, length-append, length-take, length-drop}
+use Rattle.std.proofs.Common.{◌⊎◌, inl, inr}
 use Rattle.std.specs.Prelude.{Result, Ok, Err, IsOk, OnErr}
+use Rattle.std.proofs.lemmas.Bool.{cases_lt}
 use Rattle.std.proofs.lemmas.List.{append-nil, take-take, drop-take, drop-drop, take-append-drop, nil_from_length, take_all, take_at, length-replicate}
 use Rattle.std.proofs.lemmas.Slice.{between_to_end}
 use Rattle.std.specs.List.{between}
 use Rattle.rasn_types.specs.Bits.{Bits, unpack}
 use Rattle.rasn_types.proofs.Bits.{length-unpack}
 use Rattle.rasn_types.proofs.Packing.{unpack-take}
-use Rattle.per_bits.specs.Octets.{filled, AreFilledBy, AreKept, ArePadded, AreWithin, AreWholeOctets, HaveRoom, Reading}
-use Rattle.per_bits.proofs.Words.{unpack-drop}
+use Rattle.per_bits.specs.Octets.{filled, first_word, word_size, AreFilledBy, AreKept, ArePadded, AreWithin, AreWholeOctets, HaveRoom, Reading}
+use Rattle.per_bits.proofs.Words.{inner-append, inner-front, unpack-drop, word_size-is}
 
 -- ---- readers
 
@@ -36,9 +38,9 @@ pub from_place : (s k p : ℕ) (os : List ℕ) → p ≡ s + k → drop (p % 8) 
 from_place s k p os e = ap (λ qs. drop (p % 8) (unpack qs)) (between_to_end os (p / 8) (length os) (omega arith)) ∙ ap (λ bs. drop (p % 8) bs) (sym (unpack-drop (p / 8) os))
     ∙ drop-drop (p % 8) (8 * (p / 8)) (unpack os) ∙ ap (λ (n : ℕ). drop n (unpack os)) (let i : 8 * (p / 8) + p % 8 ≡ s + k = omega arith in i) ∙ sym (drop-drop k s (unpack os))
 
-pub taken : (s n k p : ℕ) (os : List ℕ) → k ≤ n → p ≡ s + k →
-    take n (drop s (unpack os)) ≡ take k (drop s (unpack os)) ++ take (n - k) (drop (p % 8) (unpack (between (p / 8) (length os) os)))
-taken s n k p os h e = split_at k n (drop s (unpack os)) h ∙ ap (λ bs. take k (drop s (unpack os)) ++ take (n - k) bs) (sym (from_place s k p os e))
+pub taken : (s n k m p : ℕ) (os : List ℕ) → m + k ≡ n → p ≡ s + k →
+    take n (drop s (unpack os)) ≡ take k (drop s (unpack os)) ++ take m (drop (p % 8) (unpack (between (p / 8) (length os) os)))
+taken s n k m p os h e = split_at k n (drop s (unpack os)) (omega (arith, h)) ∙ ap₂ (λ (i : ℕ) bs. take k (drop s (unpack os)) ++ take i bs) (let i : n - k ≡ m = omega (arith, h) in i) (sym (from_place s k p os e))
 
 -- m bits after the first k of a reader's
 pub part_taken : (s n k m p : ℕ) (os : List ℕ) → k + m ≤ n → p ≡ s + k → take m (drop (p % 8) (unpack (between (p / 8) (length os) os))) ≡ take m (drop k (take n (drop s (unpack os))))
@@ -46,6 +48,25 @@ part_taken s n k m p os h e =
     let bits = drop s (unpack os) in
     let rest : take m (drop k (take n bits)) ≡ take m (drop k bits) = ap (λ (i : ℕ). take m (drop k (take i bits))) (let i : n ≡ k + (n - k) = omega arith in i) ∙ ap (λ bs. take m bs) (drop-take k (n - k) bits) ∙ take-take m (n - k) (drop k bits) (omega arith) in
     ap (λ bs. take m bs) (from_place s k p os e) ∙ sym rest
+
+-- the front of a front
+take_less : (m n : ℕ) (xs : Bits) → m ≤ n → take m (take n xs) ≡ take n (take m xs)
+take_less m n xs h = take-take m n xs h ∙ sym (take_all n (take m xs) (omega (arith, length-take m xs)))
+
+pub take_both : (m n : ℕ) (xs : Bits) → take m (take n xs) ≡ take n (take m xs)
+take_both m n xs = go (cases_lt m n)
+  where
+    go : (m < n) ⊎ (n ≤ m) → take m (take n xs) ≡ take n (take m xs)
+    go (inl h) = take_less m n xs (omega arith)
+    go (inr h) = sym (take_less n m xs h)
+
+-- as many of the first bits as a reader has
+pub front_left : (s n : ℕ) (os : List ℕ) (front now : Bits) → take n (drop s (unpack os)) ≡ now → AreWithin s n os → front ≡ take 56 (drop s (first_word os)) → take (length now) front ≡ take 56 now
+front_left s n os front now e h f = ap₂ (λ (m : ℕ) bs. take m bs) (left_is s n os now e h) (f ∙ inner-front s 56 word_size all (omega (arith, word_size-is, h.few)))
+    ∙ take_both n 56 (drop s all) ∙ ap (λ bs. take 56 bs) (inner-append s n (unpack os) (replicate word_size false) (omega (arith, length-unpack os, h.enough)) ∙ e)
+  where
+    all : Bits
+    all = unpack os ++ replicate word_size false
 
 -- the first bit that is left is in the first octet
 pub first_of_octet : (s : ℕ) (os : List ℕ) → s < 8 → take 1 (drop s (unpack (take 1 os))) ≡ take 1 (drop s (unpack os))

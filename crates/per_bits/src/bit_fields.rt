@@ -87,8 +87,18 @@ pub(crate) fn read_field(octets: &[u8], skip: u32, count: u32) -> u64
     ensures bits { to_bits count result ≡ take count (drop skip (unpack octets.now)) }
     ensures below { result < 2 ^ count }
 {
+    load_word(octets) << skip >> 1 >> (63 - count)
+}
+
+/// A word whose high 56 bits are those of the octets behind `skip` others; zeros stand for those that aren't there. It
+/// isn't said what its low eight are.
+#[inline(always)]
+pub(crate) fn read_front(octets: &[u8], skip: u32) -> u64
+    requires { skip < 8 }
+    ensures { to_bits FIELD_BITS (result / 2 ^ 8) ≡ take FIELD_BITS (drop skip (first_word octets.now)) }
+{
     let word = load_word(octets);
-    low_bits(word >> 1 >> (63 - skip - count), count)
+    word << skip
 }
 
 /// The number that `count` bits of the octets mean, behind `skip` others, more of them than a field may have.

@@ -5,17 +5,17 @@
 //! bits alone, as a list of truth values, and not of how they are kept: eight to an octet, the first highest.
 #![tactic(auto)]
 
-ghost use Rattle.std.specs.Prelude.{◌≡◌, ◌+◌, ◌-◌, ◌*◌, ◌/◌, ◌%◌, ◌^◌, ◌<◌, ◌≤◌, List, [], ◌∷◌, ◌++◌, Bool, length};
-ghost use Rattle.std.specs.Prelude.{take, drop, set, slice_get, vec_len, vec_capacity, OnOk, OnErr, IfOk, IfErr};
-ghost use Rattle.std.specs.Prelude.{IfSome, IsSome, IsTrue, ◌↔◌, ⊤, replicate, false};
+ghost use Rattle.std.specs.Prelude.{◌≡◌, ◌+◌, ◌-◌, ◌*◌, ◌/◌, ◌%◌, ◌^◌, ◌<◌, ◌≤◌, List, [], ◌∷◌, ◌++◌, Bool};
+ghost use Rattle.std.specs.Prelude.{length, take, drop, set, slice_get, vec_len, vec_capacity, OnOk, OnErr, IfOk};
+ghost use Rattle.std.specs.Prelude.{IfErr, IfSome, IsSome, IsTrue, MatchOption, ◌↔◌, ⊤, replicate, false};
 ghost use Rattle.rasn_types.specs.Bits.{to_bits, number_of, unpack};
 ghost use Rattle.rasn_types.specs.Packed.{packed};
 ghost use Rattle.per_bits.specs.Octets.{filled, low_bits_of, AreFilledBy, ArePadded, AreWholeOctets};
 
 use crate::bit_fields::{
     FIELD_BITS, append_field, append_low_bits, append_octets_after, copy_octets, cut_back,
-    field_of, fill_last_octet, put_bit, put_field, put_number, read_field, read_wide_field,
-    spread_octets, with_bit, with_room,
+    field_of, fill_last_octet, put_bit, put_field, put_number, read_field, read_front,
+    read_wide_field, spread_octets, with_bit, with_room,
 };
 use rasn_types::bit_string::note_octets;
 use std::alloc::{AllocError, Allocator};
@@ -347,9 +347,9 @@ impl<'input> BitReader<'input> {
         ensures short { OnErr result (length self.old.bits < count) }
         ensures err { OnErr result (self.new ≡ self.old) }
     {
-        if self.len < count {
+        let Some(left) = less(self.len, count) else {
             return Err(count - self.len);
-        }
+        };
         let front = BitReader {
             octets: self.octets,
             skip: self.skip,
@@ -358,7 +358,7 @@ impl<'input> BitReader<'input> {
         let place = u128::from(self.skip) + count;
         self.octets = &self.octets[(place / 8) as usize..];
         self.skip = (place % 8) as u32;
-        self.len -= count;
+        self.len = left;
         Ok(front)
     }
 
@@ -390,6 +390,15 @@ impl<'input> BitReader<'input> {
         } else {
             read_wide_field(self.octets, self.skip, count as u32)
         }
+    }
+
+    /// A word whose high 56 bits are the first ones, which are still left. Where fewer are, it isn't said what is in
+    /// their place, nor what the low eight bits of the word are.
+    #[inline(always)]
+    pub fn front(&self) -> u64
+        ensures { take (length self.now.bits) (to_bits 56 (result / 2 ^ 8)) ≡ take 56 self.now.bits }
+    {
+        read_front(self.octets, self.skip)
     }
 
     /// The number that the first `width` bits mean, at most the 56 of a field. They are still left.
@@ -497,6 +506,20 @@ impl<'input> Clone for BitReader<'input> {
             len: self.len,
         })
     }
+}
+
+/// How many bits are left of `len` after the first `count`, where there are so many. Most often the low half of the
+/// length alone is looked at, and changed.
+#[inline(always)]
+fn less(len: u128, count: u128) -> Option<u128>
+    ensures { MatchOption result (len < count) (λ left. left + count ≡ len) }
+{
+    let high = len >> 64 << 64;
+    let low = (len - high) as u64;
+    if count <= u128::from(low) {
+        return Some(high | u128::from(low - count as u64));
+    }
+    len.checked_sub(count)
 }
 
 /// Appends all bits of a reader to octets of which the last `spare` bits are spare, and answers how many are spare

@@ -143,8 +143,7 @@ impl<'input> Decoder<'input> {
     ) -> Result<(Place, Around<Alternative<'input>>), DecodeError>
         ensures { OpensPlacedToRead decoder_rules is_choice_in_turn alternatives self.old result self.new }
     {
-        self.begin_value()?;
-        let turn = self.turn();
+        let turn = self.begin_scope()?;
         let levels = self.level_inside()?;
         let place = self.take_place(alternatives)?;
         let scope = self.enter(Scope::without_record(levels));

@@ -4,7 +4,6 @@
 ghost use Rattle.std.specs.Prelude.{◌≡◌, ◌≤◌, true, false, length, OnOk, OnErr, IfErr};
 ghost use Rattle.rasn_types.specs.Bits.{unpack};
 ghost use Rattle.rasn_types.specs.Values.{octets, whole};
-ghost use Rattle.rasn_types.specs.declared.types.Codec.TheVariants.{Aper, Uper};
 ghost use Rattle.rasn_schema.specs.Forms.{number_schema};
 ghost use Rattle.rasn_schema.specs.Schemas.{Schema};
 ghost use Rattle.rasn_traits.specs.Calls.{Reads, freely_read};
@@ -12,7 +11,7 @@ ghost use Rattle.per_core.specs.declared.decode_error.DecodeErrorKind.TheVariant
 ghost use Rattle.per_decoding.specs.Faults.{refusal, Answered};
 ghost use Rattle.per_decoding.specs.Rules.{plain_rules};
 ghost use Rattle.per_decoding.specs.Scopes.{Enters, LevelInside, no_record, with_outside_record};
-ghost use Rattle.per_decoding.specs.State.{State, Options, fresh, fresh_of, from_octet, reader_of, refused, with_last};
+ghost use Rattle.per_decoding.specs.State.{State, fresh, fresh_of, from_octet, reader_of, refused, with_last};
 ghost use Rattle.per_de.specs.Outsides.{outside_record_of};
 ghost use Rattle.per_decoding.specs.Sources.{bits_of, extension_in, place_left, span_of, up_to, unread_of, IsWithin};
 ghost use Rattle.per_de.specs.Steps.{HasTwoLevels};
@@ -21,6 +20,7 @@ ghost use Rattle.per_de.specs.Turns.{is_failed, turn_in};
 use per_bits::{BitList, BitReader};
 use per_decoding::enumerated::take_enumerated;
 use per_decoding::integers::take_integer;
+pub use per_decoding::options::DecoderOptions;
 pub use per_read::error;
 pub use per_read::error::{DecodeError, DecodeErrorKind, ParserFailCause};
 use per_read::lists::UnreadElements;
@@ -48,78 +48,6 @@ mod typed;
 use open_types::WholeOctets;
 use per_decoding::source::{Extension, Source, Span};
 use turns::Mode;
-
-/// What a decoder is told: the variant of the rules, how deep values may be inside one another, and whether padding
-/// must be zero.
-#[derive(Clone, Copy, Debug)]
-pub struct DecoderOptions {
-    codec: Codec,
-    levels: u32,
-    zero_padding: bool,
-}
-
-impl Model for DecoderOptions {
-    ghost Value = { Options };
-
-    ghost view = { λ o. record { codec = o.codec; levels = o.levels; zero_padding = o.zero_padding } };
-
-    ghost inverse = { λ v. record { codec = v.codec; levels = v.levels; zero_padding = v.zero_padding } };
-}
-
-impl DecoderOptions {
-    /// The ALIGNED variant (X.691 7), 128 levels, and any padding.
-    pub const fn aligned() -> Self
-        ensures { result ≡ record { codec = Aper; levels = 128; zero_padding = false } }
-    {
-        DecoderOptions::of_codec(Codec::Aper)
-    }
-
-    /// The UNALIGNED variant (X.691 7), 128 levels, and any padding.
-    pub const fn unaligned() -> Self
-        ensures { result ≡ record { codec = Uper; levels = 128; zero_padding = false } }
-    {
-        DecoderOptions::of_codec(Codec::Uper)
-    }
-
-    /// The variant of a codec, 128 levels, and any padding.
-    const fn of_codec(codec: Codec) -> Self
-        ensures { result ≡ record { codec = codec; levels = 128; zero_padding = false } }
-    {
-        DecoderOptions {
-            codec,
-            levels: 128,
-            zero_padding: false,
-        }
-    }
-
-    /// These options, but padding and spare bits must be zero (X.691 11.1, 11.2), and others are refused with
-    /// `ParserFail`.
-    pub const fn zero_padding(self) -> Self
-        ensures { result ≡ record self { zero_padding = true } }
-    {
-        DecoderOptions {
-            zero_padding: true,
-            ..self
-        }
-    }
-
-    /// Whether padding and spare bits must be zero.
-    pub const fn needs_zero_padding(self) -> bool
-        ensures { result ≡ self.zero_padding }
-    {
-        self.zero_padding
-    }
-
-    /// What its reader is told.
-    fn reader(self) -> ReaderOptions
-        ensures { result ≡ record { codec = self.codec; zero_padding = self.zero_padding } }
-    {
-        ReaderOptions {
-            codec: self.codec,
-            zero_padding: self.zero_padding,
-        }
-    }
-}
 
 /// A reader of values from the front of bits. Every basic encoding is read, canonical or not; where padding must be
 /// zero, every one whose padding is.
@@ -204,7 +132,7 @@ impl<'input> Decoder<'input> {
             expected: 0,
             options: options.reader(),
             alloc,
-            levels: options.levels,
+            levels: options.levels(),
             mode: Mode::Uncounted,
         }
     }
@@ -217,6 +145,14 @@ impl<'input> Decoder<'input> {
         ensures place { result.place ≡ place_left self.now }
     {
         self.bits.all_of(self.source.bits())
+    }
+
+    /// How many bits are left.
+    #[inline(always)]
+    pub fn left(&self) -> u128
+        ensures { result ≡ length self.now.bits }
+    {
+        self.bits.len()
     }
 
     /// The variant in use.

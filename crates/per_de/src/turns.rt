@@ -1,6 +1,6 @@
 //! How many components are still to come in the open scope, so that none is left out and none comes twice.
 
-ghost use Rattle.std.specs.Prelude.{◌≡◌, false, true, IfErr, OnErr, OnOk};
+ghost use Rattle.std.specs.Prelude.{◌≡◌, false, true, IfErr, IfOk, OnErr, OnOk};
 ghost use Rattle.per_core.specs.declared.decode_error.DecodeErrorKind.TheVariants.{AlreadyFailed};
 ghost use Rattle.per_decoding.specs.Faults.{refusal};
 ghost use Rattle.per_decoding.specs.State.{noting, with_turn};
@@ -108,6 +108,40 @@ impl<'input> Decoder<'input> {
         self.check_unfailed()?;
         self.note_counted();
         Ok(())
+    }
+
+    /// Notes a component that opens a scope, and answers how many components are still to come around it. Refuses
+    /// where a call has refused before.
+    #[inline(always)]
+    pub(crate) fn begin_scope(&mut self) -> Result<Turn, DecodeError>
+        ensures ok { OnOk result (self.old.failed ≡ false) }
+        ensures noted { OnOk result (self.new ≡ noting self.old) }
+        ensures turn { IfOk result (λ turn. turn_of turn ≡ self.new.turn) }
+        ensures err { IfErr result (λ e. e ≡ refusal AlreadyFailed self.old) }
+        ensures failed { OnErr result (self.old.failed ≡ true) }
+        ensures stays { OnErr result (self.new ≡ self.old) }
+    {
+        if let Mode::Uncounted = self.mode {
+            return Ok(Turn::Uncounted);
+        }
+        self.check_unfailed()?;
+        if let Mode::Awaiting(1) = self.mode {
+            self.mode = Mode::Awaiting(0);
+            return Ok(Turn::Awaiting(0));
+        }
+        Ok(self.turn_counted())
+    }
+
+    /// Notes a component, and answers how many are still to come then.
+    #[inline(never)]
+    fn turn_counted(&mut self) -> Turn
+        requires { self.old.failed ≡ false }
+        ensures noted { self.new ≡ noting self.old }
+        ensures turn { turn_of result ≡ self.new.turn }
+    {
+        let turn = self.turn().next();
+        self.set_turn(turn);
+        turn
     }
 
     /// What `note` does, also where something is counted.

@@ -323,8 +323,7 @@ impl<'input> decoder::Decoder for Decoder<'input> {
 
     #[inline(always)]
     fn open_fields<C: Constructed>(&mut self, _tag: Tag) -> Result<Around<Scope>, DecodeError> {
-        self.begin_value()?;
-        let turn = self.turn();
+        let turn = self.begin_scope()?;
         let scope = self.open_record::<C>()?;
         self.set_turn(Turn::Uncounted);
         Ok(Around { scope, turn })

@@ -14,5 +14,6 @@ pub mod integers;
 pub mod item_counts;
 pub mod items;
 pub mod laws;
+pub mod options;
 pub mod source;
 pub mod times;

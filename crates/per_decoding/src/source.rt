@@ -40,6 +40,7 @@ impl<'input> Source<'input> {
 
     /// The last `count` octets in front of a place: those of the input, at least one, are lent, and others are copied.
     /// The only error is want of memory.
+    #[inline(always)]
     pub fn octets_before(
         &self,
         alloc: Global,
@@ -63,6 +64,7 @@ impl<'input> Source<'input> {
 
 /// The octets that bits fill: where these begin with an octet, and are some, they are lent, and else copied. The only
 /// error is want of memory.
+#[inline(always)]
 fn octets_of<'input>(
     alloc: Global,
     bits: BitReader<'input>,
@@ -172,7 +174,7 @@ impl Span {
     pub fn first_of(self, source: &BitReader<'_>) -> Option<bool>
         ensures { result ≡ slice_get (span_of self source.now.bits) 0 }
     {
-        if self.end.min(source.len()) <= self.begin {
+        if self.end <= self.begin || source.len() <= self.begin {
             return None;
         }
         Some(source.part(self.begin, 1).first_bit() == 1)

@@ -45,9 +45,26 @@ impl<A: Allocator + Clone> Encoder<A> {
         Some(self.writer.put_between(lower, upper, number))
     }
 
-    /// Writes an INTEGER in whichever form its constraints give it (X.691 13), or says that memory ran out before.
-    #[inline(never)]
+    /// Writes an INTEGER in whichever form its constraints give it (X.691 13), or says that memory ran out before. What
+    /// the call answers has its room here, so that a caller needs none for a short INTEGER.
+    #[inline(always)]
     pub(crate) fn put_any_integer<I: IntegerType>(
+        &mut self,
+        is_out_of_memory: bool,
+        constraints: &Constraints,
+        value: &I,
+    ) -> Result<(), EncodeError>
+        ensures writes { is_out_of_memory ≡ false → Writes encoding_rules (number_schema constraints.now I.range)
+            (whole (I.number value.now)) self.old result self.new }
+        ensures memory { is_out_of_memory ≡ true → IsErrAnd result (λ e. IsMemory e self.old.writer) }
+        ensures stays { is_out_of_memory ≡ true → self.new ≡ self.old }
+    {
+        self.put_other_integer(is_out_of_memory, constraints, value)
+    }
+
+    /// The same, as a call of its own.
+    #[inline(never)]
+    fn put_other_integer<I: IntegerType>(
         &mut self,
         is_out_of_memory: bool,
         constraints: &Constraints,

@@ -517,6 +517,7 @@ impl<A: Allocator + Clone> encoder::Encoder for Encoder<A> {
         Ok(((list, None), set))
     }
 
+    #[inline(always)]
     fn next_element_in_turn(&mut self, list: &mut Self::List) -> Result<()> {
         self.writer.check_unfailed()?;
         let elements = &mut list.0.0;

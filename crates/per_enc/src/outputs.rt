@@ -4,7 +4,7 @@ ghost use Rattle.std.specs.Prelude.{◌≡◌, true, false, Some, OnOk, OnErr, I
 ghost use Rattle.per_core.specs.Canon.{completed};
 ghost use Rattle.per_enc.specs.Rules.{emptied, fresh};
 ghost use Rattle.per_write.specs.Faults.{RefusesOutput};
-ghost use Rattle.per_write.specs.WriterState.{view};
+ghost use Rattle.per_write.specs.WriterState.{view, HoldsOutput};
 
 use crate::{Encoder, EncoderOptions};
 use per_bits::BitList;
@@ -60,6 +60,25 @@ impl<A: Allocator + Clone> Encoder<A> {
         ensures kept { self.new.writer.codec ≡ self.old.writer.codec }
     {
         self.writer.output()
+    }
+
+    /// Puts the complete encoding of what was written so far (X.691 11.1) behind what a buffer holds. The next value is
+    /// written at the start again, in the memory that this one had: once it has grown to what the messages take, an
+    /// encoder asks for no more.
+    ///
+    /// An error says what that of `output` does, or that the buffer found no memory. The buffer is as it was then, and
+    /// the encoder has failed.
+    pub fn output_onto(&mut self, buffer: &mut Vec<u8, A>) -> Result<(), EncodeError>
+        ensures octets { OnOk result (HoldsOutput buffer.old.items self.old.writer buffer.new.items) }
+        ensures same { OnErr result (buffer.new.items ≡ buffer.old.items) }
+        ensures taken { OnOk result (self.new ≡ emptied self.old) }
+        ensures begun { OnOk result (self.old.writer.failed ≡ false) }
+        ensures outside { OnOk result (self.old.writer.scope.is_open ≡ false) }
+        ensures err { IfErr result (λ e. RefusesOutput e self.old.writer) }
+        ensures fails { OnErr result (self.new.writer.failed ≡ true) }
+        ensures kept { self.new.writer.codec ≡ self.old.writer.codec }
+    {
+        self.writer.output_onto(buffer)
     }
 
     /// The complete encoding of what was written, as `output` gives it.

@@ -88,9 +88,19 @@ impl<A: Allocator + Clone> Encoder<A> {
         Err(self.writer.refuse(EncodeErrorKind::OutOfTurn))
     }
 
-    /// Gives the next presence bit where components are counted or gathered. Takes no memory.
-    #[inline(never)]
+    /// Gives the next presence bit where components are counted or gathered. Takes no memory. What the call answers
+    /// has its room here, so that a caller needs none where nothing is counted.
+    #[inline(always)]
     pub(crate) fn set_presence_within(&mut self, is_there: bool) -> Result<(), EncodeError>
+        requires { self.old.writer.failed ≡ false }
+        ensures { GivesBit encoding_rules is_there self.old result self.new }
+    {
+        self.set_counted_presence(is_there)
+    }
+
+    /// The same, as a call of its own.
+    #[inline(never)]
+    fn set_counted_presence(&mut self, is_there: bool) -> Result<(), EncodeError>
         requires { self.old.writer.failed ≡ false }
         ensures { GivesBit encoding_rules is_there self.old result self.new }
     {

@@ -68,11 +68,18 @@ impl<D: Positioned> Located<D> {
     /// The way to the value that was refused, and how many bits are in front of where the decoder stood then; or
     /// where it stands, if none was refused.
     pub fn into_place(mut self) -> (Path, u128) {
-        let left = self.inner.left();
-        self.trail.stop(left);
+        self.stop();
         let bit = self.trail.bit();
         let alloc = self.inner.alloc();
         (self.trail.into_path(alloc), bit)
+    }
+
+    /// Stops where the decoder stands.
+    fn stop(&mut self)
+        ensures { self.new ≡ self.old }
+    {
+        let left = self.inner.left();
+        self.trail.stop(left);
     }
 
     /// Answers what a call of the decoder answered, and stops where that is a refusal.
@@ -81,20 +88,56 @@ impl<D: Positioned> Located<D> {
         ensures state { self.new ≡ self.old }
     {
         if answer.is_err() {
-            let left = self.inner.left();
-            self.trail.stop(left);
+            self.stop();
         }
         answer
     }
 
-    /// Enters a record of which the preamble was read, unless it was refused.
-    fn enter_record(&mut self, opened: &Result<D::Scope, D::Error>, record: RecordFrame)
-        ensures { self.new ≡ self.old }
+    /// Answers what a call answered with which a value began.
+    fn begun<T: Drop>(&mut self, answer: Result<T, D::Error>) -> Result<T, D::Error>
+        ensures same { result ≡ answer }
+        ensures state { self.new ≡ self.old }
     {
-        if opened.is_ok() {
+        self.trail.begin();
+        self.seen(answer)
+    }
+
+    /// Enters what a call opened with which a value began, unless it was refused.
+    fn opened<T: Drop>(&mut self, answer: Result<T, D::Error>, frame: Frame) -> Result<T, D::Error>
+        ensures same { result ≡ answer }
+        ensures state { self.new ≡ self.old }
+    {
+        self.trail.begin();
+        if answer.is_ok() {
             let left = self.inner.left();
-            self.trail.enter(Frame::Record(record), left);
+            self.trail.enter(frame, left);
         }
+        self.seen(answer)
+    }
+
+    /// Leaves what a call closed, unless it was refused.
+    fn closed(&mut self, answer: Result<(), D::Error>) -> Result<(), D::Error>
+        ensures same { result ≡ answer }
+        ensures state { self.new ≡ self.old }
+    {
+        if answer.is_ok() {
+            self.trail.leave();
+        }
+        self.seen(answer)
+    }
+
+    /// Begins the element that a call went on to, or leaves the list after the last one, unless the call was refused.
+    fn gone_on(&mut self, answer: Result<bool, D::Error>) -> Result<bool, D::Error>
+        ensures same { result ≡ answer }
+        ensures state { self.new ≡ self.old }
+    {
+        self.trail.pause();
+        match &answer {
+            Ok(true) => self.trail.begin_element(),
+            Ok(false) => self.trail.leave(),
+            Err(_) => {}
+        }
+        self.seen(answer)
     }
 
     /// Enters an alternative at a place among so many, of which the index was read.
@@ -176,21 +219,18 @@ impl<D: Positioned> Decoder for Located<D> {
     }
 
     fn out_of_memory(&mut self) -> D::Error {
-        let left = self.inner.left();
-        self.trail.stop(left);
+        self.stop();
         self.inner.out_of_memory()
     }
 
     fn fail(&mut self) {
-        let left = self.inner.left();
-        self.trail.stop(left);
+        self.stop();
         self.inner.fail()
     }
 
     fn decode_bool(&mut self, tag: Tag) -> Result<bool, D::Error> {
-        self.trail.begin();
         let answer = self.inner.decode_bool(tag);
-        self.seen(answer)
+        self.begun(answer)
     }
 
     fn decode_integer<I: IntegerType>(
@@ -198,33 +238,28 @@ impl<D: Positioned> Decoder for Located<D> {
         tag: Tag,
         constraints: &Constraints,
     ) -> Result<I, D::Error> {
-        self.trail.begin();
         let answer = self.inner.decode_integer(tag, constraints);
-        self.seen(answer)
+        self.begun(answer)
     }
 
     fn decode_real(&mut self, tag: Tag, constraints: &Constraints) -> Result<(), D::Error> {
-        self.trail.begin();
         let answer = self.inner.decode_real(tag, constraints);
-        self.seen(answer)
+        self.begun(answer)
     }
 
     fn decode_null(&mut self, tag: Tag) -> Result<(), D::Error> {
-        self.trail.begin();
         let answer = self.inner.decode_null(tag);
-        self.seen(answer)
+        self.begun(answer)
     }
 
     fn decode_enumerated<E: Enumerated>(&mut self, tag: Tag) -> Result<E, D::Error> {
-        self.trail.begin();
         let answer = self.inner.decode_enumerated(tag);
-        self.seen(answer)
+        self.begun(answer)
     }
 
     fn decode_any(&mut self, tag: Tag) -> Result<Any, D::Error> {
-        self.trail.begin();
         let answer = self.inner.decode_any(tag);
-        self.seen(answer)
+        self.begun(answer)
     }
 
     fn decode_octet_string(
@@ -232,9 +267,8 @@ impl<D: Positioned> Decoder for Located<D> {
         tag: Tag,
         constraints: &Constraints,
     ) -> Result<D::Octets, D::Error> {
-        self.trail.begin();
         let answer = self.inner.decode_octet_string(tag, constraints);
-        self.seen(answer)
+        self.begun(answer)
     }
 
     fn decode_bit_string(
@@ -242,9 +276,8 @@ impl<D: Positioned> Decoder for Located<D> {
         tag: Tag,
         constraints: &Constraints,
     ) -> Result<BitString, D::Error> {
-        self.trail.begin();
         let answer = self.inner.decode_bit_string(tag, constraints);
-        self.seen(answer)
+        self.begun(answer)
     }
 
     fn decode_named_bits(
@@ -252,9 +285,8 @@ impl<D: Positioned> Decoder for Located<D> {
         tag: Tag,
         constraints: &Constraints,
     ) -> Result<BitString, D::Error> {
-        self.trail.begin();
         let answer = self.inner.decode_named_bits(tag, constraints);
-        self.seen(answer)
+        self.begun(answer)
     }
 
     fn decode_known_multiplier_string<S: StaticPermittedAlphabet>(
@@ -262,9 +294,8 @@ impl<D: Positioned> Decoder for Located<D> {
         tag: Tag,
         constraints: &Constraints,
     ) -> Result<S, D::Error> {
-        self.trail.begin();
         let answer = self.inner.decode_known_multiplier_string(tag, constraints);
-        self.seen(answer)
+        self.begun(answer)
     }
 
     fn decode_utf8_string(
@@ -272,9 +303,8 @@ impl<D: Positioned> Decoder for Located<D> {
         tag: Tag,
         constraints: &Constraints,
     ) -> Result<Utf8String, D::Error> {
-        self.trail.begin();
         let answer = self.inner.decode_utf8_string(tag, constraints);
-        self.seen(answer)
+        self.begun(answer)
     }
 
     fn decode_general_string(
@@ -282,9 +312,8 @@ impl<D: Positioned> Decoder for Located<D> {
         tag: Tag,
         constraints: &Constraints,
     ) -> Result<GeneralString, D::Error> {
-        self.trail.begin();
         let answer = self.inner.decode_general_string(tag, constraints);
-        self.seen(answer)
+        self.begun(answer)
     }
 
     fn decode_graphic_string(
@@ -292,9 +321,8 @@ impl<D: Positioned> Decoder for Located<D> {
         tag: Tag,
         constraints: &Constraints,
     ) -> Result<GraphicString, D::Error> {
-        self.trail.begin();
         let answer = self.inner.decode_graphic_string(tag, constraints);
-        self.seen(answer)
+        self.begun(answer)
     }
 
     fn decode_teletex_string(
@@ -302,75 +330,61 @@ impl<D: Positioned> Decoder for Located<D> {
         tag: Tag,
         constraints: &Constraints,
     ) -> Result<TeletexString, D::Error> {
-        self.trail.begin();
         let answer = self.inner.decode_teletex_string(tag, constraints);
-        self.seen(answer)
+        self.begun(answer)
     }
 
     fn decode_object_identifier(&mut self, tag: Tag) -> Result<Vec<u32>, D::Error> {
-        self.trail.begin();
         let answer = self.inner.decode_object_identifier(tag);
-        self.seen(answer)
+        self.begun(answer)
     }
 
     fn decode_utc_time<M: UtcMoment>(&mut self, tag: Tag) -> Result<M, D::Error> {
-        self.trail.begin();
         let answer = self.inner.decode_utc_time(tag);
-        self.seen(answer)
+        self.begun(answer)
     }
 
     fn decode_generalized_time<M: GeneralizedMoment>(&mut self, tag: Tag) -> Result<M, D::Error> {
-        self.trail.begin();
         let answer = self.inner.decode_generalized_time(tag);
-        self.seen(answer)
+        self.begun(answer)
     }
 
     fn decode_date<C: CivilDate>(&mut self, tag: Tag) -> Result<C, D::Error> {
-        self.trail.begin();
         let answer = self.inner.decode_date(tag);
-        self.seen(answer)
+        self.begun(answer)
     }
 
     fn open_sequence<C: Constructed>(&mut self, tag: Tag) -> Result<D::Scope, D::Error> {
-        self.trail.begin();
         let extended = C::IS_EXTENSIBLE && self.inner.is_extended();
         let answer = self.inner.open_sequence::<C>(tag);
-        self.enter_record(&answer, RecordFrame::new::<C>(false, extended));
-        self.seen(answer)
+        let frame = Frame::Record(RecordFrame::new::<C>(false, extended));
+        self.opened(answer, frame)
     }
 
     fn close_sequence(&mut self, scope: D::Scope) -> Result<(), D::Error> {
         self.trail.pause();
         let answer = self.inner.close_sequence(scope);
-        if answer.is_ok() {
-            self.trail.leave();
-        }
-        self.seen(answer)
+        self.closed(answer)
     }
 
     fn open_fields<C: Constructed>(&mut self, tag: Tag) -> Result<D::Scope, D::Error> {
-        self.trail.begin();
         let extended = C::IS_EXTENSIBLE && self.inner.is_extended();
         let answer = self.inner.open_fields::<C>(tag);
-        self.enter_record(&answer, RecordFrame::new::<C>(false, extended));
-        self.seen(answer)
+        let frame = Frame::Record(RecordFrame::new::<C>(false, extended));
+        self.opened(answer, frame)
     }
 
     fn close_fields<C: Constructed>(&mut self, scope: D::Scope) -> Result<(), D::Error> {
         self.trail.pause();
         let answer = self.inner.close_fields::<C>(scope);
-        if answer.is_ok() {
-            self.trail.leave();
-        }
-        self.seen(answer)
+        self.closed(answer)
     }
 
     fn open_set<C: Constructed>(&mut self, tag: Tag) -> Result<D::Scope, D::Error> {
-        self.trail.begin();
         let extended = C::IS_EXTENSIBLE && self.inner.is_extended();
         let answer = self.inner.open_set::<C>(tag);
-        self.enter_record(&answer, RecordFrame::new::<C>(true, extended));
-        self.seen(answer)
+        let frame = Frame::Record(RecordFrame::new::<C>(true, extended));
+        self.opened(answer, frame)
     }
 
     fn open_choice<C: Choice>(&mut self) -> Result<(Tag, D::Alternative), D::Error> {
@@ -404,10 +418,7 @@ impl<D: Positioned> Decoder for Located<D> {
 
     fn close_choice(&mut self, alternative: D::Alternative) -> Result<(), D::Error> {
         let answer = self.inner.close_choice(alternative);
-        if answer.is_ok() {
-            self.trail.leave();
-        }
-        self.seen(answer)
+        self.closed(answer)
     }
 
     fn open_contents(&mut self, tag: Tag) -> Result<D::Contents, D::Error> {
@@ -423,10 +434,7 @@ impl<D: Positioned> Decoder for Located<D> {
 
     fn close_contents(&mut self, contents: D::Contents) -> Result<(), D::Error> {
         let answer = self.inner.close_contents(contents);
-        if answer.is_ok() {
-            self.trail.leave();
-        }
-        self.seen(answer)
+        self.closed(answer)
     }
 
     fn next_presence(&mut self) -> Result<bool, D::Error> {
@@ -461,45 +469,23 @@ impl<D: Positioned> Decoder for Located<D> {
     }
 
     fn open_list(&mut self, tag: Tag, constraints: &Constraints) -> Result<D::List, D::Error> {
-        self.trail.begin();
         let answer = self.inner.open_list(tag, constraints);
-        if answer.is_ok() {
-            let left = self.inner.left();
-            self.trail.enter(Frame::List(Elements::new()), left);
-        }
-        self.seen(answer)
+        self.opened(answer, Frame::List(Elements::new()))
     }
 
     fn next_element(&mut self, list: &mut D::List) -> Result<bool, D::Error> {
-        self.trail.pause();
         let answer = self.inner.next_element(list);
-        match &answer {
-            Ok(true) => self.trail.begin_element(),
-            Ok(false) => self.trail.leave(),
-            Err(_) => {}
-        }
-        self.seen(answer)
+        self.gone_on(answer)
     }
 
     fn open_elements(&mut self, tag: Tag, constraints: &Constraints) -> Result<D::List, D::Error> {
-        self.trail.begin();
         let answer = self.inner.open_elements(tag, constraints);
-        if answer.is_ok() {
-            let left = self.inner.left();
-            self.trail.enter(Frame::List(Elements::new()), left);
-        }
-        self.seen(answer)
+        self.opened(answer, Frame::List(Elements::new()))
     }
 
     fn next_element_in_turn(&mut self, list: &mut D::List) -> Result<bool, D::Error> {
-        self.trail.pause();
         let answer = self.inner.next_element_in_turn(list);
-        match &answer {
-            Ok(true) => self.trail.begin_element(),
-            Ok(false) => self.trail.leave(),
-            Err(_) => {}
-        }
-        self.seen(answer)
+        self.gone_on(answer)
     }
 
     ghost lawful = { D.lawful };

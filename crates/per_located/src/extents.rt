@@ -12,30 +12,26 @@ pub enum OpenAhead {
 /// Where the bits end that a decoder has left.
 #[derive(Clone, Copy)]
 pub(crate) enum Extent {
-    /// In front of so many last bits of the message.
-    Before(u128),
+    /// After so many first bits of the message.
+    After(u128),
     /// They are those of an open type in fragments, in front of which so many bits stand.
     Gathered(u128),
 }
 
 impl Extent {
     /// How many of the message's bits are in front of the last `left` ones here.
-    pub(crate) fn position(self, bits: u128, left: u128) -> u128 {
+    pub(crate) fn position(self, left: u128) -> u128 {
         match self {
-            Extent::Before(behind) => bits.saturating_sub(behind).saturating_sub(left),
+            Extent::After(end) => end.saturating_sub(left),
             Extent::Gathered(bit) => bit,
         }
     }
 
-    /// Where the contents of an open type end that is here, in a message of so many bits.
-    pub(crate) fn of_contents(self, bits: u128, open: OpenAhead) -> Extent {
+    /// Where the contents of an open type end that is here.
+    pub(crate) fn of_contents(self, open: OpenAhead) -> Extent {
         match (self, open) {
-            (Extent::Before(behind), OpenAhead::InPlace(left)) => {
-                Extent::Before(behind.saturating_add(left))
-            }
-            (Extent::Before(_), OpenAhead::Gathered(left)) => {
-                Extent::Gathered(self.position(bits, left))
-            }
+            (Extent::After(_), OpenAhead::InPlace(left)) => Extent::After(self.position(left)),
+            (Extent::After(_), OpenAhead::Gathered(left)) => Extent::Gathered(self.position(left)),
             (Extent::Gathered(bit), _) => Extent::Gathered(bit),
         }
     }

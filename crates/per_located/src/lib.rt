@@ -22,7 +22,6 @@ mod tracing;
 mod trail;
 mod turns;
 pub mod uper;
-mod write_trail;
 
 pub use crate::path::{Path, Step};
 pub use crate::refusal::{EncodeRefusal, Refusal};

@@ -1,91 +1,94 @@
-//! The way from a message to the value that is read.
+//! The way from a message to the value that is read or written.
 
 use crate::extents::{Extent, OpenAhead};
 use crate::path::{Path, Step};
-use crate::turns::{Components, Elements};
+use crate::turns::{Alternatives, Components, Elements};
 use rasn_schema::fields::Constructed;
+use rasn_types::types::Tag;
 use std::alloc::Global;
 
-/// A SEQUENCE or a SET that is read.
+/// A SEQUENCE or a SET that is read or written.
 #[derive(Clone, Copy)]
 pub(crate) struct RecordFrame {
     root: Components,
     /// The additions, where they don't go on after the root.
     added: Option<Components>,
-    /// The step to the component that is read, or was read last.
+    /// The step to the component that is read or written, or was last.
     current: Option<Step>,
-    /// Whether the bitmap of the additions is still ahead (X.691 19.7).
+    /// Whether the bitmap of the additions is still to be read (X.691 19.7).
     bitmap: bool,
-    /// Where the bits outside end, while an addition is read.
+    /// Where the bits outside end, while an addition is read or written.
     outside: Option<Extent>,
 }
 
 impl RecordFrame {
-    /// A record of which nothing was read but its preamble (X.691 19.1), which says whether it has additions.
-    pub(crate) fn new<C: Constructed>(in_tag_order: bool, extended: bool) -> Self {
+    /// A record of which nothing was read but its preamble (X.691 19.1), or nothing was written; and whether the
+    /// bitmap of its additions is still to be read.
+    pub(crate) fn new<C: Constructed>(in_tag_order: bool, bitmap: bool) -> Self {
         RecordFrame {
             root: Components::of_root::<C>(in_tag_order),
             added: Some(Components::of_additions::<C>()),
             current: None,
-            bitmap: extended,
+            bitmap,
             outside: None,
         }
     }
 
-    /// A record of a type that is data, of which nothing was read but its preamble.
-    pub(crate) fn counted(extended: bool) -> Self {
+    /// A record of a type that is data, of which nothing was read but its preamble, or nothing was written; and
+    /// whether the bitmap of its additions is still to be read.
+    pub(crate) fn counted(bitmap: bool) -> Self {
         RecordFrame {
             root: Components::counted(),
             added: None,
             current: None,
-            bitmap: extended,
+            bitmap,
             outside: None,
         }
     }
 }
 
-/// What is around the value that is read.
+/// What is around the value that is read or written.
 #[derive(Clone, Copy)]
 pub(crate) enum Frame {
     Record(RecordFrame),
     List(Elements),
+    /// A CHOICE that is written, whose alternative is told by the tag of what follows.
+    Choice(Alternatives),
     /// The alternative of a CHOICE: the step to it, and where the bits outside its open type end, if it has one.
     Alternative(Step, Option<Extent>),
-    /// The value that octets contain, which is reached without a step: where the bits outside end.
-    Contents(Extent),
+    /// The value that octets contain, which is reached without a step: where the bits outside end, if they are read.
+    Contents(Option<Extent>),
 }
 
 impl Frame {
-    /// The step from what is around to the value that is read, if one is.
+    /// The step from what is around to the value that is read or written, if one is.
     fn step(&self) -> Option<Step> {
         match self {
             Frame::Record(record) => record.current,
             Frame::List(elements) => elements.step(),
+            Frame::Choice(alternatives) => alternatives.step(),
             Frame::Alternative(step, _) => Some(*step),
             Frame::Contents(_) => None,
         }
     }
 }
 
-/// The way from a message to the value that is read, and where the bits end that are left. Once it has stopped it stays
-/// as it is.
+/// The way from a message to the value that is read or written, and where the bits end that are left to be read; a
+/// message that is written has none of these. Once it has stopped it stays as it is.
 #[derive(Drop)]
 pub(crate) struct Trail {
     frames: Vec<Frame>,
     extent: Extent,
-    /// How many bits the message has.
-    bits: u128,
     /// How many bits are in front of where it stopped.
     stopped: Option<u128>,
 }
 
 impl Trail {
-    /// At a message of so many bits.
+    /// At a message of so many bits, of which nothing was read or written.
     pub(crate) fn new(alloc: Global, bits: u128) -> Self {
         Trail {
             frames: Vec::new(alloc),
-            extent: Extent::Before(0),
-            bits,
+            extent: Extent::After(bits),
             stopped: None,
         }
     }
@@ -93,7 +96,7 @@ impl Trail {
     /// Stops where the last `left` bits are left, if it hasn't stopped.
     pub(crate) fn stop(&mut self, left: u128) {
         if self.stopped.is_none() {
-            self.stopped = Some(self.extent.position(self.bits, left).min(self.bits));
+            self.stopped = Some(self.extent.position(left));
         }
     }
 
@@ -127,7 +130,7 @@ impl Trail {
         }
         match self.frames.pop() {
             Some(Frame::Alternative(_, Some(outside))) => self.extent = outside,
-            Some(Frame::Contents(outside)) => self.extent = outside,
+            Some(Frame::Contents(Some(outside))) => self.extent = outside,
             _ => {}
         }
     }
@@ -141,11 +144,20 @@ impl Trail {
         }
     }
 
-    /// Nothing that is in the innermost of what is around is read.
+    /// A value begins under a tag: of a choice it is the alternative that goes by the tag.
+    pub(crate) fn begin_under(&mut self, tag: Tag) {
+        self.begin();
+        if let Some(Frame::Choice(alternatives)) = self.frame() {
+            alternatives.begin(tag);
+        }
+    }
+
+    /// Nothing that is in the innermost of what is around is read or written.
     pub(crate) fn pause(&mut self) {
         match self.frame() {
             Some(Frame::Record(record)) => record.current = None,
             Some(Frame::List(elements)) => elements.pause(),
+            Some(Frame::Choice(alternatives)) => alternatives.pause(),
             _ => {}
         }
     }
@@ -172,7 +184,7 @@ impl Trail {
         }
     }
 
-    /// The next addition of a record is asked for.
+    /// The next addition of a record is asked for or given.
     pub(crate) fn begin_addition(&mut self) {
         if let Some(record) = self.record() {
             record.current = match &mut record.added {
@@ -188,7 +200,7 @@ impl Trail {
         let outside = self.extent;
         if let Some(record) = self.record() {
             record.outside = Some(outside);
-            self.extent = outside.of_contents(self.bits, open);
+            self.extent = outside.of_contents(open);
         }
     }
 
@@ -211,7 +223,7 @@ impl Trail {
         let outside = self.extent;
         self.enter(Frame::Alternative(step, Some(outside)), left);
         if self.stopped.is_none() {
-            self.extent = outside.of_contents(self.bits, open);
+            self.extent = outside.of_contents(open);
         }
     }
 
@@ -219,9 +231,9 @@ impl Trail {
     pub(crate) fn enter_contents(&mut self, open: OpenAhead, left: u128) {
         let outside = self.extent;
         if self.stopped.is_none() {
-            self.extent = outside.of_contents(self.bits, open);
+            self.extent = outside.of_contents(open);
         }
-        self.enter(Frame::Contents(outside), left);
+        self.enter(Frame::Contents(Some(outside)), left);
     }
 
     /// How many bits are in front of where it stopped.

@@ -2,8 +2,9 @@
 
 use crate::path::Step;
 use rasn_schema::choices::Choice;
-use rasn_schema::fields::{Constructed, Field};
+use rasn_schema::fields::{Constructed, Field, TagTree};
 use rasn_schema::items::{ItemCounts, Place};
+use rasn_types::types::Tag;
 
 /// Components that are read or written in turn.
 #[derive(Clone, Copy)]
@@ -119,6 +120,53 @@ impl Elements {
     }
 }
 
+/// The alternatives of a CHOICE, of which one is written.
+#[derive(Clone, Copy)]
+pub(crate) struct Alternatives {
+    /// The tags of each root alternative.
+    root: &'static [TagTree],
+    /// The tags of each alternative after the extension marker.
+    added: &'static [TagTree],
+    /// The identifier of each alternative, those after the marker last.
+    identifiers: &'static [&'static str],
+    /// The step to the one that is written, if one is.
+    current: Option<Step>,
+}
+
+impl Alternatives {
+    /// The alternatives of a choice, of which none is written.
+    pub(crate) fn new<C: Choice>() -> Self {
+        let root = C::VARIANTS;
+        let added: &'static [TagTree] = match C::EXTENDED_VARIANTS {
+            Some(variants) => variants.list,
+            None => &[],
+        };
+        Alternatives {
+            root: root.list,
+            added,
+            identifiers: C::IDENTIFIERS,
+            current: None,
+        }
+    }
+
+    /// The one that goes by a tag begins.
+    pub(crate) fn begin(&mut self, tag: Tag) {
+        let mut alternatives = self.root.iter().chain(self.added.iter());
+        let place = alternatives.position(|tree| tree.smallest_tag() == Some(tag));
+        self.current = Some(step_among(self.identifiers, place));
+    }
+
+    /// None of them is written.
+    pub(crate) fn pause(&mut self) {
+        self.current = None;
+    }
+
+    /// The step to the one that is written, if one is.
+    pub(crate) fn step(&self) -> Option<Step> {
+        self.current
+    }
+}
+
 /// The place of an alternative among all of them, those after the extension marker last.
 pub(crate) fn place_among(alternatives: ItemCounts, place: Place) -> usize {
     match place {
@@ -129,8 +177,13 @@ pub(crate) fn place_among(alternatives: ItemCounts, place: Place) -> usize {
 
 /// The step to the alternative at a place among all of a choice; one without a name, where its type names none.
 pub(crate) fn step_to<C: Choice>(place: Option<usize>) -> Step {
+    step_among(C::IDENTIFIERS, place)
+}
+
+/// The step to the alternative at a place among identifiers; one without a name, where they have none.
+fn step_among(identifiers: &'static [&'static str], place: Option<usize>) -> Step {
     match place {
-        Some(place) => match C::IDENTIFIERS.get(place) {
+        Some(place) => match identifiers.get(place) {
             Some(name) => Step::Named(*name),
             None => Step::Named(""),
         },

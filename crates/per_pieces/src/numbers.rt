@@ -124,10 +124,11 @@ pub fn push_semi_constrained_whole<A: Allocator>(
 ) -> Result<(), AllocError>
     ensures { OnOk result (Appends pieces.old (counted_octets (variant_of codec) (natural_bits offset)) pieces.new) }
 {
-    push_counted(pieces, codec, octet_count(offset), offset)
+    push_counted(pieces, codec, octet_count(offset) as u32, offset)
 }
 
 /// Writes a number without bounds (X.691 11.8): its fewest octets in two's complement, after an unconstrained length.
+#[inline(always)]
 pub fn push_unconstrained_whole<A: Allocator>(
     pieces: &mut Pieces<A>,
     codec: Codec,
@@ -149,7 +150,7 @@ pub fn push_unconstrained_whole<A: Allocator>(
 fn push_counted<A: Allocator>(
     pieces: &mut Pieces<A>,
     codec: Codec,
-    octets: u128,
+    octets: u32,
     number: u128,
 ) -> Result<(), AllocError>
     requires few { octets ≤ 16 }
@@ -157,20 +158,35 @@ fn push_counted<A: Allocator>(
 {
     push_padding(pieces, codec)?;
     if octets <= 6 {
-        return pieces.push_bits(after_count(octets, number), 8 + 8 * octets);
+        return pieces.push_field(after_count(octets, number), 8 + 8 * octets);
     }
-    pieces.push_bits(octets, 8)?;
-    pieces.push_bits(number, 8 * octets)
+    push_in_two_fields(pieces, octets, number)
+}
+
+/// Writes so many octets of a number, after their count in an octet.
+#[inline(never)]
+fn push_in_two_fields<A: Allocator>(
+    pieces: &mut Pieces<A>,
+    octets: u32,
+    number: u128,
+) -> Result<(), AllocError>
+    requires { octets ≤ 16 }
+    ensures { OnOk result (pieces.new
+        ≡ with_bits (with_bits pieces.old (to_bits 8 octets)) (to_bits (8 * octets) number)) }
+{
+    pieces.push_bits(u128::from(octets), 8)?;
+    pieces.push_bits(number, u128::from(8 * octets))
 }
 
 /// So many octets of a number, after their count in an octet.
-fn after_count(octets: u128, number: u128) -> u128
+#[inline(always)]
+fn after_count(octets: u32, number: u128) -> u64
     requires { octets ≤ 6 }
     ensures { result ≡ octets * 2 ^ (8 * octets) + number % 2 ^ (8 * octets) }
 {
-    let weight: u64 = 1 << (8 * octets) as u32;
+    let weight: u64 = 1 << (8 * octets);
     let low = (number & u128::from(weight - 1)) as u64;
-    u128::from(octets as u64 * weight + low)
+    u64::from(octets) * weight + low
 }
 
 /// How many octets are the fewest for a number without sign (X.691 11.3.6), from 1 to 16.
@@ -183,7 +199,8 @@ fn octet_count(number: u128) -> u128
 }
 
 /// How many octets are the fewest for a number in two's complement (X.691 11.4.6), from 1 to 16.
-fn whole_octet_count(number: i128) -> u128
+#[inline(always)]
+fn whole_octet_count(number: i128) -> u32
     ensures count { result ≡ octets_of_whole number }
     ensures few { result ≤ 16 }
 {
@@ -192,5 +209,5 @@ fn whole_octet_count(number: i128) -> u128
     } else {
         distance_above(0, number)
     };
-    width_to(beyond) / 8 + 1
+    width_to(beyond) as u32 / 8 + 1
 }

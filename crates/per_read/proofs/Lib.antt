@@ -37,3 +37,4 @@ pub mod Pieces
 pub mod BitmapForms
 pub mod Skipped
 pub mod Turns
+pub mod FirstWords

@@ -1,16 +1,16 @@
 -- Numbers in few octets, which are read as one field (X.691 11.3, 11.4).
-use Rattle.std.proofs.Common.{◌≡◌, ◌∙◌, ◌<◌, ◌≤◌, ◌*◌, ◌-◌, ◌^◌, sym, ap, subst, arith, pow_mono, pow-suc, to_z, of_z, ◌-ℤ◌, ◌%◌, ℕ, suc, Bool, true, false, inl, List, [], ◌∷◌, ◌++◌, length, take, drop, length-take, length-drop, length-append, append_assoc, ◌+◌, ◌/◌, ◌⊎◌, ap₂, refl, inr, replicate, min, take_all, mod-eq_of_lt, Option, pos, negsuc}
+use Rattle.std.proofs.Common.{◌≡◌, ◌∙◌, ◌<◌, ◌≤◌, ◌*◌, ◌-◌, ◌^◌, sym, ap, subst, arith, pow_mono, pow-suc, to_z, of_z, ◌-ℤ◌, ◌%◌, ℕ, suc, Bool, true, false, inl, List, [], ◌∷◌, ◌++◌, length, take, drop, length-take, length-drop, length-append, append_assoc, ◌+◌, ◌/◌, ◌⊎◌, refl, inr, Option, pos, negsuc}
 use Rattle.std.specs.Int.{w64, w128}
 use Rattle.std.proofs.lemmas.Int.{ints, to_z-of_z, to_z_pos}
 use Rattle.std.specs.Prelude.{Result, Ok, Err, IsErrAnd}
 use Rattle.std.proofs.lemmas.Bool.{cases_lt, lt-ltb}
-use Rattle.std.proofs.lemmas.List.{length-replicate, take-append-drop, take-append-le, take-replicate}
-use Rattle.std.proofs.lemmas.Nat.{shr_high, shr-shr}
-use Rattle.std.proofs.Math.Seq.{take-append-add}
+use Rattle.std.proofs.lemmas.List.{take-append-drop}
+use Rattle.std.proofs.lemmas.Nat.{field_of, mod_low, shl-shr, shr_split, shr-shr}
+use Rattle.std.proofs.Math.Nat.{div-eq_of_lt}
+use Rattle.std.proofs.Common.{mod-lt, pow_pos}
 use Rattle.rasn_types.specs.Bits.{Bits, number_of, unpack, pack, signed, signed_bits}
 use Rattle.rasn_types.proofs.Bits.{length-unpack, number_below}
 use Rattle.rasn_types.proofs.Octets.{length-pack, unpack-pack}
-use Rattle.rasn_types.proofs.Packing.{number-zeros}
 use Rattle.rasn_types.proofs.Reading.{number_of-append}
 use Rattle.rasn_constraints.specs.Bounds.{allows, any_size}
 use Rattle.per_core.specs.Basic.{LastCount, Octets, OneByOne, octet}
@@ -27,6 +27,7 @@ use Rattle.per_read.specs.declared.octet_fields.OctetField.{OctetField}
 use Rattle.per_core.specs.declared.lengths.Length.{Length}
 use Rattle.per_core.specs.declared.lengths.Length.TheVariants.{Last}
 use Rattle.per_read.proofs.OneByOne.{items_wide, octets_one_by_one, took_within}
+use Rattle.per_read.proofs.FirstWords.{BeginsAs, front_number, short_last}
 use Rattle.per_read.proofs.FragmentItems.{items_begin, last_part, no_items_length, no_items_short}
 
 -- ---- what is read
@@ -59,37 +60,14 @@ no_padding_there {a} {s} h = record { front = []; joins = refl; spelled = record
     none true = refl
     none false = tt
 
--- the first 56 bits, with zeros after the last
-abbrev pub padded : Bits → Bits
-padded s = take 56 (s ++ replicate 56 false)
+-- the octets behind the length in a word
+octets_number : (w c n : ℕ) → 0 < c → c ≤ 6 → n ≡ w * 2 ^ 8 % 2 ^ 64 / 2 ^ (64 - 8 * c) → n ≡ w / 2 ^ (56 - 8 * c) % 2 ^ (8 * c)
+octets_number w c n some few e = e ∙ ap (λ (k : ℕ). w * 2 ^ 8 % 2 ^ k / 2 ^ (64 - 8 * c)) (let i : 64 ≡ 8 * c + (64 - 8 * c) = omega arith in i) ∙ field_of (w * 2 ^ 8) (8 * c) (64 - 8 * c)
+    ∙ ap (λ (m : ℕ). m % 2 ^ (8 * c)) (ap (λ (k : ℕ). w * 2 ^ 8 / 2 ^ k) (let i : 64 - 8 * c ≡ 8 + (56 - 8 * c) = omega arith in i) ∙ sym (shr-shr (w * 2 ^ 8) 8 (56 - 8 * c)) ∙ ap (λ (m : ℕ). m / 2 ^ (56 - 8 * c)) (shl-shr w 8))
 
-padded_wide : (s : Bits) → length (padded s) ≡ 56
-padded_wide s = length-take 56 (s ++ replicate 56 false) ∙ omega (arith, length-append s (replicate 56 false), length-replicate 56 false)
-
--- those that are there, as a number
-pub first_below : (k : ℕ) (s : Bits) → k ≤ 56 → number_of (take k s) < 2 ^ 56
-first_below k s h = let m : 2 ^ length (take k s) ≤ 2 ^ 56 = pow_mono {i = length (take k s)} {j = 56} (omega (arith, length-take k s)) in omega (arith, m, number_below (take k s))
-
-pub padded_is : (k n : ℕ) (s : Bits) → k ≡ min (length s) 56 → n ≡ number_of (take k s) → n * 2 ^ (56 - k) % 2 ^ 64 ≡ number_of (padded s)
-padded_is k n s h i = ap (λ (m : ℕ). m % 2 ^ 64) whole ∙ mod-eq_of_lt (let b : number_of (padded s) < 2 ^ 56 = subst (λ (j : ℕ). number_of (padded s) < 2 ^ j) (padded_wide s) (number_below (padded s)) in omega (arith, b))
-  where
-    go : (length s < 56) ⊎ (56 ≤ length s) → n * 2 ^ (56 - k) ≡ number_of (padded s)
-    go (inl l) =
-        let e : k ≡ length s = omega arith in
-        let left = 56 - length s in
-        let zeros : padded s ≡ s ++ replicate left false = ap (λ (j : ℕ). take j (s ++ replicate 56 false)) (let j : 56 ≡ length s + left = omega arith in j) ∙ take-append-add s (replicate 56 false) left ∙ ap (λ z. s ++ z) (take-replicate left 56 false (omega arith)) in
-        let sum : number_of (padded s) ≡ number_of s * 2 ^ left + 0 = ap number_of zeros ∙ number_of-append s (replicate left false) ∙ ap₂ (λ (x y : ℕ). number_of s * 2 ^ x + y) (length-replicate left false) (number-zeros left) in
-        ap₂ (λ (x y : ℕ). x * 2 ^ (56 - y)) (i ∙ ap number_of (take_all k s (omega arith))) e ∙ omega (arith, sum)
-    go (inr l) =
-        let e : k ≡ 56 = omega arith in
-        ap₂ (λ (x y : ℕ). x * 2 ^ (56 - y)) (i ∙ ap (λ (j : ℕ). number_of (take j s)) e) e ∙ (let j : number_of (take 56 s) * 2 ^ 0 ≡ number_of (take 56 s) = omega arith in j) ∙ ap number_of (sym (take-append-le 56 s (replicate 56 false) l))
-
-    whole : n * 2 ^ (56 - k) ≡ number_of (padded s)
-    whole = go (cases_lt (length s) 56)
-
--- a field of 56 bits: the length c, as many octets, and what is after them
-pub at_once : {a : Settings} (w c n : ℕ) {s t : Bits} (f : Bits) → w ≡ number_of (padded s) → c ≤ 6 → s ≡ f ++ t → length f ≡ 8 + 8 * c
-    → pad a.variant (bit_offset s) ≡ 0 → c ≡ w / 2 ^ 48 → 0 < c → n ≡ w * 2 ^ 16 % 2 ^ 64 / 2 ^ (64 - 8 * c) → TookOctetField a (record { number = n; count = c }) s t
+-- a word of the length c, as many octets, and what is after them
+pub at_once : {a : Settings} (w c n : ℕ) {s t : Bits} (f : Bits) → BeginsAs w s → c ≤ 6 → s ≡ f ++ t → length f ≡ 8 + 8 * c
+    → pad a.variant (bit_offset s) ≡ 0 → c ≡ w / 2 ^ 56 → 0 < c → n ≡ w * 2 ^ 8 % 2 ^ 64 / 2 ^ (64 - 8 * c) → TookOctetField a (record { number = n; count = c }) s t
 at_once {a} w c n {s} {t} f is few joins wide unpadded e some i =
     few_took c n (took_then (no_padding_there {a = a} {s = s} unpadded) counted) refl some (omega arith) (record { front = octets; joins = refl; spelled = record { wide = octets_wide; means = number_is } })
   where
@@ -99,48 +77,27 @@ at_once {a} w c n {s} {t} f is few joins wide unpadded e some i =
     octets : Bits
     octets = drop 8 f
 
-    rest : Bits
-    rest = take (48 - 8 * c) (t ++ replicate 56 false)
-
     octets_wide : length octets ≡ 8 * c
     octets_wide = length-drop 8 f ∙ omega arith
 
-    rest_wide : length rest ≡ 48 - 8 * c
-    rest_wide = length-take (48 - 8 * c) (t ++ replicate 56 false) ∙ omega (arith, length-append t (replicate 56 false), length-replicate 56 false)
-
-    behind : ℕ
-    behind = number_of (octets ++ rest)
-
-    after_wide : length (octets ++ rest) ≡ 48
-    after_wide = length-append octets rest ∙ omega (arith, octets_wide, rest_wide)
-
-    after_below : behind < 2 ^ 48
-    after_below = subst (λ (k : ℕ). behind < 2 ^ k) after_wide (number_below (octets ++ rest))
-
-    field_parts : padded s ≡ first ++ (octets ++ rest)
-    field_parts = ap (λ z. padded z) joins ∙ ap₂ (λ (k : ℕ) z. take k z) (let l : 56 ≡ length f + (48 - 8 * c) = omega arith in l) (append_assoc f t (replicate 56 false)) ∙ take-append-add f (t ++ replicate 56 false) (48 - 8 * c)
-        ∙ ap (λ z. z ++ rest) (sym (take-append-drop 8 f)) ∙ append_assoc first octets rest
-
-    parts : w ≡ number_of first * 2 ^ 48 + behind
-    parts = is ∙ ap number_of field_parts ∙ number_of-append first (octets ++ rest) ∙ ap (λ (k : ℕ). number_of first * 2 ^ k + behind) after_wide
+    parts : s ≡ first ++ (octets ++ t)
+    parts = joins ∙ ap (λ z. z ++ t) (sym (take-append-drop 8 f)) ∙ append_assoc first octets t
 
     counted : Took (LastCount c) s (octets ++ t)
-    counted = record {
-      front = first;
-      joins = joins ∙ ap (λ z. z ++ t) (sym (take-append-drop 8 f)) ∙ append_assoc first octets t;
-      spelled = inl (omega arith, record { wide = length-take 8 f ∙ omega arith; means = omega (arith, parts, after_below) });
-    }
-
-    moved : w * 2 ^ 16 % 2 ^ 64 ≡ behind * 2 ^ 16
-    moved = omega (arith, parts, after_below)
-
-    back : behind * 2 ^ 16 / 2 ^ 16 ≡ number_of octets * 2 ^ (48 - 8 * c) + number_of rest
-    back = (let b : behind * 2 ^ 16 / 2 ^ 16 ≡ behind = omega arith in b) ∙ number_of-append octets rest ∙ ap (λ (k : ℕ). number_of octets * 2 ^ k + number_of rest) rest_wide
+    counted = subst (λ (k : ℕ). Took (LastCount k) s (octets ++ t)) (sym e) (short_last first (octets ++ t) is parts (length-take 8 f ∙ omega arith) (omega (arith, e)))
 
     number_is : number_of octets ≡ n
-    number_is = sym (i ∙ ap₂ (λ (x y : ℕ). x / 2 ^ y) moved (let b : 64 - 8 * c ≡ 16 + (48 - 8 * c) = omega arith in b) ∙ sym (shr-shr (behind * 2 ^ 16) 16 (48 - 8 * c))
-        ∙ ap (λ (x : ℕ). x / 2 ^ (48 - 8 * c)) back
-        ∙ shr_high (number_of octets) (48 - 8 * c) (number_of rest) (subst (λ (k : ℕ). number_of rest < 2 ^ k) rest_wide (number_below rest)))
+    number_is =
+        let whole : number_of f ≡ number_of first * 2 ^ (8 * c) + number_of octets = ap number_of (sym (take-append-drop 8 f)) ∙ number_of-append first octets ∙ ap (λ (k : ℕ). number_of first * 2 ^ k + number_of octets) octets_wide in
+        let below : number_of octets < 2 ^ (8 * c) = subst (λ (k : ℕ). number_of octets < 2 ^ k) octets_wide (number_below octets) in
+        sym (mod_low (number_of first) (8 * c) (number_of octets) below) ∙ ap (λ (m : ℕ). m % 2 ^ (8 * c)) (sym whole ∙ front_number f t is joins (8 + 8 * c) wide (omega arith) ∙ ap (λ (k : ℕ). w / 2 ^ k) (let l : 64 - (8 + 8 * c) ≡ 56 - 8 * c = omega arith in l))
+        ∙ sym (octets_number w c n some few i)
+
+-- the same, where their count is said by the word
+pub taken_at_once : {a : Settings} (w c n : ℕ) {s t : Bits} (f : Bits) → BeginsAs w s → c ≡ w / 2 ^ 56 → 0 < w / 2 ^ 56 → w / 2 ^ 56 ≤ 6 → s ≡ f ++ t → length f ≡ 8 + 8 * (w / 2 ^ 56)
+    → pad a.variant (bit_offset s) ≡ 0 → n ≡ w * 2 ^ 8 % 2 ^ 64 / 2 ^ (64 - 8 * (w / 2 ^ 56)) → TookOctetField a (record { number = n; count = c }) s t
+taken_at_once w c n f is e some few joins wide unpadded i = at_once w c n f is (omega (arith, e, few)) joins (wide ∙ ap (λ (k : ℕ). 8 + 8 * k) (sym e)) unpadded e (omega (arith, e, some))
+    (i ∙ ap (λ (k : ℕ). w * 2 ^ 8 % 2 ^ 64 / 2 ^ (64 - 8 * k)) (sym e))
 
 -- octets that are there so
 module _ {a : Settings} {os : List ℕ} {s t : Bits} (b : Took (AtOnce a os) s t) where
@@ -151,27 +108,8 @@ module _ {a : Settings} {os : List ℕ} {s t : Bits} (b : Took (AtOnce a os) s t
   once_wide = let q = once_parts in omega (arith, items_wide 8 os q.2, q.1.spelled.wide, ap length q.1.joins, length-append q.1.front q.0)
 
   -- their count is the first octet
-  pub once_counted : number_of (padded s) / 2 ^ 48 ≡ length os
-  once_counted = omega (arith, is, subst (λ (k : ℕ). number_of rest < 2 ^ k) rest_wide (number_below rest))
-    where
-      m : Bits
-      m = once_parts.0
-
-      c : Took (BitField 8 (length os)) s m
-      c = once_parts.1
-
-      rest : Bits
-      rest = take 48 (m ++ replicate 56 false)
-
-      rest_wide : length rest ≡ 48
-      rest_wide = length-take 48 (m ++ replicate 56 false) ∙ omega (arith, length-append m (replicate 56 false), length-replicate 56 false)
-
-      joined : padded s ≡ c.front ++ rest
-      joined = ap₂ (λ (k : ℕ) z. take k z) (let l : 56 ≡ length c.front + 48 = omega (arith, c.spelled.wide) in l) (ap (λ z. z ++ replicate 56 false) c.joins ∙ append_assoc c.front m (replicate 56 false))
-          ∙ take-append-add c.front (m ++ replicate 56 false) 48
-
-      is : number_of (padded s) ≡ length os * 2 ^ 48 + number_of rest
-      is = ap number_of joined ∙ number_of-append c.front rest ∙ ap₂ (λ (x y : ℕ). x * 2 ^ y + number_of rest) c.spelled.means rest_wide
+  pub once_counted : {w : ℕ} → BeginsAs w s → w / 2 ^ 56 ≡ length os
+  once_counted h = let c = once_parts.1 in sym (front_number c.front once_parts.0 h c.joins 8 c.spelled.wide (omega arith)) ∙ c.spelled.means
 
 module _ (a : Settings) (s : Bits) where
   -- nothing is there where there is no length, or where its octets end early
@@ -251,12 +189,32 @@ negative_is {f} {os} h half e few some l =
     k : ℕ
     k = half - 1 - (f.number - half)
 
+-- a bit that is zero, and none above it
+below_half : (n k : ℕ) → n / 2 ^ k ≡ 0 → n < 2 ^ k
+below_half n k h = let m = mod-lt n (pow_pos k) in omega (arith, sym (shr_split n k) ∙ ap (λ (q : ℕ). q * 2 ^ k + n % 2 ^ k) h, m)
+
+from_half : (n k : ℕ) → ¬ (n / 2 ^ k ≡ 0) → 2 ^ k ≤ n
+from_half n k h = go (cases_lt n (2 ^ k))
+  where
+    go : (n < 2 ^ k) ⊎ (2 ^ k ≤ n) → 2 ^ k ≤ n
+    go (inl l) = absurd (h (div-eq_of_lt l))
+    go (inr l) = l
+
 -- the same in a word
 pub half_word_is : {f : OctetField} {os : List ℕ} → AreOctetsOf os f → f.count ≤ 6
     → (1 * 2 ^ (8 * f.count - 1) % 2 ^ 64 ≡ 2 ^ (8 * f.count - 1)) × (2 ^ (8 * f.count - 1) ≤ 2 ^ 47)
 half_word_is {f} h few =
     let m : 2 ^ (8 * f.count - 1) ≤ 2 ^ 47 = pow_mono {i = 8 * f.count - 1} {j = 47} (omega (arith, few)) in
     (omega (arith, m), m)
+
+doubled : {f : OctetField} {os : List ℕ} → AreOctetsOf os f → f.count ≤ 6 → f.number * 2 % 2 ^ 64 ≡ f.number * 2
+doubled h few = omega (arith, few_below h, twice_half h, (half_word_is h few).1)
+
+pub below_word : {f : OctetField} {os : List ℕ} → AreOctetsOf os f → f.count ≤ 6 → f.number * 2 % 2 ^ 64 / 2 ^ (8 * f.count) ≡ 0 → f.number < 2 ^ (8 * f.count - 1)
+below_word {f} h few e = omega (arith, doubled h few, below_half (f.number * 2 % 2 ^ 64) (8 * f.count) e, twice_half h)
+
+pub from_word : {f : OctetField} {os : List ℕ} → AreOctetsOf os f → f.count ≤ 6 → ¬ (f.number * 2 % 2 ^ 64 / 2 ^ (8 * f.count) ≡ 0) → 2 ^ (8 * f.count - 1) ≤ f.number
+from_word {f} h few e = omega (arith, doubled h few, from_half (f.number * 2 % 2 ^ 64) (8 * f.count) e, twice_half h)
 
 pub negative_word_is : {f : OctetField} {os : List ℕ} → AreOctetsOf os f → (half : ℕ) → half ≡ 2 ^ (8 * f.count - 1) → half ≤ 2 ^ 47 → 0 < half → half ≤ f.number
     → to_z w64 (of_z w64 (negsuc 0 -ℤ to_z w64 (half - 1 - (f.number - half)))) ≡ signed os

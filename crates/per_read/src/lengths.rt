@@ -1,6 +1,8 @@
 //! Counts in front of items: unconstrained lengths and the padding before them (X.691 11.9.3.5 to 11.9.3.8).
 
-ghost use Rattle.per_core.specs.Spellings.{AnyPadding};
+ghost use Rattle.std.specs.Prelude.{◌≡◌, None, IfSome};
+ghost use Rattle.per_core.specs.Basic.{LastCount};
+ghost use Rattle.per_core.specs.Spellings.{AnyPadding, Took};
 ghost use Rattle.per_core.specs.BitFieldFaults.{IsOfCount, IsOfLength, IsOfPadding};
 ghost use Rattle.per_core.specs.Lengths.{LengthOf, CountOf};
 ghost use Rattle.per_read.specs.Takes.{Takes, alone, itself, telling};
@@ -42,6 +44,41 @@ impl Reader<'_> {
     /// (X.691 11.9.3.6 to 11.9.3.8).
     #[inline(always)]
     fn take_determinant(&mut self) -> Result<Length, DecodeErrorKind>
+        ensures { Takes (telling (λ a. IsOfCount)) (λ a. CountOf) itself self.old result self.new }
+    {
+        if let Some(count) = self.take_last_count() {
+            return Ok(Length::Last(u128::from(count)));
+        }
+        self.take_determinant_by_bits()
+    }
+
+    /// Takes a count below 16384, where its one or two octets are left (X.691 11.9.3.6, 11.9.3.7). Else `None`, and
+    /// nothing is taken.
+    #[inline(always)]
+    fn take_last_count(&mut self) -> Option<u64>
+        ensures took { IfSome result (λ count. Took (LastCount count) self.old.bits self.new.bits) }
+        ensures none { result ≡ None → self.new.bits ≡ self.old.bits }
+        ensures kept { self.new.options ≡ self.old.options }
+    {
+        let word = self.bits.front();
+        if word >> 63 == 0 {
+            let Ok(_) = self.bits.take(8) else {
+                return None;
+            };
+            return Some(word >> 56);
+        }
+        if word >> 62 != 2 {
+            return None;
+        }
+        let Ok(_) = self.bits.take(16) else {
+            return None;
+        };
+        Some((word >> 48) - 0x8000)
+    }
+
+    /// Takes what `take_determinant` does, its first bits one by one.
+    #[inline(always)]
+    fn take_determinant_by_bits(&mut self) -> Result<Length, DecodeErrorKind>
         ensures { Takes (telling (λ a. IsOfCount)) (λ a. CountOf) itself self.old result self.new }
     {
         if !self.take_bit()? {

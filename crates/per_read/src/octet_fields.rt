@@ -1,7 +1,7 @@
 //! Numbers in few octets, which are read as one field and take no memory (X.691 11.3, 11.4).
 
-ghost use Rattle.std.specs.Prelude.{◌≡◌, ◌≤◌, ◌↔◌, ◌++◌, ℕ, List, None, IsTrue, take, replicate, false};
-ghost use Rattle.rasn_types.specs.Bits.{number_of, signed};
+ghost use Rattle.std.specs.Prelude.{◌≡◌, ◌≤◌, ◌↔◌, ℕ, List, None, IsTrue};
+ghost use Rattle.rasn_types.specs.Bits.{signed};
 ghost use Rattle.per_core.specs.Spellings.{bit_offset, NoneIn};
 ghost use Rattle.per_core.specs.Writers.{pad};
 ghost use Rattle.per_read.specs.OctetFields.{AreOctetsOf, AtOnce, OfOctetField, TakesOctetField};
@@ -47,12 +47,12 @@ impl OctetField {
         ensures { (octets : List ℕ) → AreOctetsOf octets self.now → result ≡ signed octets }
     {
         let number = self.number as u64;
-        let half = 1 << (8 * self.count as u32 - 1);
-        if number < half {
-            number as i64
-        } else {
-            -1 - (half - 1 - (number - half)) as i64
+        let width = 8 * self.count as u32;
+        if number << 1 >> width == 0 {
+            return number as i64;
         }
+        let half = 1 << (width - 1);
+        -1 - (half - 1 - (number - half)) as i64
     }
 }
 
@@ -69,7 +69,7 @@ impl Reader<'_> {
         self.take_octets_after_length()
     }
 
-    /// Takes octets and their length as one field, where no padding precedes them, there are from 1 to 6, and their
+    /// Takes octets and their length as one word, where no padding precedes them, there are from 1 to 6, and their
     /// length has one octet (X.691 11.9.3.6). Else `None`, and nothing is taken.
     #[inline(always)]
     pub fn take_octets_at_once(&mut self) -> Option<OctetField>
@@ -80,29 +80,21 @@ impl Reader<'_> {
         if !self.is_unpadded() {
             return None;
         }
-        let field = self.first_field();
-        match field >> 48 {
-            count @ 1..=6 => {
-                let Ok(_) = self.bits.take(u128::from(8 + 8 * count)) else {
-                    return None;
-                };
-                let number = field << 16 >> (64 - 8 * count);
-                Some(OctetField {
-                    number: u128::from(number),
-                    count: u128::from(count),
-                })
-            }
-            _ => None,
+        let word = self.bits.front();
+        let count = word >> 56;
+        // how far it is above one: none is the farthest
+        let above = count.wrapping_sub(1);
+        if above >= 6 {
+            return None;
         }
-    }
-
-    /// The number that the first 56 bits mean, the first the highest, with zeros for those that aren't left.
-    #[inline(always)]
-    fn first_field(&self) -> u64
-        ensures { result ≡ number_of (take 56 (self.now.bits ++ replicate 56 false)) }
-    {
-        let width = self.bits.len().min(56);
-        (self.bits.first_bits(width) as u64) << (56 - width)
+        let Ok(_) = self.bits.take(u128::from(8 + 8 * count)) else {
+            return None;
+        };
+        let number = word << 8 >> (64 - 8 * count);
+        Some(OctetField {
+            number: u128::from(number),
+            count: u128::from(count),
+        })
     }
 
     /// Whether no padding precedes what begins on an octet in the aligned variant.

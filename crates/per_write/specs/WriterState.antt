@@ -1,12 +1,12 @@
 -- What contracts see of a writer and of an encoder around it, and what their calls do to it.
-use Rattle.std.specs.Prelude.{ℕ, ◌≡◌, Bool, true, false, Option, Some, None, Result, OnOk, OnErr, IfErr}
+use Rattle.std.specs.Prelude.{ℕ, ◌≡◌, ◌++◌, List, Bool, true, false, Option, Some, None, Result, OnOk, OnErr, IfErr}
 use Rattle.rasn_types.specs.Bits.{Bits}
 use Rattle.rasn_types.specs.Variants.{variant_of, Variant}
 use Rattle.rasn_types.specs.Values.{Value}
 use Rattle.rasn_types.specs.declared.types.Codec.{Codec}
 use Rattle.rasn_schema.specs.Schemas.{Schema}
 use Rattle.per_core.specs.Writers.{Writer, just, ◌▹◌}
-use Rattle.per_core.specs.Canon.{canon}
+use Rattle.per_core.specs.Canon.{canon, completed}
 use Rattle.per_pieces.specs.Pieces.{Appends, MayBegin as MayStand, Pieces, no_pieces, writer_of}
 use Rattle.per_write.specs.declared.presences.Presences.{Presences}
 
@@ -60,6 +60,12 @@ MayBegin x p = MayStand x.pieces p
 -- some bits were written after those that stood there from the start
 abbrev pub AppendsBits : Bits → Writer → Bits → Type 0
 AppendsBits before more behind = Some behind ≡ (just before ▹ more) 0
+
+-- what holds some octets holds the complete encoding of what was written behind them (X.691 11.1)
+pub record HoldsOutput (before : List ℕ) (x : WriterState) (after : List ℕ) : Type 0 where
+  pub octets : List ℕ
+  pub complete : completed (view x 0) ≡ Some octets
+  pub behind : after ≡ before ++ octets
 
 -- a call wrote one thing more
 pub record StateAppends (x : WriterState) (more : Writer) (y : WriterState) : Type 0 where

@@ -13,7 +13,7 @@ ghost use Rattle.per_core.specs.Writers.{just, one_by_one};
 ghost use Rattle.per_core.specs.Counts.{octet_writers, unconstrained_octets};
 ghost use Rattle.per_core.specs.Canon.{completed};
 ghost use Rattle.per_pieces.specs.Pieces.{no_pieces};
-ghost use Rattle.per_write.specs.WriterState.{fresh, view, Puts};
+ghost use Rattle.per_write.specs.WriterState.{fresh, view, HoldsOutput, Puts};
 ghost use Rattle.per_write.specs.Rules.{encoder_rules};
 ghost use Rattle.per_write.specs.Faults.{IsError, IsMemory, IsAlready, RefusesOutput};
 
@@ -139,6 +139,28 @@ impl<A: Allocator + Clone> Writer<A> {
         let bits = self.unless_out_of_memory(bits)?;
         let octets = complete_in_place(bits);
         self.unless_out_of_memory(octets)
+    }
+
+    /// Puts what `output` gives behind what a buffer holds. The next value is written in the memory that this one had.
+    ///
+    /// An error is that of `output`, also where the buffer finds no memory; it is as it was then.
+    pub fn output_onto(&mut self, buffer: &mut Vec<u8, A>) -> Result<(), EncodeError>
+        ensures octets { OnOk result (HoldsOutput buffer.old.items self.old buffer.new.items) }
+        ensures same { OnErr result (buffer.new.items ≡ buffer.old.items) }
+        ensures taken { OnOk result (self.new ≡ record self.old { pieces = no_pieces }) }
+        ensures begun { OnOk result (self.old.failed ≡ false) }
+        ensures outside { OnOk result (self.old.scope.is_open ≡ false) }
+        ensures err { IfErr result (λ e. RefusesOutput e self.old) }
+        ensures fails { OnErr result (self.new.failed ≡ true) }
+        ensures kept { self.new.codec ≡ self.old.codec }
+    {
+        let octets = self.output()?;
+        let appended = buffer.extend_from_slice(&octets);
+        self.pieces = Pieces::from_bits(BitList::from_memory(octets));
+        match appended {
+            Ok(()) => Ok(()),
+            Err(_) => Err(self.refuse(EncodeErrorKind::OutOfMemory)),
+        }
     }
 
     /// What was written, and where the memory of more is from.
@@ -281,6 +303,7 @@ impl<A: Allocator + Clone> Writer<A> {
     }
 
     /// Writes octets with no length.
+    #[inline(always)]
     fn put_bare_octets(&mut self, octets: &[u8]) -> Result<(), EncodeError>
         requires { self.old.failed ≡ false }
         ensures { Puts IsMemory (one_by_one (octet_writers octets.now)) self.old result self.new }

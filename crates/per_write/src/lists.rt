@@ -67,6 +67,7 @@ pub fn begin_list<A: Allocator + Clone>(
 
 /// Goes on to the next element: where a fragment begins, its length is written. Where no element is left it
 /// refuses.
+#[inline(always)]
 pub fn next_element<A: Allocator + Clone>(
     writer: &mut Writer<A>,
     list: &mut UnwrittenElements,
@@ -169,8 +170,24 @@ fn begin_sized<A: Allocator + Clone>(
     }
 }
 
-/// Writes the length of the next fragment of so many elements (X.691 11.9.3.5 to 11.9.3.8): as large as it may be.
+/// Writes the length of the next fragment of so many elements (X.691 11.9.3.5 to 11.9.3.8): as large as it may be. What
+/// the call answers has its room here, so that a caller needs none amid a fragment.
+#[inline(always)]
 fn begin_fragment<A: Allocator + Clone>(
+    writer: &mut Writer<A>,
+    count: usize,
+    around: bool,
+) -> Result<UnwrittenElements, EncodeError>
+    requires { writer.old.failed ≡ false }
+    ensures { BeginsItems IsMemory (λ a ws. in_fragments a (fragment_sizes count) ws)
+        count around writer.old result writer.new }
+{
+    begin_largest_fragment(writer, count, around)
+}
+
+/// The same, as a call of its own.
+#[inline(never)]
+fn begin_largest_fragment<A: Allocator + Clone>(
     writer: &mut Writer<A>,
     count: usize,
     around: bool,

@@ -21,8 +21,23 @@ use std::alloc::Allocator;
 
 impl<A: Allocator + Clone> Writer<A> {
     /// Writes items under a size constraint: where the constraint is extensible, after a bit that says whether their
-    /// count is outside (X.691 16.6, 17.3, 20.4, 30.4).
+    /// count is outside (X.691 16.6, 17.3, 20.4, 30.4). What the call answers has its room here, so that a caller needs
+    /// none for other items.
+    #[inline(always)]
     pub(crate) fn put_counted<I: ItemsToWrite>(
+        &mut self,
+        size: Option<Extensible<Bounded<usize>>>,
+        items: &I,
+    ) -> Result<(), EncodeError>
+        requires { self.old.failed ≡ false }
+        ensures { PutsCounted size (I.counted items.now) self.old result self.new }
+    {
+        self.put_under_size(size, items)
+    }
+
+    /// The same, as a call of its own.
+    #[inline(never)]
+    fn put_under_size<I: ItemsToWrite>(
         &mut self,
         size: Option<Extensible<Bounded<usize>>>,
         items: &I,

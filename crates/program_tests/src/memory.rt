@@ -1,9 +1,11 @@
 //! That want of memory is named so, and which calls take none.
 
 use linked_list_allocator::LocalHeap;
-use rasn_below::types::{Codec, OctetString};
+use rasn_below::codec::Encoder as _;
+use rasn_below::types::{Codec, Identifier, OctetString, Tag};
+use rasn_per::per::{Encoder, EncoderOptions};
 use rasn_per::uper::{EncodeError, EncodeErrorKind, decode, encode, encode_buf};
-use std::alloc::{AllocError, Global};
+use std::alloc::{AllocError, Allocator, Global};
 use std::test::Fail;
 
 const NO_MEMORY: EncodeError = EncodeError {
@@ -45,6 +47,51 @@ fn writes_in_the_memory_of_a_buffer(rt: HostRuntime) -> Result<(), Fail> {
     let octets = OctetString::new(Vec::from_slice(rt.alloc(), &[0x55; 32])?);
     let is_written = is_written_in_its_buffer(rt.alloc(), &octets)?;
     assert!(rt; is_written);
+    Ok(())
+}
+
+/// Puts the octets of TRUE behind what a buffer holds.
+fn put_onto<A: Allocator + Clone>(
+    encoder: &mut Encoder<A>,
+    buffer: &mut Vec<u8, A>,
+) -> Result<(), EncodeError> {
+    encoder.encode_bool(Tag::BOOL, true, Identifier::EMPTY)?;
+    encoder.output_onto(buffer)
+}
+
+/// Octets, each in memory of its own, that leave a heap no room.
+fn filled<A: Allocator + Clone>(alloc: Global, heap: A) -> Result<Vec<Vec<u8, A>>, AllocError> {
+    let mut octets = Vec::new(alloc);
+    for _ in 0..512 {
+        let Ok(octet) = Vec::from_slice(heap.clone()?, &[0]) else {
+            break;
+        };
+        octets.push(octet)?;
+    }
+    Ok(octets)
+}
+
+/// What a buffer holds after an encoder was used twice, the second time where its heap has no room left, and why
+/// another writes nothing there.
+fn used_twice<A: Allocator + Clone>(
+    alloc: Global,
+    heap: A,
+) -> Result<(Vec<u8, A>, Option<EncodeError>), Fail> {
+    let mut buffer = Vec::from_slice(heap.clone()?, &[0x01])?;
+    let mut encoder = Encoder::new(heap.clone()?, EncoderOptions::unaligned());
+    put_onto(&mut encoder, &mut buffer)?;
+    let _octets = filled(alloc, heap.clone()?)?;
+    let refused = encode(heap, &true).err();
+    put_onto(&mut encoder, &mut buffer)?;
+    Ok((buffer, refused))
+}
+
+#[test]
+fn an_encoder_that_is_used_again_asks_for_no_memory(rt: HostRuntime) -> Result<(), Fail> {
+    let heap = LocalHeap::new(rt.alloc(), 512)?;
+    let (buffer, refused) = used_twice(rt.alloc(), &heap)?;
+    assert_eq!(rt; buffer.as_slice(), [0x01, 0x80, 0x80].as_slice());
+    assert_eq!(rt; refused, Some(NO_MEMORY));
     Ok(())
 }
 

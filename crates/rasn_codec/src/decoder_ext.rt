@@ -68,6 +68,7 @@ pub trait DecoderExt: Decoder {
     }
 
     /// Reads an optional component: its presence bit, and after a bit 1 its value (X.691 19.2).
+    #[inline(always)]
     final fn decode_optional_with_tag_and_constraints<T: Decode>(
         &mut self,
         tag: Tag,

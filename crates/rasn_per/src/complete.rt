@@ -1,11 +1,11 @@
 //! Complete encodings (X.691 11.1) in either variant: values to octets and back.
 
-ghost use Rattle.std.specs.Prelude.{◌≡◌, ◌≤◌, ◌*◌, ℕ, false, List, length, OnErr, IfOk, IfErr};
+ghost use Rattle.std.specs.Prelude.{◌≡◌, ◌≤◌, ◌*◌, ◌%◌, ℕ, false, List, length, OnOk, OnErr, IfOk, IfErr};
 ghost use Rattle.rasn_constraints.specs.LawfulConstraints.{are_lawful};
 ghost use Rattle.per_core.specs.declared.encode_error.EncodeErrorKind.TheVariants.{OutOfMemory};
 ghost use Rattle.rasn_per.specs.Calls.{Encoded, EncodedInto, EncodedOnto, DecodedBy, DecodedFront};
 ghost use Rattle.rasn_per.specs.Calls.{AnswersFew, AnswersFewInFront};
-ghost use Rattle.per_core.specs.Ends.{kind_of};
+ghost use Rattle.per_core.specs.Ends.{kind_of, Ends, IsWhy};
 ghost use Rattle.rasn_per.specs.Kinds.{IsRemainder, IsWhyNone};
 
 use crate::types::{DecodeAs, EncodeAs};
@@ -86,7 +86,7 @@ fn encode_over<T, S: EncodeAs<T>, A: Allocator + Clone>(
 {
     let mut encoder = Encoder::new_with_output(encoder_options(codec), output);
     schema.encode_as(&mut encoder, value)?;
-    encoder.output_into_vec()
+    encoder.output()
 }
 
 /// How an encoder writes in the variant of a codec.
@@ -133,7 +133,7 @@ pub fn decode_in<T: Drop, S: DecodeAs<T>>(
     if decoded.is_err() {
         return decoded;
     }
-    match ended(&decoder.input(), total, options.needs_zero_padding()) {
+    match ended_in(&decoder, total, options.needs_zero_padding()) {
         Ok(()) => {}
         Err(surplus) => return Err(refusal(surplus, decoder.codec())),
     }
@@ -179,6 +179,23 @@ fn remainder(left: u128, octets: &[u8]) -> Result<&[u8], Surplus>
         Some((&0, rest)) => Ok(rest),
         Some(_) => Err(Surplus::NonzeroOctet),
     }
+}
+
+/// Whether what a decoder has left of so many bits ends a complete encoding (X.691 11.1). Mostly that is seen without a
+/// look at the bits.
+#[inline(always)]
+fn ended_in(decoder: &Decoder<'_>, total: u128, zero_padding: bool) -> Result<(), Surplus>
+    requires fits { length decoder.now.bits ≤ total }
+    requires octets { total % 8 ≡ 0 }
+    ensures ok { OnOk result (Ends zero_padding decoder.now.bits total) }
+    ensures none { OnErr result (Ends zero_padding decoder.now.bits total → ⊥) }
+    ensures why { IfErr result (IsWhy zero_padding decoder.now.bits total) }
+{
+    let left = decoder.left();
+    if !zero_padding && left < 8 && left < total {
+        return Ok(());
+    }
+    ended(&decoder.input(), total, zero_padding)
 }
 
 /// The refusal of octets that don't end as a complete encoding does.

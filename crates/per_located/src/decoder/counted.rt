@@ -2,7 +2,7 @@
 
 use crate::decoder::{Located, Positioned};
 use crate::path::Step;
-use crate::trail::RecordFrame;
+use crate::trail::{Frame, RecordFrame};
 use crate::turns::place_among;
 use rasn_schema::items::{ItemCounts, Place};
 use rasn_traits::counted::CountedDecoder;
@@ -10,9 +10,8 @@ use rasn_types::types::Tag;
 
 impl<D: Positioned + CountedDecoder> CountedDecoder for Located<D> {
     fn decode_item(&mut self, tag: Tag, items: ItemCounts) -> Result<Place, D::Error> {
-        self.trail.begin();
         let answer = self.inner.decode_item(tag, items);
-        self.seen(answer)
+        self.begun(answer)
     }
 
     fn open_record(
@@ -22,13 +21,11 @@ impl<D: Positioned + CountedDecoder> CountedDecoder for Located<D> {
         presence_bits: usize,
         additions: Option<usize>,
     ) -> Result<D::Scope, D::Error> {
-        self.trail.begin();
         let extended = additions.is_some() && self.inner.is_extended();
         let answer = self
             .inner
             .open_record(tag, components, presence_bits, additions);
-        self.enter_record(&answer, RecordFrame::counted(extended));
-        self.seen(answer)
+        self.opened(answer, Frame::Record(RecordFrame::counted(extended)))
     }
 
     fn open_fields_of(
@@ -37,20 +34,15 @@ impl<D: Positioned + CountedDecoder> CountedDecoder for Located<D> {
         presence_bits: usize,
         additions: Option<usize>,
     ) -> Result<D::Scope, D::Error> {
-        self.trail.begin();
         let extended = additions.is_some() && self.inner.is_extended();
         let answer = self.inner.open_fields_of(tag, presence_bits, additions);
-        self.enter_record(&answer, RecordFrame::counted(extended));
-        self.seen(answer)
+        self.opened(answer, Frame::Record(RecordFrame::counted(extended)))
     }
 
     fn close_fields_of(&mut self, scope: D::Scope) -> Result<(), D::Error> {
         self.trail.pause();
         let answer = self.inner.close_fields_of(scope);
-        if answer.is_ok() {
-            self.trail.leave();
-        }
-        self.seen(answer)
+        self.closed(answer)
     }
 
     fn open_alternative_of(

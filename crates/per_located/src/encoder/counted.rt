@@ -2,8 +2,8 @@
 
 use crate::encoder::Located;
 use crate::path::Step;
+use crate::trail::{Frame, RecordFrame};
 use crate::turns::place_among;
-use crate::write_trail::{Frame, RecordFrame};
 use rasn_schema::items::{ItemCounts, Place};
 use rasn_traits::counted::CountedEncoder;
 use rasn_types::types::{Identifier, Tag};
@@ -16,9 +16,8 @@ impl<E: CountedEncoder + Drop> CountedEncoder for Located<E> {
         place: Place,
         identifier: Identifier,
     ) -> Result<(), E::Error> {
-        self.trail.begin(tag);
         let answer = self.inner.encode_item(tag, items, place, identifier);
-        self.seen(answer)
+        self.begun(tag, answer)
     }
 
     fn open_record(
@@ -29,17 +28,16 @@ impl<E: CountedEncoder + Drop> CountedEncoder for Located<E> {
         additions: Option<usize>,
         identifier: Identifier,
     ) -> Result<E::Scope, E::Error> {
-        self.trail.begin(tag);
         let answer = self
             .inner
             .open_record(tag, components, presence_bits, additions, identifier);
-        self.entered(answer, Frame::Record(RecordFrame::counted()))
+        self.opened(tag, answer, Frame::Record(RecordFrame::counted(false)))
     }
 
     fn close_record(&mut self, scope: E::Scope) -> Result<(), E::Error> {
         self.trail.pause();
         let answer = self.inner.close_record(scope);
-        self.left(answer)
+        self.closed(answer)
     }
 
     fn open_fields_of(
@@ -49,17 +47,16 @@ impl<E: CountedEncoder + Drop> CountedEncoder for Located<E> {
         additions: Option<usize>,
         identifier: Identifier,
     ) -> Result<E::Scope, E::Error> {
-        self.trail.begin(tag);
         let answer = self
             .inner
             .open_fields_of(tag, presence_bits, additions, identifier);
-        self.entered(answer, Frame::Record(RecordFrame::counted()))
+        self.opened(tag, answer, Frame::Record(RecordFrame::counted(false)))
     }
 
     fn close_fields_of(&mut self, scope: E::Scope) -> Result<(), E::Error> {
         self.trail.pause();
         let answer = self.inner.close_fields_of(scope);
-        self.left(answer)
+        self.closed(answer)
     }
 
     fn open_alternative_of(
@@ -69,12 +66,11 @@ impl<E: CountedEncoder + Drop> CountedEncoder for Located<E> {
         place: Place,
         identifier: Identifier,
     ) -> Result<E::Alternative, E::Error> {
-        self.trail.begin(tag);
         let answer = self
             .inner
             .open_alternative_of(tag, alternatives, place, identifier);
         let step = Step::Placed(place_among(alternatives, place));
-        self.entered(answer, Frame::Alternative(step))
+        self.opened(tag, answer, Frame::Alternative(step, None))
     }
 
     fn close_group_of(
@@ -83,7 +79,7 @@ impl<E: CountedEncoder + Drop> CountedEncoder for Located<E> {
         has_required: bool,
     ) -> Result<(), E::Error> {
         let answer = self.inner.close_group_of(addition, has_required);
-        self.left_addition(answer)
+        self.closed_addition(answer)
     }
 
     fn refuse_other(&mut self) -> Result<(), E::Error> {

@@ -11,25 +11,27 @@ mask_is k n w m few e d =
 few_below : (k : ℕ) → k ≤ 6 → 2 ^ (8 * k) ≤ 2 ^ 48
 few_below k few = pow_mono {i = 8 * k} {j = 48} (omega (arith, few))
 
-counted_below : (k : ℕ) → k ≤ 6 → k * (1 * 2 ^ (8 * k) % 2 ^ 64) ≤ 6 * 2 ^ 48
-counted_below k few = mul-le k (1 * 2 ^ (8 * k) % 2 ^ 64) 6 (2 ^ 48) few (omega (arith, one_shl (8 * k) 64 (omega (arith, few)), few_below k few))
+counted_below : (k m : ℕ) → k ≤ 6 → m ≤ 6 → m * (1 * 2 ^ (8 * k) % 2 ^ 64) ≤ 6 * 2 ^ 48
+counted_below k m few l = mul-le m (1 * 2 ^ (8 * k) % 2 ^ 64) 6 (2 ^ 48) l (omega (arith, one_shl (8 * k) 64 (omega (arith, few)), few_below k few))
 
 pub overflow_cast-low : goal.overflow_cast-low
 overflow_cast-low c =
     let m = mask_is c.args.octets c.args.number _ c.from.result c.requires refl c.from.ensures in
     omega (arith, m, mod-lt c.args.number (pow_pos (8 * c.args.octets)), few_below c.args.octets c.requires)
 
-pub overflow_mul-octets : goal.overflow_mul-octets
-overflow_mul-octets c = let h = counted_below c.args.octets c.requires in omega (arith, h)
+pub overflow_mul-result : goal.overflow_mul-result
+overflow_mul-result c =
+    let h = counted_below c.args.octets c.from-2.result c.requires (omega (arith, c.requires, c.from-2.ensures)) in
+    omega (arith, h)
 
-pub overflow_add-octets : goal.overflow_add-octets
-overflow_add-octets c =
-    let h = counted_below c.args.octets c.requires in
+pub overflow_add-result : goal.overflow_add-result
+overflow_add-result c =
+    let h = counted_below c.args.octets c.from-2.result c.requires (omega (arith, c.requires, c.from-2.ensures)) in
     let m = mask_is c.args.octets c.args.number _ c.from.result c.requires refl c.from.ensures in
     omega (arith, h, m, mod-lt c.args.number (pow_pos (8 * c.args.octets)), few_below c.args.octets c.requires)
 
 pub returns : goal.returns
 returns c =
-    c.from-2.ensures
+    ap (λ (k : ℕ). k * (1 * 2 ^ (8 * c.args.octets) % 2 ^ 64) + bit_and c.args.number c.from.result) c.from-2.ensures
     ∙ ap₂ (λ (m n : ℕ). c.args.octets * m + n) (one_shl (8 * c.args.octets) 64 (omega (arith, c.requires)))
     (mask_is c.args.octets c.args.number _ c.from.result c.requires refl c.from.ensures)

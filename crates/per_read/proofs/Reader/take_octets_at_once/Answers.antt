@@ -1,29 +1,23 @@
-use Rattle.std.proofs.Common.{◌≡◌, ◌∙◌, ◌+◌, ◌*◌, ◌-◌, ◌/◌, ◌%◌, ◌^◌, ℕ, ap, sym, refl, arith, length}
-use Rattle.rasn_types.specs.Bits.{number_of}
+use Rattle.std.proofs.Common.{◌∙◌, ap, sym, refl, arith, length}
 use Rattle.per_read.specs.ReaderState.{ReaderState}
-use Rattle.per_read.proofs.ReadAsField.{at_once, once_counted, once_wide, padded}
+use Rattle.per_read.proofs.FirstWords.{begins_as}
+use Rattle.per_read.proofs.ReadAsField.{once_counted, once_wide, taken_at_once}
 use Rattle.per_read.proofs.Reader.take_octets_at_once.Goals as goal
 
-pub returns-in-Ok-clause-took : goal.returns-in-Ok-clause-took
-returns-in-Ok-clause-took c =
-    let field = c.first_field-field.result in
-    let count = c.from-in-1-to-6-2.result in
-    let is : count ≡ field / 2 ^ 48 = c.from-in-1-to-6-2.ensures in
-    let same : c.self.inside.bits.bits ≡ c.args.self.now.bits = ap (λ (x : ReaderState). x.bits) c.self.view_is in
-    let front = c.in-Ok.ensures in
-    at_once field count c.from-in-1-to-6.result _ c.first_field-field.ensures (omega (arith, is)) (sym same ∙ front.ok)
-    (front.count ∙ c.from.ensures ∙ ap (λ (k : ℕ). 8 + 8 * k) (sym is)) (c.if-not-is_unpadded.ensures.0 refl) is (omega (arith, is))
-    (c.from-in-1-to-6.ensures ∙ ap (λ (k : ℕ). field * 2 ^ 16 % 2 ^ 64 / 2 ^ (64 - 8 * k)) (sym is))
+pub returns-clause-took : goal.returns-clause-took
+returns-clause-took c =
+    let same = ap (λ (x : ReaderState). x.bits) c.self.view_is in
+    taken_at_once c.front-word.result c.from-3.result c.from-2.result c.in-Ok.field-0.bits (begins_as same c.front-word.ensures c.front-word.type_inv) c.from-3.ensures (omega (arith, c.if-above-ge6.false, c.front-word.type_inv)) (omega (arith, c.if-above-ge6.false, c.front-word.type_inv))
+    (sym same ∙ c.in-Ok.ensures.ok) (c.in-Ok.ensures.count ∙ c.from.ensures) (c.if-not-is_unpadded.ensures.0 refl) c.from-2.ensures
 
-pub returns-in_default-2-clause-none : goal.returns-in_default-2-clause-none
-returns-in_default-2-clause-none c none os t b = let field : c.first_field-field.result ≡ number_of (padded c.args.self.now.bits) = c.first_field-field.ensures in omega (arith, field, once_counted b, b.spelled.few)
+pub returns-then-above-ge6-clause-none : goal.returns-then-above-ge6-clause-none
+returns-then-above-ge6-clause-none c none os t b =
+    let same = ap (λ (x : ReaderState). x.bits) c.self.view_is in
+    let counted = once_counted b (begins_as same c.front-word.ensures c.front-word.type_inv) in
+    omega (arith, counted, b.spelled.some, b.spelled.few, c.if-above-ge6.true)
 
 pub returns-in_default-clause-none : goal.returns-in_default-clause-none
-returns-in_default-clause-none c none os t b = let field : c.first_field-field.result ≡ number_of (padded c.args.self.now.bits) = c.first_field-field.ensures in omega (arith, field, once_counted b, b.spelled.some)
-
-pub returns-in_default-take-clause-none : goal.returns-in_default-take-clause-none
-returns-in_default-take-clause-none c none os t b =
-    let field : c.first_field-field.result ≡ number_of (padded c.args.self.now.bits) = c.first_field-field.ensures in
-    let same = ap (λ (x : ReaderState). length x.bits) c.self.view_is in
-    let short = c.in_default-take.ensures.short in
-    omega (arith, field, once_counted b, once_wide b, same, c.from.ensures, short)
+returns-in_default-clause-none c none os t b =
+    let same = ap (λ (x : ReaderState). x.bits) c.self.view_is in
+    let counted = once_counted b (begins_as same c.front-word.ensures c.front-word.type_inv) in
+    omega (arith, counted, once_wide b, ap length same, c.from.ensures, c.in_default.ensures.short)

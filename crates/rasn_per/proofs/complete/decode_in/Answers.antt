@@ -23,8 +23,8 @@ returns-then-is_err-clause-decoded g c =
     unread c.args.options.codec c.args.options.zero_padding (g.S.DecodeAs.schema c.args.schema.now) g.S.DecodeAs.value_of c.args.octets.now _
     (begun c.args.options _ _ _ c.from_octets-decoder.ensures c.requires refl) _ p.0 p.1 h.law
 
-pub ended-requires-clause-octets : goal.ended-requires-clause-octets
-ended-requires-clause-octets g c = full_octets _ _ _ c.from_octets.ensures.bits c.len-total.ensures
+pub ended_in-requires-clause-octets : goal.ended_in-requires-clause-octets
+ended_in-requires-clause-octets g c = full_octets _ _ _ c.from_octets.ensures.bits c.len-total.ensures
 
 pub returns-clause-decoded : goal.returns-clause-decoded
 returns-clause-decoded g c =
@@ -32,7 +32,7 @@ returns-clause-decoded g c =
     let h = rw q.1 at c.decode_as-decoded.ensures in
     rw q.1 (read c.args.options.codec c.args.options.zero_padding (g.S.DecodeAs.schema c.args.schema.now) g.S.DecodeAs.value_of c.args.octets.now _
     (begun c.args.options _ _ _ c.from_octets-decoder.ensures c.requires refl) _ _ _ (are_octets _ c.type_inv.octets) h.law
-    (record { left = c.input.result.bits; total = c.len-total.result; ends = subst (λ z. Ends z c.input.result.bits c.len-total.result) c.needs_zero_padding.ensures c.in-Ok.ensures.ok; left_is = c.input.ensures.bits; total_is = c.len-total.ensures; all = c.from_octets.ensures.bits }))
+    (record { left = _; total = c.len-total.result; ends = subst (λ z. Ends z c.decode_as-decoded.new.decoder.bits c.len-total.result) c.needs_zero_padding.ensures c.in-Ok.ensures.ok; left_is = refl; total_is = c.len-total.ensures; all = c.from_octets.ensures.bits }))
 
 pub returns-in-Err-clause-decoded : goal.returns-in-Err-clause-decoded
 returns-in-Err-clause-decoded g c =
@@ -40,8 +40,8 @@ returns-in-Err-clause-decoded g c =
     let h = rw q.1 at c.decode_as-decoded.ensures in
     surplus c.args.options.codec c.args.options.zero_padding (g.S.DecodeAs.schema c.args.schema.now) g.S.DecodeAs.value_of c.args.octets.now _
     (begun c.args.options _ _ _ c.from_octets-decoder.ensures c.requires refl) c.in-Err.surplus _ _ _ _ _ c.refusal.ensures c.codec.ensures h.law
-    (record { left = c.input.result.bits; total = c.len-total.result; ends = subst (λ z. Ends z c.input.result.bits c.len-total.result → ⊥) c.needs_zero_padding.ensures c.in-Err.ensures.none; left_is = c.input.ensures.bits; total_is = c.len-total.ensures; all = c.from_octets.ensures.bits })
-    (record { left = c.input.result.bits; total = c.len-total.result; ends = subst (λ z. IsWhy z c.input.result.bits c.len-total.result c.in-Err.surplus) c.needs_zero_padding.ensures c.in-Err.ensures.why; left_is = c.input.ensures.bits; total_is = c.len-total.ensures; all = c.from_octets.ensures.bits })
+    (record { left = _; total = c.len-total.result; ends = subst (λ z. Ends z c.decode_as-decoded.new.decoder.bits c.len-total.result → ⊥) c.needs_zero_padding.ensures c.in-Err.ensures.none; left_is = refl; total_is = c.len-total.ensures; all = c.from_octets.ensures.bits })
+    (record { left = _; total = c.len-total.result; ends = subst (λ z. IsWhy z c.decode_as-decoded.new.decoder.bits c.len-total.result c.in-Err.surplus) c.needs_zero_padding.ensures c.in-Err.ensures.why; left_is = refl; total_is = c.len-total.ensures; all = c.from_octets.ensures.bits })
 
 pub returns-then-is_err-clause-few : goal.returns-then-is_err-clause-few
 returns-then-is_err-clause-few g c = few c.args.options.codec (g.S.DecodeAs.schema c.args.schema.now) g.S.DecodeAs.value_of c.args.octets.now c.args.options.zero_padding _ (returns-then-is_err-clause-decoded g c)

@@ -6,7 +6,7 @@ use Rattle.rasn_per.proofs.complete.encode_over.Goals as goal
 
 pub returns : goal.returns
 returns g c =
-    written c.args.codec _ _ _ _ _ c.output_into_vec.result (c.new_with_output-encoder.ensures ∙ ap fresh c.encoder_options.ensures) c.in_ok-encode_as.ensures.law c.output_into_vec.ensures.octets c.output_into_vec.ensures.err
+    written c.args.codec _ _ _ _ _ c.output.result (c.new_with_output-encoder.ensures ∙ ap fresh c.encoder_options.ensures) c.in_ok-encode_as.ensures.law c.output.ensures.octets c.output.ensures.err
 
 pub returns-in_err-encode_as : goal.returns-in_err-encode_as
 returns-in_err-encode_as g c =

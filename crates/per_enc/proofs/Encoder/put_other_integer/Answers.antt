@@ -1,7 +1,7 @@
 use Rattle.std.proofs.Common.{refl, sym, ◌∙◌}
 use Rattle.per_enc.proofs.Noting.{unfailed_noted, writes_noted}
 use Rattle.per_enc.proofs.Presenting.{unbounded_law}
-use Rattle.per_enc.proofs.Encoder.put_any_integer.Goals as goal
+use Rattle.per_enc.proofs.Encoder.put_other_integer.Goals as goal
 
 pub returns-in-None-clause-writes : goal.returns-in-None-clause-writes
 returns-in-None-clause-writes g c h =

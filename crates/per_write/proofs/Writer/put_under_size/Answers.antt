@@ -2,7 +2,7 @@ use Rattle.std.proofs.Common.{◌∙◌, true, false, arith, rules}
 use Rattle.std.proofs.lemmas.Result.{on_ok_weaker}
 use Rattle.rasn_types.specs.Variants.{variant_of, Variant}
 use Rattle.per_write.proofs.Counting.{allowed_is, refuses_count, stated_mark, stated_size, wrote_inside, wrote_outside}
-use Rattle.per_write.proofs.Writer.put_counted.Goals as goal
+use Rattle.per_write.proofs.Writer.put_under_size.Goals as goal
 
 pub returns-in_ok-put_bit-in-true-true : goal.returns-in_ok-put_bit-in-true-true
 returns-in_ok-put_bit-in-true-true g c =

@@ -1,7 +1,7 @@
 use Rattle.std.proofs.Common.{◌≡◌, ◌*◌, ◌/◌, arith, rules}
 use Rattle.per_write.proofs.Elements.{begins_few, begins_many}
 use Rattle.per_pieces.proofs.Fragments.{first_fragment}
-use Rattle.per_write.proofs.lists.begin_fragment.Goals as goal
+use Rattle.per_write.proofs.lists.begin_largest_fragment.Goals as goal
 
 pub returns-then-count-lt-FRAGMENT : goal.returns-then-count-lt-FRAGMENT
 returns-then-count-lt-FRAGMENT g c =
