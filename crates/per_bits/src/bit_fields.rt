@@ -127,13 +127,14 @@ pub(crate) fn read_wide_field(octets: &[u8], skip: u32, count: u32) -> u128
 #[inline(always)]
 pub(crate) fn with_room<A: Allocator>(
     octets: &mut Vec<u8, A>,
-    spare: u32,
+    spare: u64,
 ) -> Result<u32, AllocError>
     requires { AreKept spare octets.old.items }
     ensures ok { IfOk result (λ more. HaveRoom (filled spare octets.old.items) more octets.new.items) }
     ensures enough { IfOk result (λ more. 192 ≤ more) }
     ensures err { OnErr result (octets.new.items ≡ octets.old.items) }
 {
+    let spare = spare as u32;
     if spare >= 192 {
         return Ok(spare);
     }
@@ -157,14 +158,14 @@ fn add_zeros<A: Allocator>(octets: &mut Vec<u8, A>) -> Result<(), AllocError>
 }
 
 /// Cuts off the octets all bits of which are spare, and answers how many bits are spare then.
-pub(crate) fn cut_back<A: Allocator>(octets: &mut Vec<u8, A>, spare: u32) -> u32
+pub(crate) fn cut_back<A: Allocator>(octets: &mut Vec<u8, A>, spare: u64) -> u32
     requires { AreKept spare octets.old.items }
     ensures bits { AreFilledBy (filled spare octets.old.items) result octets.new.items }
     ensures shorter { vec_len octets.new ≤ vec_len octets.old }
     ensures room { vec_capacity octets.new ≡ vec_capacity octets.old }
 {
     octets.truncate(octets.len() - (spare / 8) as usize);
-    spare % 8
+    (spare % 8) as u32
 }
 
 /// Puts the low `width` bits of `value` in the place of the first spare bits. A word of eight octets is written over

@@ -29,8 +29,9 @@ pub mod per;
 #[derive(Drop)]
 pub struct BitList<A: Allocator> {
     octets: Vec<u8, A>,
-    /// How many bits at the end of the octets are no bits of the list: zeros, in whose place later bits are put.
-    spare: u32,
+    /// How many bits at the end of the octets are no bits of the list: zeros, in whose place later bits are put. It
+    /// takes a whole word: were half a word written, to move it with what is beside it would wait for that.
+    spare: u64,
 }
 
 impl<A: Allocator> Model for BitList<A> {
@@ -154,7 +155,7 @@ impl<A: Allocator> BitList<A> {
     {
         let spare = with_room(&mut self.octets, self.spare)?;
         put_bit(&mut self.octets, spare, bit);
-        self.spare = spare - 1;
+        self.spare = (spare - 1) as u64;
         Ok(())
     }
 
@@ -168,7 +169,7 @@ impl<A: Allocator> BitList<A> {
     {
         let spare = with_room(&mut self.octets, self.spare)?;
         put_number(&mut self.octets, spare, value, width as u32);
-        self.spare = spare - width as u32;
+        self.spare = (spare - width as u32) as u64;
         Ok(())
     }
 
@@ -182,7 +183,7 @@ impl<A: Allocator> BitList<A> {
     {
         let spare = with_room(&mut self.octets, self.spare)?;
         put_field(&mut self.octets, spare, value, width);
-        self.spare = spare - width;
+        self.spare = (spare - width) as u64;
         Ok(())
     }
 
@@ -195,7 +196,7 @@ impl<A: Allocator> BitList<A> {
         ensures err { OnErr result (self.new ≡ self.old) }
     {
         let spare = with_room(&mut self.octets, self.spare)?;
-        self.spare = spare - count;
+        self.spare = (spare - count) as u64;
         Ok(())
     }
 
@@ -225,7 +226,7 @@ impl<A: Allocator> BitList<A> {
         // an octet for bits that stood there, and the word that is written before it is cut back
         self.octets.reserve(octets.len() + 9)?;
         let spare = cut_back(&mut self.octets, self.spare);
-        self.spare = append_low_bits(&mut self.octets, spare, octets, width);
+        self.spare = append_low_bits(&mut self.octets, spare, octets, width) as u64;
         Ok(())
     }
 
@@ -240,7 +241,7 @@ impl<A: Allocator> BitList<A> {
         }
         self.octets.reserve(reader.octet_room())?;
         let spare = cut_back(&mut self.octets, self.spare);
-        self.spare = append_reader(&mut self.octets, spare, reader.clone().unwrap());
+        self.spare = append_reader(&mut self.octets, spare, reader.clone().unwrap()) as u64;
         Ok(())
     }
 

@@ -12,7 +12,8 @@ use rasn_types::types::Codec;
 use std::alloc::{AllocError, Global};
 use std::fmt;
 
-/// Where octets are refused. Where memory for the path ran out, it is where that happened.
+/// Where octets are refused. Where memory ran out on the way there, path and bit are those where that happened; where
+/// it ran out for the path's steps, that is empty.
 #[derive(Debug, Drop, PartialEq, Eq)]
 pub struct RefusedAt {
     /// The identifiers and the numbers of elements from the whole message to the innermost component that had begun,

@@ -4,10 +4,10 @@ mod counted;
 
 ghost use Rattle.std.specs.Prelude.{◌≡◌};
 
-pub use crate::extents::OpenAhead;
-use crate::path::{Path, Step};
-use crate::trail::{Frame, RecordFrame, Trail};
-use crate::turns::{Elements, place_among, step_to};
+pub use per_ways::extents::OpenAhead;
+use per_ways::trail::{Frame, RecordFrame, Trail};
+use per_ways::turns::{Elements, place_among, step_among};
+use per_ways::{Path, Step};
 use rasn_schema::choices::Choice;
 use rasn_schema::enumerated::Enumerated;
 use rasn_schema::fields::Constructed;
@@ -66,12 +66,13 @@ impl<D: Positioned> Located<D> {
     }
 
     /// The way to the value that was refused, and how many bits are in front of where the decoder stood then; or
-    /// where it stands, if none was refused.
+    /// where it stands, if none was refused. Without memory for the path that is empty.
     pub fn into_place(mut self) -> (Path, u128) {
         self.stop();
         let bit = self.trail.bit();
         let alloc = self.inner.alloc();
-        (self.trail.into_path(alloc), bit)
+        let path = self.trail.into_path(alloc);
+        (path.unwrap_or(Path::to_message(alloc)), bit)
     }
 
     /// Stops where the decoder stands.
@@ -87,9 +88,8 @@ impl<D: Positioned> Located<D> {
         ensures same { result ≡ answer }
         ensures state { self.new ≡ self.old }
     {
-        if answer.is_err() {
-            self.stop();
-        }
+        let left = self.inner.left();
+        self.trail.seen(answer.is_ok(), left);
         answer
     }
 
@@ -98,8 +98,9 @@ impl<D: Positioned> Located<D> {
         ensures same { result ≡ answer }
         ensures state { self.new ≡ self.old }
     {
-        self.trail.begin();
-        self.seen(answer)
+        let left = self.inner.left();
+        self.trail.begun(answer.is_ok(), left);
+        answer
     }
 
     /// Enters what a call opened with which a value began, unless it was refused.
@@ -107,12 +108,9 @@ impl<D: Positioned> Located<D> {
         ensures same { result ≡ answer }
         ensures state { self.new ≡ self.old }
     {
-        self.trail.begin();
-        if answer.is_ok() {
-            let left = self.inner.left();
-            self.trail.enter(frame, left);
-        }
-        self.seen(answer)
+        let left = self.inner.left();
+        let _ = self.trail.opened(frame, answer.is_ok(), left);
+        answer
     }
 
     /// Leaves what a call closed, unless it was refused.
@@ -120,10 +118,9 @@ impl<D: Positioned> Located<D> {
         ensures same { result ≡ answer }
         ensures state { self.new ≡ self.old }
     {
-        if answer.is_ok() {
-            self.trail.leave();
-        }
-        self.seen(answer)
+        let left = self.inner.left();
+        self.trail.closed(answer.is_ok(), left);
+        answer
     }
 
     /// Begins the element that a call went on to, or leaves the list after the last one, unless the call was refused.
@@ -131,25 +128,21 @@ impl<D: Positioned> Located<D> {
         ensures same { result ≡ answer }
         ensures state { self.new ≡ self.old }
     {
-        self.trail.pause();
-        match &answer {
-            Ok(true) => self.trail.begin_element(),
-            Ok(false) => self.trail.leave(),
-            Err(_) => {}
-        }
-        self.seen(answer)
+        let left = self.inner.left();
+        let goes_on = match &answer {
+            Ok(goes_on) => Some(*goes_on),
+            Err(_) => None,
+        };
+        self.trail.gone_on(goes_on, left);
+        answer
     }
 
-    /// Enters an alternative at a place among so many, of which the index was read.
+    /// Enters an alternative at a place, of which the index was read.
     fn enter_alternative(&mut self, step: Step, place: Option<Place>, open: OpenAhead)
         ensures { self.new ≡ self.old }
     {
         let left = self.inner.left();
-        let open = match place {
-            Some(Place::Added(_)) => Some(open),
-            _ => None,
-        };
-        self.trail.enter_alternative(step, open, left);
+        let _ = self.trail.enter_alternative(step, place, open, left);
     }
 }
 
@@ -398,7 +391,7 @@ impl<D: Positioned> Decoder for Located<D> {
                 Some(place) => Some(place_among(alternatives, place)),
                 None => None,
             };
-            self.enter_alternative(step_to::<C>(among), place, open);
+            self.enter_alternative(step_among(C::IDENTIFIERS, among), place, open);
         }
         self.seen(answer)
     }
@@ -411,7 +404,7 @@ impl<D: Positioned> Decoder for Located<D> {
         if let Ok(opened) = &answer {
             let place = opened.0;
             let among = Some(place_among(alternatives, place));
-            self.enter_alternative(step_to::<C>(among), Some(place), open);
+            self.enter_alternative(step_among(C::IDENTIFIERS, among), Some(place), open);
         }
         self.seen(answer)
     }
@@ -427,7 +420,7 @@ impl<D: Positioned> Decoder for Located<D> {
         let answer = self.inner.open_contents(tag);
         if answer.is_ok() {
             let left = self.inner.left();
-            self.trail.enter_contents(open, left);
+            let _ = self.trail.enter_contents(open, left);
         }
         self.seen(answer)
     }
@@ -438,12 +431,11 @@ impl<D: Positioned> Decoder for Located<D> {
     }
 
     fn next_presence(&mut self) -> Result<bool, D::Error> {
-        self.trail.pause();
         let answer = self.inner.next_presence();
-        if let Ok(false) = &answer {
-            self.trail.skip();
-        }
-        self.seen(answer)
+        let left = self.inner.left();
+        let is_absent = matches!(&answer, Ok(false));
+        self.trail.told_of(!is_absent, answer.is_ok(), left);
+        answer
     }
 
     fn open_addition(&mut self) -> Result<Option<D::Addition>, D::Error> {
@@ -462,10 +454,9 @@ impl<D: Positioned> Decoder for Located<D> {
 
     fn close_addition(&mut self, addition: D::Addition) -> Result<(), D::Error> {
         let answer = self.inner.close_addition(addition);
-        if answer.is_ok() {
-            self.trail.leave_addition();
-        }
-        self.seen(answer)
+        let left = self.inner.left();
+        self.trail.closed_addition(answer.is_ok(), left);
+        answer
     }
 
     fn open_list(&mut self, tag: Tag, constraints: &Constraints) -> Result<D::List, D::Error> {

@@ -5,8 +5,8 @@ mod counted;
 
 ghost use Rattle.std.specs.Prelude.{◌≡◌};
 
-use crate::path::Path;
-use crate::trail::{Frame, Trail};
+use per_ways::Path;
+use per_ways::trail::{Frame, Trail};
 use rasn_traits::encoder::Encoder;
 use rasn_types::types::Tag;
 use std::alloc::Global;
@@ -37,9 +37,11 @@ impl<E: Encoder + Drop> Located<E> {
         Located { inner, trail }
     }
 
-    /// The way to the value that was refused, or to where the encoder stands, if none was.
+    /// The way to the value that was refused, or to where the encoder stands, if none was. Without memory for it that
+    /// is empty.
     pub fn into_path(self, alloc: Global) -> Path {
-        self.trail.into_path(alloc)
+        let path = self.trail.into_path(alloc);
+        path.unwrap_or(Path::to_message(alloc))
     }
 
     /// Answers what a call of the encoder answered, and stops where that is a refusal.
@@ -47,9 +49,7 @@ impl<E: Encoder + Drop> Located<E> {
         ensures same { result ≡ answer }
         ensures state { self.new ≡ self.old }
     {
-        if answer.is_err() {
-            self.trail.stop(NO_BITS);
-        }
+        self.trail.seen(answer.is_ok(), NO_BITS);
         answer
     }
 
@@ -58,8 +58,8 @@ impl<E: Encoder + Drop> Located<E> {
         ensures same { result ≡ answer }
         ensures state { self.new ≡ self.old }
     {
-        self.trail.begin_under(tag);
-        self.seen(answer)
+        self.trail.begun_under(tag, answer.is_ok(), NO_BITS);
+        answer
     }
 
     /// Enters what a call opened with which a value began under a tag, unless it was refused.
@@ -72,11 +72,8 @@ impl<E: Encoder + Drop> Located<E> {
         ensures same { result ≡ answer }
         ensures state { self.new ≡ self.old }
     {
-        self.trail.begin_under(tag);
-        if answer.is_ok() {
-            self.trail.enter(frame, NO_BITS);
-        }
-        self.seen(answer)
+        let _ = self.trail.opened_under(tag, frame, answer.is_ok(), NO_BITS);
+        answer
     }
 
     /// Leaves what a call closed, unless it was refused.
@@ -84,10 +81,8 @@ impl<E: Encoder + Drop> Located<E> {
         ensures same { result ≡ answer }
         ensures state { self.new ≡ self.old }
     {
-        if answer.is_ok() {
-            self.trail.leave();
-        }
-        self.seen(answer)
+        self.trail.closed(answer.is_ok(), NO_BITS);
+        answer
     }
 
     /// Leaves the open type of an addition that a call closed, unless it was refused.
@@ -95,10 +90,8 @@ impl<E: Encoder + Drop> Located<E> {
         ensures same { result ≡ answer }
         ensures state { self.new ≡ self.old }
     {
-        if answer.is_ok() {
-            self.trail.leave_addition();
-        }
-        self.seen(answer)
+        self.trail.closed_addition(answer.is_ok(), NO_BITS);
+        answer
     }
 
     /// Begins the element that a call went on to, unless it was refused.
@@ -106,10 +99,11 @@ impl<E: Encoder + Drop> Located<E> {
         ensures same { result ≡ answer }
         ensures state { self.new ≡ self.old }
     {
-        self.trail.pause();
-        if answer.is_ok() {
-            self.trail.begin_element();
-        }
-        self.seen(answer)
+        let goes_on = match &answer {
+            Ok(()) => Some(true),
+            Err(_) => None,
+        };
+        self.trail.gone_on(goes_on, NO_BITS);
+        answer
     }
 }

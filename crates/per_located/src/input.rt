@@ -1,12 +1,12 @@
 //! Where a decoder of the packed encoding rules is in a message.
 
 use crate::decoder::Positioned;
-use crate::extents::OpenAhead;
 use per_de::Decoder;
 use per_decoding::choices::take_choice_index;
 use per_read::bitmaps::take_bitmap;
 use per_read::open_types::{Contents, take_open};
 use per_read::{Reader, ReaderOptions};
+use per_ways::extents::OpenAhead;
 use rasn_schema::items::ItemCounts;
 use rasn_traits::decoder;
 

@@ -8,20 +8,18 @@
 //! (`Located`): so one that isn't refused costs what it costs `rasn_per`.
 //!
 //! **Proved**: what the calls answer, and the kind of a refusal, as for `rasn_per`; a decoder or an encoder behind
-//! `Located` answers each call of the trait by the clauses that it meets alone. **Only tested**: the path and the bit.
+//! `Located` answers each call of the trait by the clauses that it meets alone. How the way moves with each of its
+//! functions, and that the path has its steps, `per_ways` proves. **Only tested**: that `Located` calls the right ones,
+//! so that path and bit are those of the refusal.
 #![tactic(auto)]
 
 pub mod aper;
 pub mod decoder;
 pub mod encoder;
-mod extents;
 mod input;
-pub mod path;
 pub mod refusal;
 mod tracing;
-mod trail;
-mod turns;
 pub mod uper;
 
-pub use crate::path::{Path, Step};
 pub use crate::refusal::{EncodeRefusal, Refusal};
+pub use per_ways::{Path, Step};

@@ -1,12 +1,13 @@
 //! What is told of octets and of values that are refused.
 
-use crate::path::Path;
 use per_read::error::DecodeErrorKind;
+use per_ways::Path;
 use per_write::error::EncodeErrorKind;
 use rasn_types::types::Codec;
 use std::fmt;
 
-/// Why octets were refused, and where. Where memory for the path ran out, path and bit are those where that happened.
+/// Why octets were refused, and where. Where memory ran out on the way there, path and bit are those where that
+/// happened; where it ran out for the path, that is empty.
 #[derive(Debug, Drop, PartialEq, Eq)]
 pub struct Refusal {
     /// What was wrong.
@@ -36,7 +37,8 @@ impl fmt::Display for Refusal {
     }
 }
 
-/// Why a value was refused, and where. Where memory for the path ran out, it is that to where that happened.
+/// Why a value was refused, and where. Where memory ran out on the way there, the path is that to where it did; where
+/// it ran out for the path, that is empty.
 #[derive(Debug, Drop, PartialEq)]
 pub struct EncodeRefusal {
     /// What was wrong.

@@ -7,9 +7,9 @@ ghost use Rattle.rasn_below.specs.Types.{tagged};
 ghost use Rattle.rasn_below.specs.Calls.{WritesAdditions, TakesAdditions};
 ghost use Rattle.per_samples_b.specs.Many.{truths_from};
 
-use rasn_below::additions::{DecodeAddition, EncodeAddition};
+use rasn_below::additions::Added;
 use rasn_below::codec::{DecodeAdditions, EncodeAdditions};
-use rasn_below::components::Optional;
+use rasn_below::components::{DecodeComponent, EncodeComponent, Optional};
 use rasn_below::{AsnType, Class, Decoder, Encoder, Tag};
 use std::marker::PhantomData;
 
@@ -46,7 +46,8 @@ fn encode_from<E: Encoder>(
 {
     match options.split_first() {
         Some((first, behind)) => {
-            Optional(first).encode_addition(
+            EncodeComponent::<Added>::encode_component(
+                &Optional(first),
                 encoder,
                 context(place),
                 &<bool as AsnType>::CONSTRAINTS,
@@ -73,7 +74,8 @@ fn decode_from<D: Decoder>(
         return Ok(options);
     }
     let addition = Optional(PhantomData::<Option<bool>>);
-    let option = addition.decode_addition(
+    let option = DecodeComponent::<Added>::decode_component(
+        &addition,
         decoder,
         context(place as u32),
         &<bool as AsnType>::CONSTRAINTS,

@@ -1,3 +1,1 @@
 pub mod AdditionLaws
-pub mod OneAddition
-pub mod Trees

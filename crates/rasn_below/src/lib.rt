@@ -17,17 +17,17 @@ pub mod types;
 pub use rasn_additions::{added, additions};
 pub use rasn_codec::alternatives::CodedAlternatives;
 pub use rasn_codec::codec::{Decode, Decoder, Encode, Encoder};
+pub use rasn_codec::default_bits::Bits;
+pub use rasn_codec::default_items::Item;
+pub use rasn_codec::default_lists::EmptyList;
+pub use rasn_codec::default_octets::Octets;
+pub use rasn_codec::default_texts::{Text, Utf8Text};
+pub use rasn_codec::defaults::DefaultOf;
 pub use rasn_codec::kinds::ByKind;
 pub use rasn_codec::record::Record;
-pub use rasn_defaults::DefaultOf;
-pub use rasn_defaults::bits::Bits;
-pub use rasn_defaults::items::Item;
-pub use rasn_defaults::lists::EmptyList;
-pub use rasn_defaults::octets::Octets;
-pub use rasn_defaults::texts::{Text, Utf8Text};
 pub use rasn_record::bounds::{BoundLists, Bounds};
 pub use rasn_record::{
-    alternatives, by_place, cells, components, few, fours, read, sixteen, write,
+    alternatives, by_place, cells, components, few, fours, read, sides, sixteen, write,
 };
 pub use rasn_schema::alternatives::{Alternatives, ChoiceKind};
 pub use rasn_schema::choices::{VariantLists, Variants};

@@ -7,7 +7,7 @@ use Rattle.rasn_schema.specs.Structures.{alternative_at}
 use Rattle.rasn_schema.specs.Components.{TypeLists, Chosen, chosen_value, alternatives_at, root_parts, added_parts}
 use Rattle.rasn_schema.specs.Normal.{normal, normal_at}
 use Rattle.rasn_schema.specs.Schemas.{Schema, Parts, no_parts, part}
-use Rattle.rasn_defaults.specs.AtDefault.{TellsSame}
+use Rattle.rasn_codec.specs.AtDefault.{TellsSame}
 use Rattle.rasn_constructed.specs.Parts.{bare}
 use Rattle.rasn_constructed.specs.Alternatives.{HasType, bare_of, is_another}
 use Rattle.rasn_constructed.proofs.Equality.{same_decides}

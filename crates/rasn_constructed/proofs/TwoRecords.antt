@@ -9,7 +9,7 @@ use Rattle.rasn_schema.specs.Normal.{normal, normals}
 use Rattle.rasn_schema.specs.Structures.{record_value}
 use Rattle.rasn_schema.specs.Schemas.{Parts}
 use Rattle.rasn_record.specs.Lists.{deeper_of}
-use Rattle.rasn_defaults.specs.AtDefault.{TellsSame}
+use Rattle.rasn_codec.specs.AtDefault.{TellsSame}
 use Rattle.rasn_constructed.specs.Parts.{Form, forms_of, HaveForms, AreFilled, TellsParts, same_slot, same_slots}
 use Rattle.rasn_constructed.proofs.Equality.{same_decides, both_decide}
 use Rattle.rasn_constructed.proofs.RecordTests.{both_told, one_false}

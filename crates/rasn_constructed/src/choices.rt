@@ -4,10 +4,10 @@ ghost use Rattle.std.specs.Prelude.{◌≡◌, ◌≤◌, suc, true, IfOk};
 ghost use Rattle.rasn_types.specs.Values.{added, root};
 ghost use Rattle.rasn_schema.specs.Components.{added_parts, alternatives_at, chosen, chosen_behind, chosen_value};
 ghost use Rattle.rasn_schema.specs.Components.{root_parts};
-ghost use Rattle.rasn_defaults.specs.AtDefault.{TellsSame};
+ghost use Rattle.rasn_codec.specs.AtDefault.{TellsSame};
 ghost use Rattle.rasn_constructed.specs.Alternatives.{HasType, is_another};
 
-use rasn_defaults::DefaultOf;
+use rasn_codec::defaults::DefaultOf;
 use rasn_schema::alternatives::Alternatives;
 use rasn_schema::schema::AsnType;
 use std::alloc::{AllocError, Global};

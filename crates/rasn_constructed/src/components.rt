@@ -8,7 +8,7 @@ ghost use Rattle.rasn_traits.specs.Presences.{slot_of};
 ghost use Rattle.rasn_record.specs.Slots.{slot_levels};
 ghost use Rattle.rasn_constructed.specs.Parts.{Form, TellsPart, bare, grouped, plain};
 
-use rasn_defaults::DefaultOf;
+use rasn_codec::defaults::DefaultOf;
 use rasn_schema::components::Components;
 use rasn_schema::schema::AsnType;
 use std::alloc::{AllocError, Global};

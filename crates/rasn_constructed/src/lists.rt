@@ -6,7 +6,7 @@ ghost use Rattle.rasn_schema.specs.Lists.{deepest};
 ghost use Rattle.rasn_schema.specs.Structures.{list_value};
 ghost use Rattle.rasn_constructed.specs.ListDefaults.{TellsElements};
 
-use rasn_defaults::DefaultOf;
+use rasn_codec::defaults::DefaultOf;
 use rasn_schema::schema::{AsnType, Constraints};
 use std::alloc::{AllocError, Global};
 

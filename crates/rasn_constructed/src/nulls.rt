@@ -2,7 +2,7 @@
 
 ghost use Rattle.rasn_types.specs.Values.{nothing};
 
-use rasn_defaults::DefaultOf;
+use rasn_codec::defaults::DefaultOf;
 use rasn_schema::schema::Constraints;
 use std::alloc::{AllocError, Global};
 

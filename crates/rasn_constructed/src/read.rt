@@ -21,6 +21,7 @@ use rasn_codec::boxed::boxed;
 use rasn_codec::codec::Decoder;
 use rasn_record::cells::{Cell, End, given_or_own};
 use rasn_record::components::{DecodeComponent, Optional};
+use rasn_record::sides::Root;
 use rasn_schema::choices::Choice;
 use rasn_schema::components::Components;
 use rasn_schema::constraints::Constraint;
@@ -248,7 +249,7 @@ pub struct Plain<C>(pub C);
 #[derive(Clone, Copy)]
 pub struct Holding<C>(pub C);
 
-impl<T: AsnType, C: DecodeComponent> DecodeHolding<T> for Plain<C> {
+impl<T: AsnType, C: DecodeComponent<Root>> DecodeHolding<T> for Plain<C> {
     type Of = C::Of;
 
     type Value = C::Value;

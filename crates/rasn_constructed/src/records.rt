@@ -4,7 +4,7 @@ ghost use Rattle.std.specs.Prelude.{◌≡◌, ◌≤◌, suc, []};
 ghost use Rattle.rasn_schema.specs.Components.{added_parts, root_parts, sequence_at};
 ghost use Rattle.rasn_schema.specs.Structures.{record_value};
 ghost use Rattle.rasn_record.specs.Lists.{AreWithin, deepest, deeper_of};
-ghost use Rattle.rasn_defaults.specs.AtDefault.{TellsSame};
+ghost use Rattle.rasn_codec.specs.AtDefault.{TellsSame};
 ghost use Rattle.rasn_constructed.specs.Parts.{AreFilled, HaveForms};
 
 use crate::parts::ComparedParts;

@@ -19,6 +19,7 @@ use crate::read::Plain;
 use rasn_codec::codec::{Encode, Encoder, EncoderExt};
 use rasn_record::cells::{Cell, EncodeCells, End, GivesBounds, OfRecord};
 use rasn_record::components::EncodeComponent;
+use rasn_record::sides::Root;
 use rasn_schema::choices::Choice;
 use rasn_schema::components::Components;
 use rasn_schema::constraints::Constraint;
@@ -82,7 +83,7 @@ struct Beside<'a, P, H> {
     held: &'a H,
 }
 
-impl<'a, H, P: EncodeHoldingCells<H>> EncodeCells for Beside<'a, P, H> {
+impl<'a, H, P: EncodeHoldingCells<H>> EncodeCells<Root> for Beside<'a, P, H> {
     ghost parts = { λ p. P.parts p.cells.now };
 
     ghost contents = { λ p. P.contents p.cells.now p.held.now };
@@ -118,11 +119,11 @@ impl<H> EncodeHoldingCells<H> for End {
         constraints: &[&'static [Constraint<'static>]],
         encoder: &mut E,
     ) -> Result<(), E::Error> {
-        self.encode_cells(fields, constraints, encoder)
+        EncodeCells::<Root>::encode_cells(self, fields, constraints, encoder)
     }
 }
 
-impl<H, C: EncodeComponent + Copy, N: EncodeHoldingCells<H>> EncodeHoldingCells<H>
+impl<H, C: EncodeComponent<Root> + Copy, N: EncodeHoldingCells<H>> EncodeHoldingCells<H>
     for Cell<Plain<C>, N> {
     ghost parts = { λ p fs cs n. part (first_tree (tagged C.Of.TAG) fs) (C.presence p.component.0)
         (C.Of.schema (own_or C.Of.CONSTRAINTS (first_given cs)) n) (N.parts p.next (behind fs) (behind cs) n) };

@@ -7,17 +7,16 @@ ghost use Rattle.rasn_types.specs.Values.{Value};
 ghost use Rattle.rasn_constraints.specs.declared.constraints.Constraint.{Constraint};
 ghost use Rattle.rasn_schema.specs.Schemas.{Parts, no_parts, part};
 ghost use Rattle.rasn_schema.specs.Records.{own_or};
-ghost use Rattle.rasn_schema.specs.Fields.{Shape, shape_of, tagged};
+ghost use Rattle.rasn_schema.specs.Fields.{Shape, shape_of};
 ghost use Rattle.rasn_schema.specs.Structures.{tag_of};
-ghost use Rattle.rasn_traits.specs.Optionals.{ReadsComponent};
-ghost use Rattle.rasn_traits.specs.Scopes.{WritesParts, TakesParts};
 ghost use Rattle.rasn_record.specs.Lists.{Asked, behind, both_asked, both_within, deepest, first_given};
-ghost use Rattle.rasn_record.specs.Lists.{first_tag, first_tree, given, nothing_asked};
-ghost use Rattle.rasn_record.specs.Slots.{WritesComponent};
+ghost use Rattle.rasn_record.specs.Lists.{first_tag, given, nothing_asked};
+ghost use Rattle.rasn_record.specs.Sides.{ReadsAllAt, ReadsAt, WritesAllAt, WritesAt, tree_at};
 
 use crate::bounds::Bounds;
 use crate::components::{DecodeComponent, EncodeComponent, Optional};
 use crate::fields::root;
+use crate::sides::{DecodeSide, EncodeSide, Root};
 use rasn_codec::codec::{Decoder, Encoder};
 use rasn_schema::components::Components;
 use rasn_schema::constraints::Constraint;
@@ -27,8 +26,9 @@ use rasn_traits::parts::{DecodeParts, EncodeAdditions, EncodeParts};
 use rasn_types::types::Tag;
 use std::marker::PhantomData;
 
-/// Components of a record that are still to be written, of which lists state the tags and the constraints.
-pub trait EncodeCells {
+/// Components of a record that are still to be written, on a side of the extension marker, of which lists state the
+/// tags and the constraints.
+pub trait EncodeCells<S: EncodeSide> {
     // The components, by what the lists state of them, to a number of levels.
     ghost parts: { Self → List Shape → List (Bor (List Constraint)) → ℕ → Parts };
 
@@ -48,7 +48,7 @@ pub trait EncodeCells {
         constraints: &[&'static [Constraint<'static>]],
         encoder: &mut E,
     ) -> Result<(), E::Error>
-        ensures { WritesParts E.rules (Self.parts self.now (map shape_of fields.now) constraints.now)
+        ensures { WritesAllAt S.side E.rules (Self.parts self.now (map shape_of fields.now) constraints.now)
             (deepest (Self.levels self.now)) (Self.contents self.now) encoder.old result encoder.new };
 
     // That is enough.
@@ -79,8 +79,9 @@ pub trait EncodeEachAddition: EncodeAdditions {
     ghost within: { (p : Self) (n : ℕ) → (asked p).Of n → Self.levels p ≤ n };
 }
 
-/// Components of a record that are still to be read, of which lists state the tags and the constraints.
-pub trait DecodeCells {
+/// Components of a record that are still to be read, on a side of the extension marker, of which lists state the tags
+/// and the constraints.
+pub trait DecodeCells<S: DecodeSide> {
     /// What they are: a pair of the first and of those after it, and `()` at the end.
     type Values: Drop;
 
@@ -97,8 +98,8 @@ pub trait DecodeCells {
         constraints: &[&'static [Constraint<'static>]],
         decoder: &mut D,
     ) -> Result<Self::Values, D::Error>
-        ensures { TakesParts D.rules (Self.parts self.now (map shape_of fields.now) constraints.now) Self.contents
-            decoder.old result decoder.new };
+        ensures { ReadsAllAt S.side D.rules (Self.parts self.now (map shape_of fields.now) constraints.now)
+            Self.contents decoder.old result decoder.new };
 }
 
 /// The end of the components.
@@ -210,13 +211,13 @@ pub fn behind<T>(list: &[T]) -> &[T]
 
 /// Writes a component by the first field's tag and under the first constraints, where lists state them.
 #[inline(always)]
-pub(crate) fn write_first<C: EncodeComponent, E: Encoder>(
+pub(crate) fn write_first<S: EncodeSide, C: EncodeComponent<S>, E: Encoder>(
     component: &C,
     fields: &[Field],
     constraints: &[&'static [Constraint<'static>]],
     encoder: &mut E,
 ) -> Result<(), E::Error>
-    ensures { WritesComponent E.rules (C.presence component.now)
+    ensures { WritesAt S.side E.rules (C.presence component.now)
         (C.Of.schema (own_or C.Of.CONSTRAINTS (first_given constraints.now))) (C.levels component.now)
         (C.slot component.now) encoder.old result encoder.new }
 {
@@ -227,13 +228,14 @@ pub(crate) fn write_first<C: EncodeComponent, E: Encoder>(
 
 /// Reads a component by the first field's tag and under the first constraints, where lists state them.
 #[inline(always)]
-pub(crate) fn read_first<C: DecodeComponent, D: Decoder>(
+pub(crate) fn read_first<S: DecodeSide, C: DecodeComponent<S>, D: Decoder>(
     component: &C,
     fields: &[Field],
     constraints: &[&'static [Constraint<'static>]],
     decoder: &mut D,
 ) -> Result<C::Value, D::Error>
-    ensures { ReadsComponent D.rules (C.presence component.now)
+    ensures { ReadsAt S.side D.rules (tree_at S.side (tag_of C.Of.TAG) (map shape_of fields.now))
+        (C.presence component.now)
         (C.Of.schema (own_or C.Of.CONSTRAINTS (first_given constraints.now)) (D.rules.levels decoder.old)) C.slot
         decoder.old result decoder.new }
 {
@@ -261,14 +263,13 @@ impl<H> ByType for Optional<PhantomData<H>> {
     const VALUE: Optional<PhantomData<H>> = Optional(PhantomData);
 }
 
-impl EncodeCells for End {
+impl<S: EncodeSide> EncodeCells<S> for End {
     ghost parts = { λ p fs cs n. no_parts };
 
     ghost contents = { λ p. [] };
 
     ghost levels = { λ p. [] };
 
-    #[tactic(auto, unfolding(rasn_schema::specs::Normal::normal))]
     fn encode_cells<E: Encoder>(
         &self,
         _: &[Field],
@@ -284,8 +285,8 @@ impl EncodeCells for End {
     ghost within = { λ p n h. omega arith };
 }
 
-impl<C: EncodeComponent, N: EncodeCells> EncodeCells for Cell<C, N> {
-    ghost parts = { λ p fs cs n. part (first_tree (tagged C.Of.TAG) fs) (C.presence p.component)
+impl<S: EncodeSide, C: EncodeComponent<S>, N: EncodeCells<S>> EncodeCells<S> for Cell<C, N> {
+    ghost parts = { λ p fs cs n. part (tree_at S.side (tag_of C.Of.TAG) fs) (C.presence p.component)
         (C.Of.schema (own_or C.Of.CONSTRAINTS (first_given cs)) n) (N.parts p.next (behind fs) (behind cs) n) };
 
     ghost contents = { λ p. C.slot p.component ∷ N.contents p.next };
@@ -299,7 +300,7 @@ impl<C: EncodeComponent, N: EncodeCells> EncodeCells for Cell<C, N> {
         constraints: &[&'static [Constraint<'static>]],
         encoder: &mut E,
     ) -> Result<(), E::Error> {
-        write_first(&self.component, fields, constraints, encoder)?;
+        write_first::<S, C, E>(&self.component, fields, constraints, encoder)?;
         self.next
             .encode_cells(behind(fields), behind(constraints), encoder)
     }
@@ -309,7 +310,7 @@ impl<C: EncodeComponent, N: EncodeCells> EncodeCells for Cell<C, N> {
     ghost within = { λ p n h. both_within (C.within p.component n h.0) (N.within p.next n h.1) };
 }
 
-impl<'a, N: EncodeCells> EncodeCells for &'a N {
+impl<'a, S: EncodeSide, N: EncodeCells<S>> EncodeCells<S> for &'a N {
     ghost parts = { λ p. N.parts p.now };
 
     ghost contents = { λ p. N.contents p.now };
@@ -332,7 +333,7 @@ impl<'a, N: EncodeCells> EncodeCells for &'a N {
     ghost within = { λ p n h. N.within p.now n h };
 }
 
-impl<P: EncodeCells> EncodeParts for Listed<P> {
+impl<P: EncodeCells<Root>> EncodeParts for Listed<P> {
     ghost parts = { λ p. P.parts p.cells (map shape_of p.fields.now) p.constraints.now };
 
     ghost contents = { λ p. P.contents p.cells };
@@ -345,7 +346,7 @@ impl<P: EncodeCells> EncodeParts for Listed<P> {
     }
 }
 
-impl<T: Components, P: EncodeCells> EncodeParts for OfRecord<T, P> {
+impl<T: Components, P: EncodeCells<Root>> EncodeParts for OfRecord<T, P> {
     ghost parts = { λ p. P.parts p.cells T.COMPONENTS.before p.constraints.now };
 
     ghost contents = { λ p. P.contents p.cells };
@@ -358,7 +359,7 @@ impl<T: Components, P: EncodeCells> EncodeParts for OfRecord<T, P> {
     }
 }
 
-impl<T: Components, P: EncodeCells> EncodeEach for OfRecord<T, P> {
+impl<T: Components, P: EncodeCells<Root>> EncodeEach for OfRecord<T, P> {
     ghost each = { λ p. P.levels p.cells };
 
     ghost is_deepest = { λ p. refl };
@@ -368,7 +369,7 @@ impl<T: Components, P: EncodeCells> EncodeEach for OfRecord<T, P> {
     ghost within = { λ p n h. P.within p.cells n h };
 }
 
-impl DecodeCells for End {
+impl<S: DecodeSide> DecodeCells<S> for End {
     type Values = ();
 
     ghost parts = { λ p fs cs n. no_parts };
@@ -386,10 +387,10 @@ impl DecodeCells for End {
     }
 }
 
-impl<C: DecodeComponent, N: DecodeCells> DecodeCells for Cell<C, N> {
+impl<S: DecodeSide, C: DecodeComponent<S>, N: DecodeCells<S>> DecodeCells<S> for Cell<C, N> {
     type Values = (C::Value, N::Values);
 
-    ghost parts = { λ p fs cs n. part (first_tree (tagged C.Of.TAG) fs) (C.presence p.component)
+    ghost parts = { λ p fs cs n. part (tree_at S.side (tag_of C.Of.TAG) fs) (C.presence p.component)
         (C.Of.schema (own_or C.Of.CONSTRAINTS (first_given cs)) n) (N.parts p.next (behind fs) (behind cs) n) };
 
     ghost contents = { λ values. C.slot values.0 ∷ N.contents values.1 };
@@ -401,7 +402,7 @@ impl<C: DecodeComponent, N: DecodeCells> DecodeCells for Cell<C, N> {
         constraints: &[&'static [Constraint<'static>]],
         decoder: &mut D,
     ) -> Result<(C::Value, N::Values), D::Error> {
-        let value = read_first(&self.component, fields, constraints, decoder)?;
+        let value = read_first::<S, C, D>(&self.component, fields, constraints, decoder)?;
         let next = self
             .next
             .decode_cells(behind(fields), behind(constraints), decoder)?;
@@ -409,7 +410,7 @@ impl<C: DecodeComponent, N: DecodeCells> DecodeCells for Cell<C, N> {
     }
 }
 
-impl<'a, N: DecodeCells> DecodeCells for &'a N {
+impl<'a, S: DecodeSide, N: DecodeCells<S>> DecodeCells<S> for &'a N {
     type Values = N::Values;
 
     ghost parts = { λ p. N.parts p.now };
@@ -428,7 +429,7 @@ impl<'a, N: DecodeCells> DecodeCells for &'a N {
     }
 }
 
-impl<P: DecodeCells> DecodeParts for Listed<P> {
+impl<P: DecodeCells<Root>> DecodeParts for Listed<P> {
     type Values = P::Values;
 
     ghost parts = { λ p. P.parts p.cells (map shape_of p.fields.now) p.constraints.now };

@@ -1,21 +1,23 @@
-//! One component of a record: required, optional, or with a default.
+//! One component of a record, in its root or among its additions: required, optional, or with a default.
 
 ghost use Rattle.std.specs.Prelude.{◌≤◌, ℕ, Option, Some};
 ghost use Rattle.rasn_types.specs.Values.{Value};
+ghost use Rattle.rasn_schema.specs.Fields.{tagged};
 ghost use Rattle.rasn_schema.specs.Schemas.{Presence, required, optional};
-ghost use Rattle.rasn_traits.specs.Optionals.{ReadsComponent};
 ghost use Rattle.rasn_traits.specs.Presences.{slot_of};
-ghost use Rattle.rasn_record.specs.Slots.{IsComponent, WritesComponent, slot_asked, slot_levels, slot_within};
+ghost use Rattle.rasn_record.specs.Sides.{MayBeAt, ReadsAt, WritesAt, on_each};
+ghost use Rattle.rasn_record.specs.Slots.{slot_asked, slot_levels, slot_within};
 ghost use Rattle.rasn_record.specs.Lists.{Asked, at_least};
 
-use rasn_codec::codec::{Decode, Decoder, DecoderExt, Encode, Encoder, EncoderExt};
-use rasn_defaults::DefaultOf;
+use crate::sides::{DecodeSide, EncodeSide};
+use rasn_codec::codec::{Decode, Decoder, Encode, Encoder};
+use rasn_codec::defaults::DefaultOf;
 use rasn_schema::schema::{AsnType, Constraints};
 use rasn_types::types::Tag;
 use std::marker::PhantomData;
 
-/// A component of a record that is still to be written.
-pub trait EncodeComponent {
+/// A component of a record that is still to be written, on a side of the extension marker.
+pub trait EncodeComponent<S: EncodeSide> {
     /// The type of the component.
     type Of: AsnType;
 
@@ -38,18 +40,18 @@ pub trait EncodeComponent {
         tag: Tag,
         constraints: &Constraints,
     ) -> Result<(), E::Error>
-        ensures { WritesComponent E.rules (presence self.now) (Self.Of.schema constraints.now) (levels self.now)
+        ensures { WritesAt S.side E.rules (presence self.now) (Self.Of.schema constraints.now) (levels self.now)
             (slot self.now) encoder.old result encoder.new };
 
-    // It is no addition group.
-    ghost is_component: { (c : Self) → IsComponent (presence c) };
+    // In the root it is no addition group.
+    ghost is_component: { (c : Self) → MayBeAt S.side (presence c) };
 
     // That is enough.
     ghost within: { (c : Self) (n : ℕ) → (asked c).Of n → levels c ≤ n };
 }
 
-/// A component of a record that is still to be read.
-pub trait DecodeComponent {
+/// A component of a record that is still to be read, on a side of the extension marker.
+pub trait DecodeComponent<S: DecodeSide> {
     /// The type of the component.
     type Of: AsnType;
 
@@ -62,14 +64,14 @@ pub trait DecodeComponent {
     // What a value of it is.
     ghost slot: { Self.Value → Option Value };
 
-    /// Reads the component under a tag and constraints.
+    /// Reads the component under a tag and constraints. A required addition that isn't there is refused by its tag.
     fn decode_component<D: Decoder>(
         &self,
         decoder: &mut D,
         tag: Tag,
         constraints: &Constraints,
     ) -> Result<Self::Value, D::Error>
-        ensures { ReadsComponent D.rules (presence self.now)
+        ensures { ReadsAt S.side D.rules (tagged tag) (presence self.now)
             (Self.Of.schema constraints.now (D.rules.levels decoder.old)) slot decoder.old result decoder.new };
 }
 
@@ -87,7 +89,7 @@ pub struct Default<V, K> {
 }
 
 /// A required component is a reference to it.
-impl<'a, H: Encode> EncodeComponent for &'a H {
+impl<'a, S: EncodeSide, H: Encode> EncodeComponent<S> for &'a H {
     type Of = H;
 
     ghost presence = { λ c. required };
@@ -104,17 +106,17 @@ impl<'a, H: Encode> EncodeComponent for &'a H {
         constraints: &Constraints,
     ) -> Result<(), E::Error> {
         let value: &H = *self;
-        value.encode_with_tag_and_constraints(encoder, tag, constraints, H::IDENTIFIER)
+        S::encode_required(encoder, tag, constraints, value)
     }
 
-    ghost is_component = { λ c. tt };
+    ghost is_component = { λ c. on_each S.side required tt };
 
     ghost asked = { λ c. at_least (H.levels c.now) };
 
     ghost within = { λ c n h. h };
 }
 
-impl<'a, H: Encode> EncodeComponent for Optional<&'a Option<H>> {
+impl<'a, S: EncodeSide, H: Encode> EncodeComponent<S> for Optional<&'a Option<H>> {
     type Of = H;
 
     ghost presence = { λ c. optional };
@@ -130,25 +132,17 @@ impl<'a, H: Encode> EncodeComponent for Optional<&'a Option<H>> {
         tag: Tag,
         constraints: &Constraints,
     ) -> Result<(), E::Error> {
-        match self.0 {
-            Some(value) => encoder.encode_some_with_tag_and_constraints(
-                tag,
-                constraints,
-                value,
-                H::IDENTIFIER,
-            ),
-            None => encoder.encode_none_with_tag(tag, H::IDENTIFIER),
-        }
+        S::encode_optional(encoder, tag, constraints, self.0)
     }
 
-    ghost is_component = { λ c. tt };
+    ghost is_component = { λ c. on_each S.side optional tt };
 
     ghost asked = { λ c. slot_asked H.levels c.0.now };
 
     ghost within = { λ c. slot_within H.levels c.0.now };
 }
 
-impl<'a, H: Encode, K: DefaultOf<H>> EncodeComponent for Default<&'a H, K> {
+impl<'a, S: EncodeSide, H: Encode, K: DefaultOf<H>> EncodeComponent<S> for Default<&'a H, K> {
     type Of = H;
 
     ghost presence = { λ c. Presence.default (K.default c.default) };
@@ -164,13 +158,10 @@ impl<'a, H: Encode, K: DefaultOf<H>> EncodeComponent for Default<&'a H, K> {
         tag: Tag,
         constraints: &Constraints,
     ) -> Result<(), E::Error> {
-        if self.default.stands_for(self.value, constraints) {
-            return encoder.set_presence(false);
-        }
-        encoder.encode_some_with_tag_and_constraints(tag, constraints, self.value, H::IDENTIFIER)
+        S::encode_default(encoder, tag, constraints, self.value, &self.default)
     }
 
-    ghost is_component = { λ c. tt };
+    ghost is_component = { λ c. on_each S.side (Presence.default (K.default c.default)) tt };
 
     ghost asked = { λ c. at_least (H.levels c.value.now) };
 
@@ -178,7 +169,7 @@ impl<'a, H: Encode, K: DefaultOf<H>> EncodeComponent for Default<&'a H, K> {
 }
 
 /// A required component is read by `PhantomData` of its type.
-impl<H: Decode> DecodeComponent for PhantomData<H> {
+impl<S: DecodeSide, H: Decode> DecodeComponent<S> for PhantomData<H> {
     type Of = H;
 
     type Value = H;
@@ -194,11 +185,11 @@ impl<H: Decode> DecodeComponent for PhantomData<H> {
         tag: Tag,
         constraints: &Constraints,
     ) -> Result<H, D::Error> {
-        H::decode_with_tag_and_constraints(decoder, tag, constraints)
+        S::decode_required(decoder, tag, constraints)
     }
 }
 
-impl<H: Decode> DecodeComponent for Optional<PhantomData<Option<H>>> {
+impl<S: DecodeSide, H: Decode> DecodeComponent<S> for Optional<PhantomData<Option<H>>> {
     type Of = H;
 
     type Value = Option<H>;
@@ -214,11 +205,11 @@ impl<H: Decode> DecodeComponent for Optional<PhantomData<Option<H>>> {
         tag: Tag,
         constraints: &Constraints,
     ) -> Result<Option<H>, D::Error> {
-        decoder.decode_optional_with_tag_and_constraints(tag, constraints)
+        S::decode_optional(decoder, tag, constraints)
     }
 }
 
-impl<H: Decode, K: DefaultOf<H>> DecodeComponent for Default<PhantomData<H>, K> {
+impl<S: DecodeSide, H: Decode, K: DefaultOf<H>> DecodeComponent<S> for Default<PhantomData<H>, K> {
     type Of = H;
 
     type Value = H;
@@ -234,12 +225,6 @@ impl<H: Decode, K: DefaultOf<H>> DecodeComponent for Default<PhantomData<H>, K> 
         tag: Tag,
         constraints: &Constraints,
     ) -> Result<H, D::Error> {
-        if decoder.next_presence()? {
-            return H::decode_with_tag_and_constraints(decoder, tag, constraints);
-        }
-        match self.default.made(decoder.alloc()) {
-            Ok(value) => Ok(value),
-            Err(_) => Err(decoder.out_of_memory()),
-        }
+        S::decode_default(decoder, tag, constraints, &self.default)
     }
 }

@@ -11,6 +11,7 @@ use crate::bounds::Bounds;
 use crate::cells::{Cell, End, OfRecord, behind, read_first};
 use crate::components::{DecodeComponent, EncodeComponent};
 use crate::fields::root;
+use crate::sides::Root;
 use crate::write;
 use rasn_codec::codec::{Decoder, Encoder};
 use rasn_schema::components::Components;
@@ -18,7 +19,7 @@ use std::marker::PhantomData;
 
 /// Writes all components of a record: one. Its tag is that of the record's own field.
 #[inline(always)]
-pub fn one_to_write<T: Components, A: EncodeComponent + Drop, X: Encoder>(
+pub fn one_to_write<T: Components, A: EncodeComponent<Root> + Drop, X: Encoder>(
     of: &T,
     a: A,
     bounds: Bounds,
@@ -50,7 +51,7 @@ pub fn one_to_write<T: Components, A: EncodeComponent + Drop, X: Encoder>(
 pub fn one_to_read<T, A, X>(a: A, bounds: Bounds, decoder: &mut X) -> Result<A::Value, X::Error>
 where
     T: Components,
-    A: DecodeComponent + Drop,
+    A: DecodeComponent<Root> + Drop,
     X: Decoder,
     requires components { (n : ℕ) → root_parts T.components.0 n ≡ kept_parts (
         kept A.Of.TAG (A.presence a) A.Of.CONSTRAINTS A.Of.schema ∷ [])
@@ -61,7 +62,7 @@ where
 {
     let fields = root::<T>();
     let limits = bounds.lists.root;
-    let first = read_first(&a, fields, limits, decoder)?;
+    let first = read_first::<Root, _, _>(&a, fields, limits, decoder)?;
     Ok(first)
 }
 
@@ -69,8 +70,8 @@ where
 #[inline(always)]
 pub fn two_to_write<
     T: Components,
-    A: EncodeComponent + Drop,
-    B: EncodeComponent + Drop,
+    A: EncodeComponent<Root> + Drop,
+    B: EncodeComponent<Root> + Drop,
     X: Encoder,
 >(of: &T, a: A, b: B, bounds: Bounds, encoder: &mut X) -> Result<(), X::Error>
     requires components { (n : ℕ) → root_parts T.components.0 n ≡ kept_parts (
@@ -109,8 +110,8 @@ pub fn two_to_read<T, A, B, X>(
 ) -> Result<(A::Value, B::Value), X::Error>
 where
     T: Components,
-    A: DecodeComponent + Drop,
-    B: DecodeComponent + Drop,
+    A: DecodeComponent<Root> + Drop,
+    B: DecodeComponent<Root> + Drop,
     X: Decoder,
     requires components { (n : ℕ) → root_parts T.components.0 n ≡ kept_parts (
         kept A.Of.TAG (A.presence a) A.Of.CONSTRAINTS A.Of.schema ∷
@@ -122,10 +123,10 @@ where
 {
     let fields = root::<T>();
     let limits = bounds.lists.root;
-    let first = read_first(&a, fields, limits, decoder)?;
+    let first = read_first::<Root, _, _>(&a, fields, limits, decoder)?;
     let fields_2 = behind(fields);
     let limits_2 = behind(limits);
-    let second = read_first(&b, fields_2, limits_2, decoder)?;
+    let second = read_first::<Root, _, _>(&b, fields_2, limits_2, decoder)?;
     Ok((first, second))
 }
 
@@ -133,9 +134,9 @@ where
 #[inline(always)]
 pub fn three_to_write<
     T: Components,
-    A: EncodeComponent + Drop,
-    B: EncodeComponent + Drop,
-    C: EncodeComponent + Drop,
+    A: EncodeComponent<Root> + Drop,
+    B: EncodeComponent<Root> + Drop,
+    C: EncodeComponent<Root> + Drop,
     X: Encoder,
 >(of: &T, a: A, b: B, c: C, bounds: Bounds, encoder: &mut X) -> Result<(), X::Error>
     requires components { (n : ℕ) → root_parts T.components.0 n ≡ kept_parts (
@@ -179,9 +180,9 @@ pub fn three_to_read<T, A, B, C, X>(
 ) -> Result<(A::Value, B::Value, C::Value), X::Error>
 where
     T: Components,
-    A: DecodeComponent + Drop,
-    B: DecodeComponent + Drop,
-    C: DecodeComponent + Drop,
+    A: DecodeComponent<Root> + Drop,
+    B: DecodeComponent<Root> + Drop,
+    C: DecodeComponent<Root> + Drop,
     X: Decoder,
     requires components { (n : ℕ) → root_parts T.components.0 n ≡ kept_parts (
         kept A.Of.TAG (A.presence a) A.Of.CONSTRAINTS A.Of.schema ∷
@@ -194,13 +195,13 @@ where
 {
     let fields = root::<T>();
     let limits = bounds.lists.root;
-    let first = read_first(&a, fields, limits, decoder)?;
+    let first = read_first::<Root, _, _>(&a, fields, limits, decoder)?;
     let fields_2 = behind(fields);
     let limits_2 = behind(limits);
-    let second = read_first(&b, fields_2, limits_2, decoder)?;
+    let second = read_first::<Root, _, _>(&b, fields_2, limits_2, decoder)?;
     let fields_3 = behind(fields_2);
     let limits_3 = behind(limits_2);
-    let third = read_first(&c, fields_3, limits_3, decoder)?;
+    let third = read_first::<Root, _, _>(&c, fields_3, limits_3, decoder)?;
     Ok((first, second, third))
 }
 
@@ -208,10 +209,10 @@ where
 #[inline(always)]
 pub fn four_to_write<
     T: Components,
-    A: EncodeComponent + Drop,
-    B: EncodeComponent + Drop,
-    C: EncodeComponent + Drop,
-    D: EncodeComponent + Drop,
+    A: EncodeComponent<Root> + Drop,
+    B: EncodeComponent<Root> + Drop,
+    C: EncodeComponent<Root> + Drop,
+    D: EncodeComponent<Root> + Drop,
     X: Encoder,
 >(of: &T, a: A, b: B, c: C, d: D, bounds: Bounds, encoder: &mut X) -> Result<(), X::Error>
     requires components { (n : ℕ) → root_parts T.components.0 n ≡ kept_parts (
@@ -260,10 +261,10 @@ pub fn four_to_read<T, A, B, C, D, X>(
 ) -> Result<(A::Value, B::Value, C::Value, D::Value), X::Error>
 where
     T: Components,
-    A: DecodeComponent + Drop,
-    B: DecodeComponent + Drop,
-    C: DecodeComponent + Drop,
-    D: DecodeComponent + Drop,
+    A: DecodeComponent<Root> + Drop,
+    B: DecodeComponent<Root> + Drop,
+    C: DecodeComponent<Root> + Drop,
+    D: DecodeComponent<Root> + Drop,
     X: Decoder,
     requires components { (n : ℕ) → root_parts T.components.0 n ≡ kept_parts (
         kept A.Of.TAG (A.presence a) A.Of.CONSTRAINTS A.Of.schema ∷
@@ -277,15 +278,15 @@ where
 {
     let fields = root::<T>();
     let limits = bounds.lists.root;
-    let first = read_first(&a, fields, limits, decoder)?;
+    let first = read_first::<Root, _, _>(&a, fields, limits, decoder)?;
     let fields_2 = behind(fields);
     let limits_2 = behind(limits);
-    let second = read_first(&b, fields_2, limits_2, decoder)?;
+    let second = read_first::<Root, _, _>(&b, fields_2, limits_2, decoder)?;
     let fields_3 = behind(fields_2);
     let limits_3 = behind(limits_2);
-    let third = read_first(&c, fields_3, limits_3, decoder)?;
+    let third = read_first::<Root, _, _>(&c, fields_3, limits_3, decoder)?;
     let fields_4 = behind(fields_3);
     let limits_4 = behind(limits_3);
-    let fourth = read_first(&d, fields_4, limits_4, decoder)?;
+    let fourth = read_first::<Root, _, _>(&d, fields_4, limits_4, decoder)?;
     Ok((first, second, third, fourth))
 }

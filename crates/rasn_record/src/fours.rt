@@ -12,6 +12,7 @@ ghost use Rattle.rasn_record.specs.Lists.{behind, both_asked, both_within, first
 
 use crate::cells::{ByType, DecodeCells, EncodeCells, behind, read_first, write_first};
 use crate::components::{DecodeComponent, EncodeComponent};
+use crate::sides::Root;
 use rasn_codec::codec::{Decoder, Encoder};
 use rasn_schema::constraints::Constraint;
 use rasn_schema::fields::Field;
@@ -41,13 +42,13 @@ impl<A: ByType, B: ByType, C: ByType, D: ByType, N: ByType> ByType for FourCells
     };
 }
 
-impl<A, B, C, D, N> EncodeCells for FourCells<A, B, C, D, N>
+impl<A, B, C, D, N> EncodeCells<Root> for FourCells<A, B, C, D, N>
 where
-    A: EncodeComponent,
-    B: EncodeComponent,
-    C: EncodeComponent,
-    D: EncodeComponent,
-    N: EncodeCells,
+    A: EncodeComponent<Root>,
+    B: EncodeComponent<Root>,
+    C: EncodeComponent<Root>,
+    D: EncodeComponent<Root>,
+    N: EncodeCells<Root>,
 {
     ghost parts = { λ p fs cs n.
         part (first_tree (tagged A.Of.TAG) fs) (A.presence p.first)
@@ -72,16 +73,16 @@ where
         constraints: &[&'static [Constraint<'static>]],
         encoder: &mut E,
     ) -> Result<(), E::Error> {
-        write_first(&self.first, fields, constraints, encoder)?;
+        write_first::<Root, _, _>(&self.first, fields, constraints, encoder)?;
         let fields_2 = behind(fields);
         let constraints_2 = behind(constraints);
-        write_first(&self.second, fields_2, constraints_2, encoder)?;
+        write_first::<Root, _, _>(&self.second, fields_2, constraints_2, encoder)?;
         let fields_3 = behind(fields_2);
         let constraints_3 = behind(constraints_2);
-        write_first(&self.third, fields_3, constraints_3, encoder)?;
+        write_first::<Root, _, _>(&self.third, fields_3, constraints_3, encoder)?;
         let fields_4 = behind(fields_3);
         let constraints_4 = behind(constraints_3);
-        write_first(&self.fourth, fields_4, constraints_4, encoder)?;
+        write_first::<Root, _, _>(&self.fourth, fields_4, constraints_4, encoder)?;
         let fields_5 = behind(fields_4);
         let constraints_5 = behind(constraints_4);
         self.next.encode_cells(fields_5, constraints_5, encoder)
@@ -95,13 +96,13 @@ where
         (N.within p.next n h.1.1.1.1)))) };
 }
 
-impl<A, B, C, D, N> DecodeCells for FourCells<A, B, C, D, N>
+impl<A, B, C, D, N> DecodeCells<Root> for FourCells<A, B, C, D, N>
 where
-    A: DecodeComponent,
-    B: DecodeComponent,
-    C: DecodeComponent,
-    D: DecodeComponent,
-    N: DecodeCells,
+    A: DecodeComponent<Root>,
+    B: DecodeComponent<Root>,
+    C: DecodeComponent<Root>,
+    D: DecodeComponent<Root>,
+    N: DecodeCells<Root>,
 {
     type Values = (A::Value, B::Value, C::Value, D::Value, N::Values);
 
@@ -125,16 +126,16 @@ where
         constraints: &[&'static [Constraint<'static>]],
         decoder: &mut R,
     ) -> Result<(A::Value, B::Value, C::Value, D::Value, N::Values), R::Error> {
-        let a = read_first(&self.first, fields, constraints, decoder)?;
+        let a = read_first::<Root, _, _>(&self.first, fields, constraints, decoder)?;
         let fields_2 = behind(fields);
         let constraints_2 = behind(constraints);
-        let b = read_first(&self.second, fields_2, constraints_2, decoder)?;
+        let b = read_first::<Root, _, _>(&self.second, fields_2, constraints_2, decoder)?;
         let fields_3 = behind(fields_2);
         let constraints_3 = behind(constraints_2);
-        let c = read_first(&self.third, fields_3, constraints_3, decoder)?;
+        let c = read_first::<Root, _, _>(&self.third, fields_3, constraints_3, decoder)?;
         let fields_4 = behind(fields_3);
         let constraints_4 = behind(constraints_3);
-        let d = read_first(&self.fourth, fields_4, constraints_4, decoder)?;
+        let d = read_first::<Root, _, _>(&self.fourth, fields_4, constraints_4, decoder)?;
         let fields_5 = behind(fields_4);
         let constraints_5 = behind(constraints_4);
         let rest = self.next.decode_cells(fields_5, constraints_5, decoder)?;

@@ -11,5 +11,6 @@ pub mod few;
 pub mod fields;
 pub mod fours;
 pub mod read;
+pub mod sides;
 pub mod sixteen;
 pub mod write;

@@ -11,6 +11,7 @@ ghost use Rattle.rasn_record.specs.Lists.{ArePlain, first_given};
 use crate::bounds::Bounds;
 use crate::cells::{DecodeCells, Listed};
 use crate::fields::root;
+use crate::sides::Root;
 use rasn_codec::codec::Decoder;
 use rasn_schema::components::Components;
 use rasn_schema::constraints::Constraint;
@@ -61,7 +62,7 @@ pub fn cells_and_additions<P: DecodeParts, Q: DecodeAdditions, D: Decoder>(
 /// Reads all components of a record in turn, by the record's own fields and the constraints of a list, and then its
 /// additions.
 #[inline(always)]
-pub fn all<T: Components, P: DecodeCells, Q: DecodeAdditions, D: Decoder>(
+pub fn all<T: Components, P: DecodeCells<Root>, Q: DecodeAdditions, D: Decoder>(
     cells: &P,
     constraints: &'static [&'static [Constraint<'static>]],
     additions: &Q,
@@ -84,7 +85,7 @@ pub fn all<T: Components, P: DecodeCells, Q: DecodeAdditions, D: Decoder>(
 /// Reads all components of a record without additions in turn, by the record's own fields and the constraints of a
 /// list. It takes no references beside the decoder, each of which costs a page's check.
 #[inline(always)]
-pub fn plain<T: Components, P: DecodeCells + Drop, D: Decoder>(
+pub fn plain<T: Components, P: DecodeCells<Root> + Drop, D: Decoder>(
     cells: P,
     bounds: Bounds,
     decoder: &mut D,

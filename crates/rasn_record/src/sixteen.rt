@@ -11,6 +11,7 @@ ghost use Rattle.rasn_record.specs.RequiredComponents.{typed, typed_parts};
 use crate::bounds::Bounds;
 use crate::cells::{DecodeCells, EncodeCells, GivesBounds, OfRecord};
 use crate::fours::FourCells;
+use crate::sides::Root;
 use crate::{read, write};
 use rasn_codec::codec::{Decode, Decoder, Encode, Encoder};
 use rasn_schema::components::Components;
@@ -58,7 +59,7 @@ where
     N: Encode,
     O: Encode,
     P: Encode,
-    R: EncodeCells,
+    R: EncodeCells<Root>,
     S: GivesBounds,
     X: Encoder,
     requires components { (n : ℕ) → root_parts T.components.0 n ≡ typed_parts (
@@ -142,7 +143,7 @@ where
     N: Decode,
     O: Decode,
     P: Decode,
-    R: DecodeCells + Drop,
+    R: DecodeCells<Root> + Drop,
     X: Decoder,
     requires components { (n : ℕ) → root_parts T.components.0 n ≡ typed_parts (
         typed A.TAG A.CONSTRAINTS A.schema ∷ typed B.TAG B.CONSTRAINTS B.schema ∷ typed C.TAG C.CONSTRAINTS C.schema ∷

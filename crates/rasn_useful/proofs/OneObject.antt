@@ -7,7 +7,7 @@ use Rattle.rasn_types.specs.Identifiers.{are_arcs, contents}
 use Rattle.rasn_types.specs.Values.{Value, octets, same, code}
 use Rattle.rasn_types.proofs.ContentsRead.{is_identifier-contents, one_contents}
 use Rattle.rasn_traits.specs.Moments.{identifier_value}
-use Rattle.rasn_defaults.proofs.SameValues.{code_decides}
+use Rattle.rasn_codec.proofs.SameValues.{code_decides}
 
 no_contents : (arcs : List ℕ) → are_arcs arcs ≡ false → contents arcs ≡ []
 unfolding contents

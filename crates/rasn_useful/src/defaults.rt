@@ -6,7 +6,7 @@ ghost use Rattle.rasn_types.specs.Values.{same};
 ghost use Rattle.rasn_traits.specs.Moments.{identifier_value};
 
 use crate::object_identifier::ObjectIdentifier;
-use rasn_defaults::DefaultOf;
+use rasn_codec::defaults::DefaultOf;
 use rasn_schema::schema::Constraints;
 use std::alloc::{AllocError, Global};
 

@@ -1,9 +1,9 @@
 //! The calls of a decoder that knows where it was when it refused, for types that are data.
 
 use crate::decoder::{Located, Positioned};
-use crate::path::Step;
-use crate::trail::{Frame, RecordFrame};
-use crate::turns::place_among;
+use per_ways::Step;
+use per_ways::trail::{Frame, RecordFrame};
+use per_ways::turns::place_among;
 use rasn_schema::items::{ItemCounts, Place};
 use rasn_traits::counted::CountedDecoder;
 use rasn_types::types::Tag;

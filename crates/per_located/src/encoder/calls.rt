@@ -1,9 +1,9 @@
 //! The calls of an encoder that knows at which component it refused.
 
 use crate::encoder::{Located, NO_BITS};
-use crate::extents::OpenAhead;
-use crate::trail::{Frame, RecordFrame};
-use crate::turns::{Alternatives, Elements, place_among, step_to};
+use per_ways::extents::OpenAhead;
+use per_ways::trail::{Frame, RecordFrame};
+use per_ways::turns::{Alternatives, Elements, place_among, step_among};
 use rasn_schema::choices::Choice;
 use rasn_schema::enumerated::Enumerated;
 use rasn_schema::fields::{AdditionGroup, Constructed};
@@ -337,7 +337,11 @@ impl<E: Encoder + Drop> Encoder for Located<E> {
         identifier: Identifier,
     ) -> Result<E::Alternative, E::Error> {
         let answer = self.inner.open_choice::<C>(tag, identifier);
-        self.opened(tag, answer, Frame::Choice(Alternatives::new::<C>()))
+        self.opened(
+            tag,
+            answer,
+            Frame::Choice(Alternatives::new::<C>(C::IDENTIFIERS)),
+        )
     }
 
     fn close_choice<C: Choice>(
@@ -357,7 +361,8 @@ impl<E: Encoder + Drop> Encoder for Located<E> {
         identifier: Identifier,
     ) -> Result<E::Alternative, E::Error> {
         let answer = self.inner.open_alternative::<C>(tag, place, identifier);
-        let step = step_to::<C>(Some(place_among(alternative_counts::<C>(), place)));
+        let among = place_among(alternative_counts::<C>(), place);
+        let step = step_among(C::IDENTIFIERS, Some(among));
         self.opened(tag, answer, Frame::Alternative(step, None))
     }
 
@@ -377,12 +382,9 @@ impl<E: Encoder + Drop> Encoder for Located<E> {
     }
 
     fn set_presence(&mut self, is_there: bool) -> Result<(), E::Error> {
-        self.trail.pause();
-        if !is_there {
-            self.trail.skip();
-        }
         let answer = self.inner.set_presence(is_there);
-        self.seen(answer)
+        self.trail.told_of(is_there, answer.is_ok(), NO_BITS);
+        answer
     }
 
     fn skip_addition(&mut self) -> Result<(), E::Error> {

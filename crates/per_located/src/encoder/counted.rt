@@ -1,9 +1,9 @@
 //! The calls of an encoder that knows at which component it refused, for types that are data.
 
 use crate::encoder::Located;
-use crate::path::Step;
-use crate::trail::{Frame, RecordFrame};
-use crate::turns::place_among;
+use per_ways::Step;
+use per_ways::trail::{Frame, RecordFrame};
+use per_ways::turns::place_among;
 use rasn_schema::items::{ItemCounts, Place};
 use rasn_traits::counted::CountedEncoder;
 use rasn_types::types::{Identifier, Tag};

@@ -7,12 +7,12 @@ use Rattle.per_bits.proofs.Readers.{bits_are, filled_by, padded_by, room_by}
 use Rattle.per_bits.proofs.BitList.push_reader.Goals as goal
 
 pub invariant_of-self-2 : goal.invariant_of-self-2
-invariant_of-self-2 g c = room_by c.append_reader-self-inside.ensures
+invariant_of-self-2 g c = room_by c.append_reader.ensures
 
 pub returns-clause-ok : goal.returns-clause-ok
 returns-clause-ok g c =
     let same = bits_are (rw c.unwrap.ensures at c.clone.ensures.cases) in
-    filled_by c.append_reader-self-inside.ensures
+    filled_by c.append_reader.ensures
     ∙ ap₂ (λ bs cs. bs ++ cs) (filled_by c.cut_back-spare.ensures.bits ∙ ap (λ os. filled c.self.inside.spare os) c.reserve.ensures.items ∙ c.self.view_is) same
 
 pub returns-then-width-from-clause-ok : goal.returns-then-width-from-clause-ok
@@ -22,5 +22,5 @@ returns-then-width-from-clause-ok g c =
     let same = ap₂ to_bits c.len-width.ensures all ∙ to_bits-number bits in
     rw same at c.push_bits.ensures.ok
 
-pub append_reader-self-inside-requires-clause-padded : goal.append_reader-self-inside-requires-clause-padded
-append_reader-self-inside-requires-clause-padded g c = padded_by c.cut_back-spare.ensures.bits
+pub append_reader-requires-clause-padded : goal.append_reader-requires-clause-padded
+append_reader-requires-clause-padded g c = padded_by c.cut_back-spare.ensures.bits

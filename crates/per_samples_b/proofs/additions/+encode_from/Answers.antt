@@ -7,19 +7,19 @@ use Rattle.rasn_below.proofs.Writing.{addition_normal, addition_refused, additio
 use Rattle.per_samples_b.proofs.Truths.{takes_no_level}
 use Rattle.per_samples_b.proofs.additions.+encode_from.Goals as goal
 
-pub returns-in_err-encode_addition-in-Some : goal.returns-in_err-encode_addition-in-Some
-returns-in_err-encode_addition-in-Some g t c =
+pub returns-in_err-encode_component-in-Some : goal.returns-in_err-encode_component-in-Some
+returns-in_err-encode_component-in-Some g t c =
     let p = err_from_is_err_and c.from_residual.result c.from_residual.ensures.1 in
-    let w = c.in_err-encode_addition-in-Some.ensures.law in
+    let w = c.in_err-encode_component-in-Some.ensures.law in
     record {
-      law = rw (p.1, p.2, c.in-Some.ensures.cases.0) (record { at = λ n le. rw (addition_normal _ _ _ _ _ _) (addition_refused g.E.Encoder.rules _ _ _ _ _ c.encode_addition.new.encoder _ _ _ (w.at n (takes_no_level _ n))) });
+      law = rw (p.1, p.2, c.in-Some.ensures.cases.0) (record { at = λ n le. rw (addition_normal _ _ _ _ _ _) (addition_refused g.E.Encoder.rules _ _ _ _ _ c.encode_component.new.encoder _ _ _ (w.at n (takes_no_level _ n))) });
       fails = search rules;
       kept = search rules;
     }
 
-pub returns-in_ok-encode_addition-in-Some : goal.returns-in_ok-encode_addition-in-Some
-returns-in_ok-encode_addition-in-Some g t c =
-    let w = c.in_ok-encode_addition-in-Some.ensures.law in
+pub returns-in_ok-encode_component-in-Some : goal.returns-in_ok-encode_component-in-Some
+returns-in_ok-encode_component-in-Some g t c =
+    let w = c.in_ok-encode_component-in-Some.ensures.law in
     let next : c.args.place + 1 ≡ suc c.args.place = omega arith in
     let v = rw next at c.encode_from.ensures.law in
     record {

@@ -1,6 +1,5 @@
-use Rattle.std.proofs.Common.{rules}
-use Rattle.rasn_traits.specs.Scopes.{reads_end}
+use Rattle.rasn_record.proofs.FirstOnSide.{ends_read}
 use Rattle.rasn_record.proofs.cells.EndDecodeCells.decode_cells.Goals as goal
 
 pub returns : goal.returns
-returns g c = record { law = reads_end; fails = search rules; kept = search rules }
+returns g c = ends_read g.S.DecodeSide.side _ _

@@ -1,0 +1,2 @@
+-- The lemmas that proofs of the crate share.
+pub mod FieldPlaces

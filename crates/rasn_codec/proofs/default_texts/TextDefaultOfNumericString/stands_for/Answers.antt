@@ -1,0 +1,9 @@
+use Rattle.rasn_types.specs.Alphabets.{has, numeric}
+use Rattle.rasn_schema.specs.Normal.{normal}
+use Rattle.rasn_codec.specs.AtDefault.{kept}
+use Rattle.rasn_codec.proofs.SameValues.{same_characters}
+use Rattle.rasn_codec.proofs.default_texts.TextDefaultOfNumericString.stands_for.Goals as goal
+
+pub returns : goal.returns
+unfolding normal
+returns g c = record { at = λ n le. rw (c.eq.ensures, c.as_bytes.ensures.characters, c.own.ensures) (same_characters (kept (has numeric) c.args.self.now.0) c.args.component.now) }

@@ -1,3 +1,0 @@
-pub mod SameValues
-pub mod TestedCharacters
-pub mod Named

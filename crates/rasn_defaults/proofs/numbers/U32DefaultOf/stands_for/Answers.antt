@@ -1,7 +1,0 @@
-use Rattle.rasn_schema.specs.Normal.{normal}
-use Rattle.rasn_defaults.proofs.SameValues.{same_number}
-use Rattle.rasn_defaults.proofs.numbers.U32DefaultOf.stands_for.Goals as goal
-
-pub returns : goal.returns
-unfolding normal
-returns c = record { at = λ n le. same_number c.args.self.now c.args.component.now }

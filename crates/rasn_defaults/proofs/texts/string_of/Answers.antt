@@ -1,5 +1,0 @@
-use Rattle.rasn_defaults.proofs.TestedCharacters.{kept_own}
-use Rattle.rasn_defaults.proofs.texts.string_of.Goals as goal
-
-pub push_octets-requires : goal.push_octets-requires
-push_octets-requires g c = rw c.own.ensures (kept_own g.S.StaticPermittedAlphabet.alphabet c.args.characters.now)
